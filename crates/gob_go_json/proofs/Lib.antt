@@ -1,4 +1,7 @@
 mod GapsLaws
 mod HoldingLaws
 mod LevelLaws
+mod NullsLaws
 mod OnceLaws
+mod PartOrder
+pub mod ShownLaws

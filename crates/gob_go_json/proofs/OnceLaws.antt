@@ -11,7 +11,7 @@ use Rattle.gob_json_writer.specs.NilsJson.{value_json_with, interface_json}
 use Rattle.gob_filled.specs.Filled.{Filled, Fillings}
 use Rattle.gob_go_json.specs.FilledJson.{FilledShows, filled_shows, FillingsShow, none_left, then_shown}
 
-same_nils : {M N : ℕ → Data} → ((n : ℕ) → M n ≡ N n) → M ≡ N
+pub same_nils : {M N : ℕ → Data} → ((n : ℕ) → M n ≡ N n) → M ≡ N
 same_nils h = λ i n. h n i
 
 compared : (m k : ℕ) → (m < k) ⊎ ((m ≡ k) ⊎ (k < m))

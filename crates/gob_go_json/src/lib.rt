@@ -6,7 +6,7 @@
 //! ```
 //!
 //! - [`write_filled`] tells a writer of JSON a value with its type.
-//! - [`laws`] has what the definitions in `specs/` entail: a value shows one JSON.
+//! - [`laws`] has what the definitions in `specs/` entail: each value of a stream shows one JSON.
 #![tactic(auto)]
 
 mod filled_json;

@@ -25,8 +25,8 @@ use Rattle.gob_go.specs.declared.filled.Definition.{Definition}
 use Rattle.gob_go.specs.declared.filled.Filled.{Filled, out-Filled}
 use Rattle.gob_go.specs.declared.filled.Filling.{Filling, out-Filling}
 use Rattle.gob_tool.specs.Line.{line}
-use Rattle.gob_go_tool.specs.LineGo.{definition_lines, filling_lines, inner_lines, IsLinesOf}
-use Rattle.gob_go_tool.specs.Machine.Lines.{LinesGiven}
+use Rattle.gob_go_tool.specs.LineGo.{definition_lines, filling_lines, inner_lines}
+use Rattle.gob_go_tool.specs.Machine.Lines.{LinesGiven, ShowsInLines}
 
 item_left : {X : Type 0} (xs : List X) (i : ℕ) (x : X) → x ≡ get_or xs i x → i < length xs
     → drop i xs ≡ x ∷ drop (i + 1) xs
@@ -126,6 +126,6 @@ pub definition_given : {old new : List ℕ} (T : Table) (o : Option GoItem) (id 
 definition_given {old = old} {new = new} T o id described e none made =
     subst (λ o. LinesGiven T o new) (sym e) (λ i m. by m)
   where
-    by : {i : FilledItem} → ItemMeans T (item.Define id described) i → IsLinesOf T i new
+    by : {i : FilledItem} → ItemMeans T (item.Define id described) i → ShowsInLines T i new
     by means_definition = made (view described)
         ∙ ap (λ (l : List ℕ). l ++ line T (defines id (view described))) none

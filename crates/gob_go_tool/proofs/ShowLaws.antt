@@ -1,37 +1,50 @@
 -- How a run that writes the lines of a stream goes on, and how it ends.
 use Rattle.std.proofs.Common.{◌≡◌, ℕ, ◌+◌, ◌-◌, ◌<◌, ◌≤◌, arith, List, [], ◌++◌, length, drop, Option, Some}
 use Rattle.std.proofs.Common.{Result, Ok, Err, ◌∙◌, ap, sym, subst, refl, append_assoc, append-nil, length-append}
-use Rattle.std.proofs.Common.{length-take, IfSome}
+use Rattle.std.proofs.Common.{length-take, IfSome, ◌∷◌, None}
 use Rattle.std.specs.Result.{IsErrAnd}
 use Rattle.std.specs.Io.KnownBytes.{Appends, Keeps}
 use Rattle.std.proofs.KnownBytes.{Appends-kept, Appends-nil, Appends-trans}
+use Rattle.serde_json.specs.Written.{compact_text}
 use Rattle.gob_types.specs.Base.{base_table}
+use Rattle.gob_types.specs.Defined.{types}
 use Rattle.gob_types.specs.Table.{Table}
-use Rattle.gob_stream.specs.Bounds.{Bounds, within_trees}
+use Rattle.gob_types.specs.declared.id.TypeId.{TypeId}
+use Rattle.gob_types.proofs.PublicLaws.{Keeps as KeepsTypes}
+use Rattle.gob_value.specs.Tree.{Tree}
+use Rattle.gob_stream.specs.Bounds.{Bounds, greatest_depth, within_trees}
 use Rattle.gob_stream.specs.Calls.Writing.{SentPrefix}
+use Rattle.gob_stream.specs.Item.{puts}
 use Rattle.gob_stream.specs.declared.fault.Fault.{Fault}
 use Rattle.gob_stream.specs.declared.fault.Fault.TheVariants as reading
+use Rattle.gob_stream.proofs.PublicLaws.{whole_item}
 use Rattle.gob_stream.proofs.Reader.StreamReaderLaws.{taken_known}
+use Rattle.gob_filled.specs.Filled.{filled, no_filling}
 use Rattle.gob_filled.specs.Outcome.{BeginsFilled}
-use Rattle.gob_filled.specs.Stream.{FilledItem, no_more}
+use Rattle.gob_filled.specs.OutcomeLaws.{unfilled_item}
+use Rattle.gob_filled.specs.Stream.{FilledItem, defining, putting, FilledStream, no_more}
 use Rattle.gob_go.specs.Calls.Reader.{EndsWith, GivesItems, gives_none, gives_one, HasReadFrom, Longest}
-use Rattle.gob_go.specs.Calls.Reader.{StepsOnFrom, Stops, StopsFrom, room_in, session_of, waits_in}
-use Rattle.gob_go.specs.Calls.Session.{IsBetweenItems, limits_of, taken_of, types_of}
+use Rattle.gob_go.specs.Calls.Reader.{PassesOne, StepsOnFrom, Stops, StopsFrom, room_in, session_of, waits_in}
+use Rattle.gob_go.specs.Calls.Session.{IsBetweenItems, limits_of, table_of, taken_of, types_of}
 use Rattle.gob_go.specs.declared.item.GoItem.{GoItem}
 use Rattle.gob_go.specs.declared.reader.GoReader.{GoReader}
 use Rattle.gob_go.specs.declared.session.GoStep.{GoStep}
 use Rattle.gob_go.proofs.GoReaderLaws.{table_between}
-use Rattle.gob_go.proofs.ItemsLaws.{longest}
-use Rattle.gob_go.proofs.UnderWayLaws.{no_item_yet}
+use Rattle.gob_go.proofs.ItemsLaws.{grown_keeps, longest}
+use Rattle.gob_go.proofs.UnderWayLaws.{no_item_yet, stage_grown}
+use Rattle.gob_go_json.proofs.ShownLaws.{shows_as_ever, spelled_unfilled, stream_shown}
 use Rattle.gob_tool.specs.Ending.{EndsRun, ends_so, flush_fails}
 use Rattle.gob_tool.specs.Fault.{reading_fault}
+use Rattle.gob_tool.specs.Line.{line}
 use Rattle.gob_tool.specs.Showing.{AppendsPrefix}
 use Rattle.gob_tool.specs.declared.fault.ToolFault.{ToolFault}
 use Rattle.gob_tool.specs.declared.fault.ToolFault.TheVariants as fault
 use Rattle.gob_tool.proofs.EndLaws.{all_kept, prefix_kept}
-use Rattle.gob_go_tool.specs.LineGo.{IsLinesOf}
-use Rattle.gob_go_tool.specs.Machine.Lines.{LinesGiven, MadeOf, made_of_none, made_of_one, MakesLines, MakesNext}
-use Rattle.gob_go_tool.specs.Machine.Lines.{ShowsNext, ShowsSo}
+use Rattle.gob_tool.proofs.LinesStay.{fits_there, line_stays}
+use Rattle.gob_tool.proofs.ShowRuns.{body_some}
+use Rattle.gob_go_tool.specs.LineGo.{AreLinesOfValue, IsLinesOf}
+use Rattle.gob_go_tool.specs.Machine.Lines.{IsWholeLine, LinesGiven, MadeOf, made_of_none, made_of_one, MakesLines}
+use Rattle.gob_go_tool.specs.Machine.Lines.{MakesNext, MakesWhole, ShowsInLines, ShowsNext, ShowsSo}
 use Rattle.gob_go_tool.specs.ShowingGo.{BeginsGo, EndsWholeGo, HaveLines, no_lines, lines_then, OfGoLines, RunGoAnswers}
 use Rattle.gob_go_tool.specs.ShowingGo.{ShowGoAnswers}
 use Rattle.gob_go_tool.proofs.CountLaws.{items_few, read_within}
@@ -191,24 +204,69 @@ shows_fall r before same h onward =
     omega (arith, h.gave.taken, onward, stream, bound)
 
 -- ---- the lines of a step
-made_so : {r : GoReader} {read now : Option (List ℕ)} {all more : List FilledItem} {o : Option GoItem} {made : List ℕ}
-    (h : HasReadFrom r read now all) → GivesItems (types_of (session_of r)) o more
+-- the last item of a stream shows something
+lines_shown : {L : Bounds} {T : Table} {bytes : List ℕ} (made : List ℕ) (items : List FilledItem) (i : FilledItem)
+    → FilledStream base_table L (items ++ i ∷ []) bytes T → ShowsInLines T i made → IsLinesOf T i made
+lines_shown made items (defining id v) s l = l
+lines_shown made items (putting id w) s l =
+    let shown = stream_shown items [] s in
+    record { value = shown.value; nils = shown.nils; shows = shown.shows; lines = l shown.value shown.nils shown.shows }
+
+made_so : {r : GoReader} {read now : Option (List ℕ)} {more : List FilledItem} {o : Option GoItem} {made : List ℕ}
+    (items : List FilledItem) (h : HasReadFrom r read now (items ++ more)) → GivesItems (types_of (session_of r)) o more
     → LinesGiven (types_of (session_of r)) o made → IfSome o (λ _. IsBetweenItems (session_of r))
     → MadeOf h.gave.table more made
-made_so h gives_none l between = subst (λ made. MadeOf h.gave.table [] made) (sym l) made_of_none
-made_so {made = made} h (gives_one {i = i} m) l between =
-    made_of_one (subst (λ (T : Table). IsLinesOf T i made) (sym (table_between h.gave between)) (l i m))
+made_so items h gives_none l between = subst (λ made. MadeOf h.gave.table [] made) (sym l) made_of_none
+made_so {made = made} items h (gives_one {i = i} m) l between =
+    made_of_one (lines_shown made items i h.gave.stream
+    (subst (λ (T : Table). ShowsInLines T i made) (sym (table_between h.gave between)) (l i m)))
 
 pub step_lines_made : {r r' : GoReader} {read now : Option (List ℕ)} {given : List FilledItem} {step : GoStep}
     {made : List ℕ} → 0 < step.used → StepsOnFrom r r' read now given step
     → LinesGiven (types_of (session_of r')) step.item made → IfSome step.item (λ _. IsBetweenItems (session_of r'))
     → MakesLines r r' read now given made
-step_lines_made some st l between = record {
+step_lines_made {given = given} some st l between = record {
   more = st.more;
   after = st.takes.after;
   onward = omega (arith, some, st.takes.onward);
-  made_of = made_so st.takes.after st.gives l between;
+  made_of = made_so given st.takes.after st.gives l between;
 }
+
+-- ---- the line of an item that waits as a whole
+pub whole_some : (r : GoReader) (made : List ℕ) (used : ℕ) (o : Option ℕ) → o ≡ Some used → MakesWhole r made (Ok o)
+    → IsWholeLine r used made
+whole_some r made used None e w = cc
+whole_some r made used (Some n) e w = let same : n ≡ used = cc in subst (λ n. IsWholeLine r n made) same w
+
+-- the line of an unfilled value is that of the format, also by the types of a larger table
+unfilled_line : {L : Bounds} {T U : Table} {bytes made : List ℕ} {id : TypeId} {v : Tree} (items : List FilledItem)
+    → FilledStream base_table L (items ++ putting id (filled v no_filling) ∷ []) bytes T → KeepsTypes T U
+    → made ≡ line U (puts id v) → AreLinesOfValue T id (filled v no_filling) made
+unfilled_line {T = T} {id = id} {v = v} items s k made =
+    let shown = stream_shown items [] s in
+    record {
+      value = shown.value;
+      nils = shown.nils;
+      shows = shown.shows;
+      lines = made ∙ line_stays k (fits_there (spelled_unfilled shown.shows).1)
+          ∙ sym (ap (λ d. compact_text d ++ 10 ∷ []) (shows_as_ever shown.shows).1);
+    }
+
+pub whole_line_made : {r r' : GoReader} {read now : Option (List ℕ)} {given : List FilledItem} {made : List ℕ}
+    {used : ℕ} → (w : IsWholeLine r used made) → table_of (session_of r') ≡ table_of (session_of r)
+    → PassesOne r r' used → HasReadFrom r read now given → MakesLines r r' read now given made
+whole_line_made {r = r} {r' = r'} {read = read} {now = now} {given = given} {made = made} {used = used} w same p h =
+    let i = puts w.id w.whole.value in
+    let t = p read now given i h (whole_item greatest_depth w.depth_is w.next w.whole) in
+    let some = body_some w.next in
+    let a = t.after.gave in
+    record {
+      more = unfilled_item i ∷ [];
+      after = t.after;
+      onward = omega (arith, t.onward, some);
+      made_of = made_of_one (unfilled_line given a.stream (grown_keeps (stage_grown a.stage))
+          (w.made_of ∙ ap (λ d. line (types d) i) (sym same)));
+    }
 
 -- ---- at the error that a `?` returns
 pub makes_at : (r r' : GoReader) (T : Table) (read now : Option (List ℕ)) (given : List FilledItem) (made : List ℕ)

@@ -34,8 +34,15 @@ abbrev mutual
 abbrev pub value_line : Table → TypeId → Tree → (ℕ → Data) → List ℕ
 value_line T id v N = compact_text (put_json_with N T id v) ++ 10 ∷ []
 
+-- the text is the lines of a value, behind which the types are those of the table: it shows this tree, and its nils
+-- these. Each value of a stream shows some, and no others: `values_show` and `values_show_once` of gob_go_json.
+pub record AreLinesOfValue (T : Table) (id : TypeId) (w : Filled) (text : List ℕ) : Type 0 where
+  pub value : Tree
+  pub nils : ℕ → Data
+  pub shows : FilledShows T id w value nils
+  pub lines : text ≡ inner_lines T w ++ value_line T id value nils
+
 -- the text is the lines of the item, where the types behind it are those of the table
 abbrev pub IsLinesOf : Table → FilledItem → List ℕ → Type 0
 IsLinesOf T (defining id v) text = text ≡ line T (defines id v)
-IsLinesOf T (putting id w) text = (v : Tree) (N : ℕ → Data) → FilledShows T id w v N
-    → text ≡ inner_lines T w ++ value_line T id v N
+IsLinesOf T (putting id w) text = AreLinesOfValue T id w text

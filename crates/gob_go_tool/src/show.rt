@@ -1,8 +1,8 @@
 //! The run that prints a stream of Go's encoder.
 
-ghost use Rattle.std.specs.Prelude.{◌≡◌, ◌≢◌, ℕ, ◌<◌, List, [], length, Option, Some, IfErr};
+ghost use Rattle.std.specs.Prelude.{◌≡◌, ◌≢◌, ℕ, ◌<◌, List, [], length, Option, Some, IfErr, min};
 ghost use Rattle.std.specs.Io.KnownBytes.{Keeps};
-ghost use Rattle.gob_stream.specs.Bounds.{within_trees};
+ghost use Rattle.gob_stream.specs.Bounds.{greatest_depth, within_trees};
 ghost use Rattle.gob_stream.specs.Calls.Ends.{failed_reads, failed_writes, reader_of, writer_of};
 ghost use Rattle.gob_stream.specs.Calls.Writing.{CountsWriterFaults};
 ghost use Rattle.gob_filled.specs.Stream.{FilledItem};
@@ -11,10 +11,12 @@ ghost use Rattle.gob_go.specs.Calls.Reader.{HasReadFrom, session_of, waits_in};
 ghost use Rattle.gob_tool.specs.Ending.{CountsOnlyWrites};
 ghost use Rattle.gob_tool.specs.Showing.{CountsReadFaults, CountsWriteFaults, IsFlushedSince};
 ghost use Rattle.gob_go_tool.specs.ShowingGo.{ShowGoAnswers};
-ghost use Rattle.gob_go_tool.specs.Machine.Lines.{MakesNext, ShowsNext};
+ghost use Rattle.gob_go_tool.specs.Machine.Lines.{MakesNext, MakesWhole, ShowsNext};
 
 use crate::item_lines::given_lines;
 use gob_go::GoReader;
+use gob_json::line_of_whole;
+use gob_num::Memory;
 use gob_stream::{Fault, Input, Limits, Output, WriteFault};
 use gob_tool::{ToolFault, end_run};
 use std::alloc::Global;
@@ -111,8 +113,40 @@ fn next_lines(alloc: Global, reader: &mut GoReader, lines: &mut Vec<u8>) -> Resu
     ensures unread { IfErr result (λ fault. fault ≢ Fault.Read) }
     ensures limits { limits_of (session_of reader.new) ≡ limits_of (session_of reader.old) }
 {
+    if let Some(used) = whole_line(alloc, reader, lines)? {
+        reader.pass(used);
+        return Ok(());
+    }
     let step = reader.step(alloc)?;
     let made = given_lines(alloc, &step.item, reader.table(), lines);
     drop(step);
     Ok(made?)
+}
+
+/// Makes the line of the item of a value that waits as a whole, in which no interface holds another value: it defines
+/// nothing, and nothing is built of it. How many bytes it has. None says nothing of what waits, and no line is made.
+fn whole_line(
+    alloc: Global,
+    reader: &GoReader,
+    lines: &mut Vec<u8>,
+) -> Result<Option<usize>, Memory>
+    requires { lines.old.items ≡ [] }
+    ensures { MakesWhole reader.now lines.new.items result }
+{
+    let Some(item) = reader.whole() else {
+        return Ok(None);
+    };
+    let depth = shown_depth(reader);
+    let mut room = Vec::new(alloc);
+    if !line_of_whole(reader.table(), item.id, item.body, depth, &mut room, lines)? {
+        return Ok(None);
+    }
+    Ok(Some(item.used))
+}
+
+/// How deep a value may be whose line is made of its bytes: no deeper than one that the session reads.
+fn shown_depth(reader: &GoReader) -> u64
+    ensures { result ≡ min (limits_of (session_of reader.now)).depth greatest_depth }
+{
+    reader.limits().depth().min(Limits::GREATEST_DEPTH)
 }

@@ -1,18 +1,26 @@
 -- Where a run stands that writes the lines of a stream. For private clauses.
 use Rattle.std.specs.Prelude.{◌≡◌, ℕ, ◌<◌, List, [], ◌∷◌, ◌++◌, Option, Some, None, Result, Ok, Err}
 use Rattle.std.specs.Io.KnownBytes.{Appends}
+use Rattle.serde_json.specs.Data.{Data}
+use Rattle.gob_num.specs.declared.memory.Memory.{Memory}
 use Rattle.gob_types.specs.Table.{Table}
+use Rattle.gob_types.specs.declared.id.TypeId.{TypeId}
+use Rattle.gob_value.specs.Tree.{Tree}
+use Rattle.gob_value.specs.Whole.{IsWhole}
 use Rattle.gob_stream.specs.Bounds.{within_trees}
+use Rattle.gob_stream.specs.Item.{defines, puts}
 use Rattle.gob_stream.specs.declared.fault.Fault.{Fault}
-use Rattle.gob_filled.specs.Stream.{FilledItem}
+use Rattle.gob_filled.specs.Stream.{FilledItem, defining, putting}
 use Rattle.gob_go.specs.Meaning.{ItemMeans}
-use Rattle.gob_go.specs.Calls.Reader.{HasReadFrom, StopsFrom, session_of}
-use Rattle.gob_go.specs.Calls.Session.{limits_of, taken_of}
+use Rattle.gob_go.specs.Calls.Reader.{HasReadFrom, StopsFrom, session_of, waits_in}
+use Rattle.gob_go.specs.Calls.Session.{HasBodyNext, IsBetweenItems, limits_of, taken_of, types_of}
 use Rattle.gob_go.specs.declared.item.GoItem.{GoItem}
 use Rattle.gob_go.specs.declared.reader.GoReader.{GoReader}
+use Rattle.gob_go_json.specs.FilledJson.{FilledShows}
+use Rattle.gob_tool.specs.Line.{line}
 use Rattle.gob_tool.specs.declared.fault.ToolFault.{ToolFault}
 use Rattle.gob_tool.specs.Showing.{AppendsPrefix}
-use Rattle.gob_go_tool.specs.LineGo.{IsLinesOf}
+use Rattle.gob_go_tool.specs.LineGo.{inner_lines, value_line, IsLinesOf}
 use Rattle.gob_go_tool.specs.ShowingGo.{OfGoLines, RunGoAnswers}
 
 -- the lines of what was read went out
@@ -40,10 +48,32 @@ abbrev pub MakesNext : (r r' : GoReader) → (read now : Option (List ℕ)) → 
 MakesNext r r' read now given made (Ok _) = MakesLines r r' read now given made
 MakesNext r r' read now given made (Err e) = (T : Table) × StopsFrom (session_of r) T read now given e
 
+-- the text is the lines of the item, whatever it shows
+abbrev pub ShowsInLines : Table → FilledItem → List ℕ → Type 0
+ShowsInLines T (defining id v) text = text ≡ line T (defines id v)
+ShowsInLines T (putting id w) text = (v : Tree) (N : ℕ → Data) → FilledShows T id w v N
+    → text ≡ inner_lines T w ++ value_line T id v N
+
 -- the lines of what a step gave
 abbrev pub LinesGiven : Table → Option GoItem → (made : List ℕ) → Type 0
 LinesGiven T None made = made ≡ []
-LinesGiven T (Some given) made = (i : FilledItem) → ItemMeans T given i → IsLinesOf T i made
+LinesGiven T (Some given) made = (i : FilledItem) → ItemMeans T given i → ShowsInLines T i made
+
+-- the line of the item of a value that waits as a whole, in which no interface holds another value
+pub record IsWholeLine (r : GoReader) (used : ℕ) (made : List ℕ) : Type 0 where
+  pub id : TypeId
+  pub body : List ℕ
+  pub between : IsBetweenItems (session_of r)
+  pub next : HasBodyNext (session_of r) id body used (waits_in r)
+  pub depth : ℕ
+  pub depth_is : depth ≡ (within_trees (limits_of (session_of r))).depth
+  pub whole : IsWhole (types_of (session_of r)) id depth body
+  pub made_of : made ≡ line (types_of (session_of r)) (puts id whole.value)
+
+abbrev pub MakesWhole : (r : GoReader) → (made : List ℕ) → Result (Option ℕ) Memory → Type 0
+MakesWhole r made (Ok (Some used)) = IsWholeLine r used made
+MakesWhole r made (Ok None) = made ≡ []
+MakesWhole r made (Err _) = Unit {0}
 
 -- the lines went out, or a prefix of them
 abbrev pub ShowsNext : (r r' : GoReader) → (read now : Option (List ℕ)) → List FilledItem → (old new : Option (List ℕ))
