@@ -4,7 +4,7 @@ use Rattle.std.proofs.Common.{Some, None, Result, Ok, Err, Bool, true, false, �
 use Rattle.std.proofs.Common.{append-nil, inl, inr, length-append, length-take, take-append-drop, is_some, not, IfSome}
 use Rattle.std.proofs.lemmas.List.{length-take-le}
 use Rattle.std.specs.Result.{IsErrAnd}
-use Rattle.std.specs.Io.KnownBytes.{Consumes, Keeps, IsAtEnd}
+use Rattle.std.specs.Io.KnownBytes.{Consumes, IsAtEnd}
 use Rattle.std.proofs.KnownBytes.{Consumes-nil, Consumes-trans, Consumes-kept}
 use Rattle.gob_num.proofs.PublicLaws.{unsigned_length}
 use Rattle.gob_types.specs.Base.{base_table}
@@ -12,7 +12,7 @@ use Rattle.gob_types.specs.Table.{Table}
 use Rattle.gob_types.specs.declared.reason.Reason.TheVariants as reason
 use Rattle.gob_stream.specs.Bounds.{Bounds, within_trees}
 use Rattle.gob_stream.specs.Calls.Reader.{left_to_read, most_ahead}
-use Rattle.gob_stream.specs.Item.{StreamItem}
+use Rattle.gob_stream.specs.Honest.{OfRefusal}
 use Rattle.gob_stream.specs.Calls.Waiting.{Grows}
 use Rattle.gob_stream.specs.Reading.{SomeTaken, Taken}
 use Rattle.gob_stream.specs.declared.fault.Fault.{Fault}
@@ -27,19 +27,22 @@ use Rattle.gob_filled.specs.Stream.{FilledItem, FilledStream}
 use Rattle.gob_filled.proofs.Outcomes.{no_item}
 use Rattle.gob_filled.proofs.Shown.{filled_shown, filled_there}
 use Rattle.gob_go.specs.Calls.Reader.{BringsOnce, EndsWith, ReadsOnce, Fills, HasReadFrom, Lacks, Longest, GivesAllBut}
-use Rattle.gob_go.specs.Calls.Reader.{PassesFrom, PassesOne, StepsFrom, StepsOnFrom, StopsFrom, GivesItems, gives_none}
-use Rattle.gob_go.specs.Calls.Reader.{gives_one, none_wait, some_wait, room_in, session_of, waits_in}
+use Rattle.gob_go.specs.Calls.Reader.{KnowsTypes, PassesFrom, PassesOne, StepsFrom, StepsOnFrom, StopsFrom}
+use Rattle.gob_go.specs.Calls.Reader.{GivesItems, gives_none, gives_one, none_wait, some_wait, room_in, session_of}
+use Rattle.gob_go.specs.Calls.Reader.{waits_in}
 use Rattle.gob_go.specs.Calls.Session.{FinishAnswers, HasBegunNext, HasRead, IsBetweenItems, StepAnswers, ReadsItems}
 use Rattle.gob_go.specs.Calls.Session.{ReadsOn, limits_of, taken_of, types_of}
 use Rattle.gob_go.specs.Machine.SessionState.{SessionState}
 use Rattle.gob_go.specs.Machine.Stages.{AdvancesOver, over_some, over_item}
+use Rattle.gob_go.specs.Reading.{LeadsAtMostTo, LeadsBehind, RefusesBehind}
 use Rattle.gob_go.specs.declared.item.GoItem.{GoItem}
 use Rattle.gob_go.specs.declared.reader.GoReader.{GoReader}
 use Rattle.gob_go.specs.declared.session.GoStep.{GoStep}
 use Rattle.gob_go.proofs.FeedSteps.{between_table}
 use Rattle.gob_go.proofs.FinishSteps.{count_begins_here}
 use Rattle.gob_go.proofs.ItemsLaws.{NoNext, items_grown, longest, one_reading, wire_of}
-use Rattle.gob_go.proofs.UnderWayLaws.{no_item_yet}
+use Rattle.gob_go.proofs.LeadingLaws.{refused_lead}
+use Rattle.gob_go.proofs.UnderWayLaws.{no_item_yet, under_way_lead}
 use Rattle.gob_go.proofs.WholeSteps.{begun_no_next, types_between}
 
 -- ---- known bytes
@@ -450,6 +453,85 @@ passes_from {r = r} passed p left same = record {
         onward = onward_so (waits_in r) passed.used p.within h.gave a;
       };
 }
+
+-- ---- the types behind a refusal
+refused_behind : {L : Bounds} {bytes : List ℕ} {items : List FilledItem} {R : Refusal} {U : Table}
+    → RefusesBehind L bytes items R U → LeadsBehind L bytes items U
+refused_behind {L = L} r = record {
+  prefix = r.prefix;
+  rest = r.rest;
+  table = r.table;
+  stream = r.stream;
+  whole = r.whole;
+  types = subst (λ U. LeadsAtMostTo L r.table (length r.prefix) r.rest U) (sym r.refuses.table)
+      (refused_lead r.refuses.refuses);
+}
+
+-- of all that was taken
+taken_lead : {s : SessionState} {items : List FilledItem} {taken : List ℕ} → HasRead s items taken
+    → LeadsBehind (within_trees (limits_of s)) taken items (types_of s)
+taken_lead a = record {
+  prefix = a.prefix;
+  rest = a.under_way;
+  table = a.table;
+  stream = a.stream;
+  whole = a.whole;
+  types = under_way_lead a.stage;
+}
+
+-- where nothing waits
+pub knows_taken : {r : GoReader} {read now : Option (List ℕ)} {items : List FilledItem} (U : Table)
+    → HasReadFrom r read now items → waits_in r ≡ [] → U ≡ types_of (session_of r)
+    → KnowsTypes (limits_of (session_of r)) read now items U
+knows_taken {r = r} {now = now} {items = items} U h none same = λ bytes known. record {
+  bytes = h.taken;
+  taken = subst (λ (l : List ℕ). Taken bytes now l) (ap (λ (l : List ℕ). h.taken ++ l) none ∙ append-nil h.taken)
+      (read_so bytes h known);
+  holds = subst (λ U. LeadsBehind (within_trees (limits_of (session_of r))) h.taken items U) (sym same)
+      (taken_lead h.gave);
+}
+
+-- behind a step
+pub step_knows : {r : GoReader} {read now : Option (List ℕ)} {items : List FilledItem} (s' : SessionState)
+    (e : Fault) → (h : HasReadFrom r read now items)
+    → StepAnswers (session_of r) s' items h.taken (waits_in r) (Err e)
+    → OfRefusal {A = GoStep} (λ _. KnowsTypes (limits_of (session_of r)) read now items (types_of s')) (Err e)
+step_knows {r = r} s' (fault.Refused R) h f = λ bytes known.
+    record { bytes = h.taken ++ waits_in r; taken = read_so bytes h known; holds = refused_behind f.1 }
+step_knows s' fault.Read h f = tt
+step_knows s' fault.Memory h f = tt
+step_knows s' fault.Failed h f = tt
+
+-- whatever a call answers
+pub of_any_refusal : {A : Type 0} (P : Type 0) (res : Result A Fault) → P → OfRefusal (λ _. P) res
+of_any_refusal P (Ok a) p = tt
+of_any_refusal P (Err (fault.Refused R)) p = p
+of_any_refusal P (Err fault.Read) p = tt
+of_any_refusal P (Err fault.Memory) p = tt
+of_any_refusal P (Err fault.Failed) p = tt
+
+pub refusal_at : {A : Type 0} (B P : Type 0) (res : Result A Fault) (e : Fault) → IsErrAnd res (λ x. x ≡ e)
+    → OfRefusal {A = B} (λ _. P) (Err e) → OfRefusal (λ _. P) res
+refusal_at B P (Ok a) e is h = absurd is
+refusal_at B P (Err (fault.Refused R)) e is h = subst (λ e. OfRefusal {A = B} (λ _. P) (Err e)) (sym is) h
+refusal_at B P (Err fault.Read) e is h = tt
+refusal_at B P (Err fault.Memory) e is h = tt
+refusal_at B P (Err fault.Failed) e is h = tt
+
+-- a read refuses nothing
+pub read_refuses_none : (r r' : GoReader) (old new : Option (List ℕ)) (P : Type 0) (e : Fault)
+    → ReadsOnce r r' old new (Err e) → OfRefusal {A = Unit {0}} (λ _. P) (Err e)
+read_refuses_none r r' old new P (fault.Refused R) h = absurd h
+read_refuses_none r r' old new P fault.Read h = tt
+read_refuses_none r r' old new P fault.Memory h = tt
+read_refuses_none r r' old new P fault.Failed h = tt
+
+-- the session is as it was before the reads
+pub knows_so : (s s' : SessionState) (read now : Option (List ℕ)) (items : List FilledItem) (U : Table)
+    (res : Result Bool Fault) → s' ≡ s → OfRefusal (λ _. KnowsTypes (limits_of s') read now items U) res
+    → OfRefusal (λ _. KnowsTypes (limits_of s) read now items U) res
+knows_so s s' read now items U res same h =
+    subst (λ (s : SessionState). OfRefusal (λ _. KnowsTypes (limits_of s) read now items U) res) same h
 
 -- ---- at the error that a `?` returns
 pub steps_at : (r : GoReader) (T : Table) (r' : GoReader) (read now : Option (List ℕ)) (items : List FilledItem)

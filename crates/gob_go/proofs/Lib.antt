@@ -18,6 +18,7 @@ pub mod HeldSteps
 pub mod HonestLaws
 pub mod InnerCountSteps
 pub mod ItemsLaws
+pub mod LeadingLaws
 pub mod MeaningLaws
 pub mod NameSteps
 pub mod NestedLaws

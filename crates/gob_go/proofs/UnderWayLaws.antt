@@ -25,12 +25,13 @@ use Rattle.gob_filled.specs.Stream.{next_counted}
 use Rattle.gob_filled.specs.Outcome.{RefusesAt, RefusesFilled, refused_count, refused_body, refused_value}
 use Rattle.gob_filled.proofs.Prefix.{unmet, further, not_defined}
 use Rattle.gob_filled.proofs.Final.{rests}
-use Rattle.gob_filled.proofs.OneWay.{State, state, bytes_of, Step, by_name, Onto, here, first, goes_on, one_way}
+use Rattle.gob_filled.proofs.OneWay.{State, state, bytes_of, Step, by_name, one_way}
 use Rattle.gob_filled.proofs.Refused.{Begins, begins}
 use Rattle.gob_filled.proofs.Complete.{stands_so}
 use Rattle.gob_go.specs.Machine.HasRead.{PartHasRead, in_skeleton, in_name_length, in_name, in_held_number}
 use Rattle.gob_go.specs.Machine.HasRead.{in_held_description, in_next_count, in_inner_count, StageHasRead, in_count}
 use Rattle.gob_go.specs.Machine.HasRead.{in_type_number, in_definition, in_put, DescriptionIs}
+use Rattle.gob_go.specs.Reading.{LeadsAtMostTo, LeadsToTypes, behind_whole}
 use Rattle.gob_go.specs.declared.description.DescriptionStage.{DescriptionStage}
 use Rattle.gob_go.specs.declared.levels.Levels.{Levels}
 use Rattle.gob_go.specs.declared.part.Part.{Part}
@@ -39,13 +40,16 @@ use Rattle.gob_go.proofs.AtRestLaws.{count_begun, number_begun, description_begu
 use Rattle.gob_go.proofs.AtRestLaws.{skeleton_refusal, nil_viable, name_step, name_refusal, held_number_step}
 use Rattle.gob_go.proofs.AtRestLaws.{held_number_refusal, held_description_step, held_description_refusal}
 use Rattle.gob_go.proofs.ItemsLaws.{Grown, same_grown, grown_on, defines_grown, stands_grown, prefix_few}
+use Rattle.gob_go.proofs.LeadingLaws.{DefinesAtMost, leads_at_most, leads_nowhere, none_in_value, none_so_short}
+use Rattle.gob_go.proofs.LeadingLaws.{one_defined, stands_lead, stays}
 use Rattle.gob_go.proofs.NestedLaws.{levels_nest, within_stream}
 use Rattle.gob_go.proofs.AtRestLaws.{next_count_step, next_count_refusal, inner_count_step, inner_count_refusal}
 
 -- ---- in the item of a value
 
 -- the bytes stand so far, where no step leads on over those that follow, and these are no refusal
-pub record AtRest (L : Bounds) (T : Table) (offset : ℕ) (y : List ℕ) : Type 0 where
+-- these are all types where they lead
+pub record AtRest (L : Bounds) (T : Table) (offset : ℕ) (U : Table) (y : List ℕ) : Type 0 where
   pub before : List ℕ
   pub behind : List ℕ
   pub table : Table
@@ -58,6 +62,8 @@ pub record AtRest (L : Bounds) (T : Table) (offset : ℕ) (y : List ℕ) : Type 
       → p ++ x ≡ behind → ⊥
   pub no_refusal : (R : Refusal) → RefusesAt base_table L (offset + length before) table behind levels next left R → ⊥
   pub goes_on : (lv : Level) → levels ≡ lv ∷ [] → next ≡ in_value → offset + length (before ++ behind) < lv.end
+  pub types : DefinesAtMost L offset (state before table levels next left) behind U
+  pub leads : LeadsToTypes L T offset y U
 
 room_of : {lv l : Level} {around : List Level} {n : ℕ} → lv ∷ around ≡ l ∷ [] → n < lv.end → n < l.end
 room_of {lv = lv} {l = l} {n = n} e r = let same : lv ≡ l = cc in subst (λ (l : Level). n < l.end) same r
@@ -72,7 +78,7 @@ description_viable {L = L} {U = U} {y = y} d =
     subst (λ n. IsViable U wire_type L.depth n y) (omega arith) d.read.viable
 
 pub part_at_rest : {L : Bounds} {T U : Table} {offset : ℕ} {levels : Levels} {next : Part} {y : List ℕ}
-    → PartHasRead L T offset U levels next y → AtRest L T offset y
+    → PartHasRead L T offset U levels next y → AtRest L T offset U y
 part_at_rest {U = U} {offset = offset} (in_skeleton {z = z} {lv = lv} {around = around} {left = left} c p said w o) =
     let r = w.rest in let short = w.viable.room in
     let room : offset + length (z ++ c) < lv.end = omega arith in
@@ -91,6 +97,8 @@ part_at_rest {U = U} {offset = offset} (in_skeleton {z = z} {lv = lv} {around = 
       no_refusal = λ R h. skeleton_refusal (subst (λ n. IsViable lv.table lv.type lv.limit n (lv.done ++ c)) announced
           w.viable) h;
       goes_on = λ l e f. room_of e room;
+      types = none_in_value;
+      leads = stands_lead c (z ++ c) p refl;
     }
 part_at_rest {U = U} {offset = offset} (in_name_length {z = z} {lv = lv} {around = around} {left = left} c a p said n o
     num rest) =
@@ -111,6 +119,8 @@ part_at_rest {U = U} {offset = offset} (in_name_length {z = z} {lv = lv} {around
       no_step = λ q x S s e. skeleton_step x viable room s e;
       no_refusal = λ R h. skeleton_refusal viable h;
       goes_on = λ l e f. room_of e room;
+      types = none_in_value;
+      leads = stands_lead (c ++ a) (z ++ (c ++ a)) p refl;
     }
 part_at_rest {U = U} {offset = offset} (in_name {z = z} {lv = lv} {around = around} {left = left} c a s p said n o
     rest u size some fits name defs room) = record {
@@ -126,6 +136,8 @@ part_at_rest {U = U} {offset = offset} (in_name {z = z} {lv = lv} {around = arou
       no_refusal = λ R h. name_refusal c s n.expects n.not_deep n.shallow u (omega arith)
           (omega (arith, length-append z (c ++ (a ++ s)))) h;
       goes_on = λ l e f. room_of e room;
+      types = none_in_value;
+      leads = stands_lead (c ++ (a ++ s)) (z ++ (c ++ (a ++ s))) p refl;
     }
 part_at_rest {U = U} {offset = offset} (in_held_number {z = z} {lv = lv} {around = around} {left = left} {d = d} a p
     said n o held num) =
@@ -142,6 +154,8 @@ part_at_rest {U = U} {offset = offset} (in_held_number {z = z} {lv = lv} {around
       no_step = λ q x S s e. held_number_step x num.prefix s e;
       no_refusal = λ R h. held_number_refusal num.prefix (omega arith) h;
       goes_on = λ l e f. not_in_value f;
+      types = none_so_short (omega (arith, length-append z a));
+      leads = stands_lead a (z ++ a) p refl;
     }
 part_at_rest {U = U} {offset = offset} (in_held_description {z = z} {lv = lv} {around = around} {left = left} {d = d} a
     y p said n o held desc) =
@@ -160,6 +174,8 @@ part_at_rest {U = U} {offset = offset} (in_held_description {z = z} {lv = lv} {a
       no_step = λ q x S s e. held_description_step y x desc.number room s e;
       no_refusal = λ R h. held_description_refusal desc.id_is desc.number desc.may viable h;
       goes_on = λ l e f. not_in_value f;
+      types = none_so_short room;
+      leads = stands_lead (a ++ y) (z ++ (a ++ y)) p refl;
     }
 part_at_rest {offset = offset} (in_next_count {z = z} {b = b} {S = S} {lv = lv} {around = around} {left = left} {d = d}
     q p said def_ ends n o held num) =
@@ -175,6 +191,8 @@ part_at_rest {offset = offset} (in_next_count {z = z} {b = b} {S = S} {lv = lv} 
       no_step = λ r x R s e. next_count_step x def_ num.prefix s e;
       no_refusal = λ R h. next_count_refusal def_ (omega (arith, length-append z b)) num.prefix num.room h;
       goes_on = λ l e f. not_in_value f;
+      types = one_defined q def_;
+      leads = behind_whole q p def_ ends refl;
     }
 part_at_rest {U = U} {offset = offset} (in_inner_count {z = z} {n = n} {lv = lv} {around = around} {left = left}
     {d = d} q p said may sg nil o held num) =
@@ -191,30 +209,16 @@ part_at_rest {U = U} {offset = offset} (in_inner_count {z = z} {n = n} {lv = lv}
       no_step = λ r x S s e. inner_count_step x sg num.prefix s e;
       no_refusal = λ R h. inner_count_refusal may sg num.prefix (omega (arith, length-append z n)) h;
       goes_on = λ l e f. not_in_value f;
+      types = none_so_short (omega (arith, length-append z n, length-append z (n ++ q), length-append n q));
+      leads = stands_lead (n ++ q) (z ++ (n ++ q)) p refl;
     }
 
 -- ---- nothing leads on
-apart : (z p m x : List ℕ) → ((z ++ p) ++ m) ++ x ≡ z ++ (p ++ (m ++ x))
-apart z p m x = simp append_assoc
-
-stays : {L : Bounds} {offset left : ℕ} {z w : List ℕ} {U : Table} {levels : List Level} {next : Next} {S : State}
-    (x : List ℕ) → ((p x : List ℕ) (R : State) → Step base_table L offset (state z U levels next left) p R
-    → p ++ x ≡ w → ⊥)
-    → Onto base_table L offset (state z U levels next left) S → z ++ w ≡ bytes_of S ++ x
-    → state z U levels next left ≡ S
-stays x n here e = refl
-stays {z = z} {w = w} x n (first {R = R} {p = p} s f o) e =
-    let m = goes_on o in
-    absurd
-    (n p (m.0 ++ x) R s
-    (sym (same_end z w (p ++ (m.0 ++ x)) (e ∙ ap (λ (l : List ℕ). l ++ x) (m.1 ∙ ap (λ (l : List ℕ). l ++ m.0) f)
-    ∙ apart z p m.0 x))))
-
 abbrev AtState : Bounds → ℕ → State → List ℕ → Refusal → Type 0
 AtState L offset (state y U levels next left) w R = RefusesAt base_table L (offset + length y) U w levels next left R
 
 -- so the bytes are not refused
-rest_unrefused : {L : Bounds} {T : Table} {offset : ℕ} {y : List ℕ} {R : Refusal} (a : AtRest L T offset y)
+rest_unrefused : {L : Bounds} {T U : Table} {offset : ℕ} {y : List ℕ} {R : Refusal} (a : AtRest L T offset U y)
     → Begins L T offset y → RefusesFilled base_table L T offset y R → ⊥
 rest_unrefused a b (refused_count h) = count_not (b.number ++ b.rest) h b.counts b.whole b.item b.stream
 rest_unrefused a b (refused_body {m = m} r e u l s h ns) =
@@ -257,8 +261,8 @@ abbrev next_of : State → Next
 next_of (state z U levels next left) = next
 
 -- nor do they begin with an item
-rest_no_item : {L : Bounds} {T V : Table} {offset : ℕ} {y b : List ℕ} {i : FilledItem} (x : List ℕ)
-    (a : AtRest L T offset y) → IsFilledItem base_table L T offset i b V → y ≡ b ++ x → ⊥
+rest_no_item : {L : Bounds} {T U V : Table} {offset : ℕ} {y b : List ℕ} {i : FilledItem} (x : List ℕ)
+    (a : AtRest L T offset U y) → IsFilledItem base_table L T offset i b V → y ≡ b ++ x → ⊥
 rest_no_item {y = y} x a (of_definition {c = c} {d = d} n l s p) e =
     let b = begins a.behind y a.stands a.whole in
     let count = unsigned_prefix (d ++ x) (b.number ++ b.rest) n b.counts (sym (append_assoc c d x) ∙ sym e ∙ b.whole) in
@@ -382,6 +386,19 @@ unrefused (in_definition {c = c} a y g k d) (refused_value {w = w} e p h) =
     let count = unsigned_prefix (a ++ y) (b.number ++ b.rest) k.count b.counts b.whole in
     pos_negsuc (signed_prefix b.rest y b.names d.number (sym count.rest)).value
 unrefused {y = y} (in_put p) h = let a = part_at_rest p in rest_unrefused a (begins a.behind y a.stands a.whole) h
+
+-- the types are all where the bytes so far lead
+pub under_way_lead : {L : Bounds} {T U : Table} {offset : ℕ} {expects : Stage} {y : List ℕ}
+    → StageHasRead L T offset U expects y → LeadsAtMostTo L T offset y U
+under_way_lead (in_count q g n) =
+    leads_nowhere g (λ b. prefix_not_number (b.number ++ b.rest) n.prefix b.counts b.whole)
+under_way_lead (in_type_number a g k n) = leads_nowhere g (λ b.
+    let count = unsigned_prefix a (b.number ++ b.rest) k.count b.counts b.whole in
+    prefix_not_number b.rest n.prefix (signed_unsigned b.names).1 count.rest)
+under_way_lead (in_definition a y g k d) = leads_nowhere g (λ b.
+    let count = unsigned_prefix (a ++ y) (b.number ++ b.rest) k.count b.counts b.whole in
+    pos_negsuc (signed_prefix b.rest y b.names d.number (sym count.rest)).value)
+under_way_lead (in_put p) = let a = part_at_rest p in leads_at_most a.behind a.stands a.whole a.no_step a.types a.leads
 
 -- ---- types
 part_grown : {L : Bounds} {T U : Table} {offset : ℕ} {levels : Levels} {next : Part} {y : List ℕ}

@@ -1,5 +1,5 @@
 -- What the reading calls answer, in the words of streams.
-use Rattle.std.specs.Prelude.{◌≡◌, ◌≢◌, ℕ, ◌+◌, ◌≤◌, List, ◌++◌, length}
+use Rattle.std.specs.Prelude.{◌≡◌, ◌≢◌, ℕ, ◌+◌, ◌≤◌, List, ◌∷◌, ◌++◌, length}
 use Rattle.gob_types.specs.declared.id.TypeId.{TypeId}
 use Rattle.gob_types.specs.declared.reason.Reason.TheVariants as reason
 use Rattle.gob_types.specs.Table.{Table}
@@ -58,6 +58,29 @@ pub record RefusesBehind (L : Bounds) (bytes : List ℕ) (items : List FilledIte
 pub record ShowsRefusal (L : Bounds) (bytes : List ℕ) (items : List FilledItem) (R : Refusal) : Type 0 where
   pub outcome : FilledOutcome base_table L bytes items (refused R)
   pub shown : R.reason ≢ reason.Ended
+
+-- these are the types where bytes of an item lead, which begins at the offset: those before it, or those behind a
+-- definition within it that is whole
+pub data LeadsToTypes (L : Bounds) (T : Table) (offset : ℕ) (bytes : List ℕ) (U : Table) : Type 0 where
+  before_item : U ≡ T → LeadsToTypes L T offset bytes U
+  behind_whole : {y b : List ℕ} {S : Table} {lv : Level} {levels : List Level} {d left : ℕ} {id : TypeId} {v : Tree}
+      (r : List ℕ) → Stands base_table L T offset y S (lv ∷ levels) (in_filling d) left
+      → Defines base_table L S id v b U → offset + length (y ++ b) ≡ lv.end → bytes ≡ y ++ (b ++ r)
+      → LeadsToTypes L T offset bytes U
+
+-- and no more types stand where the bytes lead
+pub record LeadsAtMostTo (L : Bounds) (T : Table) (offset : ℕ) (bytes : List ℕ) (U : Table) : Type 0 where
+  pub leads : LeadsToTypes L T offset bytes U
+  pub last : (V : Table) → LeadsToTypes L T offset bytes V → (more : Table) × (U ≡ V ++ more)
+
+-- so it is behind the items
+pub record LeadsBehind (L : Bounds) (bytes : List ℕ) (items : List FilledItem) (U : Table) : Type 0 where
+  pub prefix : List ℕ
+  pub rest : List ℕ
+  pub table : Table
+  pub stream : FilledStream base_table L items prefix table
+  pub whole : bytes ≡ prefix ++ rest
+  pub types : LeadsAtMostTo L table (length prefix) rest U
 
 -- so many of the bytes were taken, and of the items that these give, all but the last at most are these
 pub record GivesOfTaken (L : Bounds) (taken : ℕ) (bytes : List ℕ) (items : List FilledItem) : Type 0 where

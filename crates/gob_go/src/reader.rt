@@ -4,11 +4,13 @@ ghost use Rattle.std.specs.Prelude.{◌≡◌, ◌+◌, ◌<◌, ◌≤◌, ◌+
 ghost use Rattle.std.specs.Prelude.{◌≢◌, length, take, drop, IsTrue, IfErr, IfOk, IfSome};
 ghost use Rattle.gob_stream.specs.Bounds.{AreLimits, deepest};
 ghost use Rattle.gob_stream.specs.Calls.Ends.{failed_reads, reader_of};
+ghost use Rattle.gob_stream.specs.Honest.{OfRefusal};
 ghost use Rattle.gob_stream.specs.Reading.{CountsReads};
 ghost use Rattle.gob_filled.specs.Stream.{FilledItem};
 ghost use Rattle.gob_go.specs.Calls.Session.{HasBodyNext, HasItemNext, IsBetweenItems, limits_of, table_of, taken_of};
+ghost use Rattle.gob_go.specs.Calls.Session.{types_of};
 ghost use Rattle.gob_go.specs.Calls.Reader.{HasReadFrom, Fills, IsShort, Lacks, ReadsOnce, StepsFrom, PassesFrom};
-ghost use Rattle.gob_go.specs.Calls.Reader.{PassesOne};
+ghost use Rattle.gob_go.specs.Calls.Reader.{KnowsTypes, PassesOne};
 ghost use Rattle.gob_go.specs.Calls.Reader.{session_of, waits_in};
 
 use crate::session::{GoSession, GoStep};
@@ -64,6 +66,10 @@ impl GoReader {
         ensures filled { (read : Option (List ℕ)) (items : List FilledItem)
             (h : HasReadFrom self.old read (R.remaining (reader_of input.old)) items)
             → Fills (session_of self.old) h.gave.table self.new read (R.remaining (reader_of input.new)) items result }
+        ensures refused { (read : Option (List ℕ)) (items : List FilledItem)
+            → HasReadFrom self.old read (R.remaining (reader_of input.old)) items
+            → OfRefusal (λ _. KnowsTypes (limits_of (session_of self.old)) read
+            (R.remaining (reader_of input.new)) items (types_of (session_of self.new))) result }
         ensures counted { CountsReads (failed_reads input.old) (failed_reads input.new) result }
         ensures some { IfOk result (λ more. IsTrue more → 0 < length (waits_in self.new)) }
         ensures same { IfOk result (λ more. IsTrue more → session_of self.new ≡ session_of self.old) }
@@ -86,6 +92,10 @@ impl GoReader {
         ensures filled { (read : Option (List ℕ)) (items : List FilledItem)
             (h : HasReadFrom self.old read (R.remaining (reader_of input.old)) items)
             → Fills (session_of self.old) h.gave.table self.new read (R.remaining (reader_of input.new)) items result }
+        ensures refused { (read : Option (List ℕ)) (items : List FilledItem)
+            → HasReadFrom self.old read (R.remaining (reader_of input.old)) items
+            → OfRefusal (λ _. KnowsTypes (limits_of (session_of self.old)) read
+            (R.remaining (reader_of input.new)) items (types_of (session_of self.new))) result }
         ensures counted { CountsReads (failed_reads input.old) (failed_reads input.new) result }
         ensures some { IfOk result (λ more. IsTrue more → 0 < length (waits_in self.new)) }
         ensures limits { limits_of (session_of self.new) ≡ limits_of (session_of self.old) }
@@ -120,6 +130,9 @@ impl GoReader {
         ensures filled { (read now : Option (List ℕ)) (items : List FilledItem)
             (h : HasReadFrom self.old read now items)
             → Fills (session_of self.old) h.gave.table self.new read now items result }
+        ensures refused { (read now : Option (List ℕ)) (items : List FilledItem) → HasReadFrom self.old read now items
+            → OfRefusal (λ _. KnowsTypes (limits_of (session_of self.old)) read now items
+            (types_of (session_of self.new))) result }
         ensures unread { IfErr result (λ fault. fault ≢ Fault.Read) }
         ensures no_more { IfOk result (λ more. more ≡ false) }
         ensures limits { limits_of (session_of self.new) ≡ limits_of (session_of self.old) }
@@ -195,6 +208,8 @@ impl GoReader {
     pub fn pass_values(&mut self) -> Passed
         ensures passed { PassesFrom self.old self.new result }
         ensures left { waits_in self.new ≡ drop result.used (waits_in self.old) }
+        ensures between { 0 < result.items
+            → IsBetweenItems (session_of self.old) × IsBetweenItems (session_of self.new) }
         ensures table { table_of (session_of self.new) ≡ table_of (session_of self.old) }
         ensures limits { limits_of (session_of self.new) ≡ limits_of (session_of self.old) }
     {
@@ -203,12 +218,16 @@ impl GoReader {
         passed
     }
 
-    /// Takes some of the bytes that wait, one at least, and none behind the end of an item.
+    /// Takes some of the bytes that wait, one at least, and none behind the end of an item. Where an item is refused,
+    /// its definitions in front of that place are among the types of [`GoReader::table`].
     pub fn step(&mut self, alloc: Global) -> Result<GoStep, Fault>
         requires some { 0 < length (waits_in self.old) }
         ensures stepped { (read now : Option (List ℕ)) (items : List FilledItem)
             (h : HasReadFrom self.old read now items)
             → StepsFrom self.old h.gave.table self.new read now items result }
+        ensures refused { (read now : Option (List ℕ)) (items : List FilledItem) → HasReadFrom self.old read now items
+            → OfRefusal (λ _. KnowsTypes (limits_of (session_of self.old)) read now items
+            (types_of (session_of self.new))) result }
         ensures used { IfOk result (λ step. 0 < step.used) }
         ensures between { IfOk result (λ step. IfSome step.item (λ _. IsBetweenItems (session_of self.new))) }
         ensures unread { IfErr result (λ fault. fault ≢ Fault.Read) }

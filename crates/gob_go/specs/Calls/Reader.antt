@@ -21,6 +21,7 @@ use Rattle.gob_filled.specs.OutcomeLaws.{unfilled_item}
 use Rattle.gob_go.specs.Calls.Session.{HasBegunNext, HasRead, IsBetweenItems, IsNext, limits_of, taken_of, types_of}
 use Rattle.gob_go.specs.Machine.SessionState.{SessionState}
 use Rattle.gob_go.specs.Meaning.{ItemMeans}
+use Rattle.gob_go.specs.Reading.{LeadsBehind}
 use Rattle.gob_go.specs.declared.item.GoItem.{GoItem}
 use Rattle.gob_go.specs.declared.reader.GoReader.{GoReader}
 use Rattle.gob_go.specs.declared.session.GoStep.{GoStep}
@@ -120,6 +121,11 @@ abbrev pub StepsFrom : GoReader → Table → (r' : GoReader) → (read now : Op
     → Result GoStep Fault → Type 0
 StepsFrom r T r' read now items (Ok step) = StepsOnFrom r r' read now items step
 StepsFrom r T r' read now items (Err e) = StopsFrom (session_of r) T read now items e
+
+-- the types behind a refusal: those where all that was read leads, with each definition that is whole in it
+abbrev pub KnowsTypes : Bounds → (read now : Option (List ℕ)) → List FilledItem → Table → Type 0
+KnowsTypes L read now items U = (bytes : List ℕ) → read ≡ Some bytes
+    → SomeTaken bytes now (λ came. LeadsBehind (within_trees L) came items U)
 
 -- it went past so many items, which define nothing
 pub record PassesFrom (r r' : GoReader) (passed : Passed) : Type 0 where

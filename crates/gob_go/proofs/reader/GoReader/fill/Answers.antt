@@ -1,9 +1,10 @@
 use Rattle.std.proofs.Common.{◌∙◌, Bool, ap, refl}
 use Rattle.gob_stream.specs.Calls.Ends.{failed_reads, reader_of}
 use Rattle.gob_stream.proofs.Reader.StreamReaderLaws.{counts_at, counts_nothing}
-use Rattle.gob_go.specs.Calls.Reader.{session_of}
-use Rattle.gob_go.specs.Calls.Session.{taken_of, types_of}
-use Rattle.gob_go.proofs.GoReaderLaws.{fills_at, fills_from, read_on, read_stops, reads_fall, stands_so}
+use Rattle.gob_go.specs.Calls.Reader.{KnowsTypes, session_of}
+use Rattle.gob_go.specs.Calls.Session.{limits_of, taken_of, types_of}
+use Rattle.gob_go.proofs.GoReaderLaws.{fills_at, fills_from, knows_so, read_on, read_refuses_none, read_stops}
+use Rattle.gob_go.proofs.GoReaderLaws.{reads_fall, refusal_at, stands_so}
 use Rattle.gob_go.proofs.reader.GoReader.fill.Goals as goal
 
 pub reads-init : goal.reads-init
@@ -57,3 +58,24 @@ returns-in_err-read_once-clause-counted g c =
     counts_at Bool (failed_reads c.args.input.now) (failed_reads c.reads.input) (failed_reads c.read_once.new.input)
     c.from_residual.result c.in_err-read_once.field-0.0 c.from_residual.ensures.1 c.reads.invariant.1
     c.in_err-read_once.ensures.reads
+
+pub returns-then-has_next-clause-refused : goal.returns-then-has_next-clause-refused
+returns-then-has_next-clause-refused g c = λ read items h. tt
+
+pub returns-then-self-clause-refused : goal.returns-then-self-clause-refused
+returns-then-self-clause-refused g c = λ read items h.
+    let i = c.reads.invariant in
+    let now = g.R.Read.remaining (reader_of c.reads.input) in
+    knows_so (session_of c.args.self.now) (session_of c.reads.self) read now items
+    (types_of (session_of c.end.new.self)) c.end.result i.0
+    (c.end.ensures.refused read now items (i.2 read items h).has)
+
+pub returns-in_err-read_once-clause-refused : goal.returns-in_err-read_once-clause-refused
+returns-in_err-read_once-clause-refused g c = λ read items h.
+    let e = c.in_err-read_once.field-0.0 in
+    let now = g.R.Read.remaining (reader_of c.read_once.new.input) in
+    let P : Type 0 = KnowsTypes (limits_of (session_of c.args.self.now)) read now items
+    (types_of (session_of c.read_once.new.self)) in
+    refusal_at (Unit {0}) P c.from_residual.result e c.from_residual.ensures.1
+    (read_refuses_none c.reads.self c.read_once.new.self (g.R.Read.remaining (reader_of c.reads.input)) now P e
+    c.in_err-read_once.ensures.read)
