@@ -5,6 +5,7 @@ pub mod TakeRuns
 pub mod WantedLaws
 pub mod EndLaws
 pub mod ShowRuns
+pub mod NextLines
 pub mod CheckLaws
 pub mod TallyLaws
 pub mod TidyStays

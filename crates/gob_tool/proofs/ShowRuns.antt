@@ -1,5 +1,5 @@
 -- How a run that writes lines goes on, and how it ends.
-use Rattle.std.proofs.Common.{◌≡◌, ℕ, ◌+◌, ◌-◌, ◌<◌, arith, List, [], ◌∷◌, ◌++◌, length, Option, Some, None}
+use Rattle.std.proofs.Common.{◌≡◌, ℕ, ◌+◌, ◌-◌, ◌<◌, arith, List, [], ◌∷◌, ◌++◌, length, Option, Some}
 use Rattle.std.proofs.Common.{Bool, true, false, IfErr, Result, Ok, Err, ◌∙◌, ap, sym, subst, refl, append_assoc}
 use Rattle.std.proofs.Common.{append-nil, length-append}
 use Rattle.std.proofs.lemmas.List.{length-take-le}
@@ -41,7 +41,7 @@ use Rattle.gob_tool.specs.declared.fault.ToolFault.TheVariants as fault
 use Rattle.gob_tool.specs.Ending.{EndsRun, ends_so, flush_fails}
 use Rattle.gob_tool.specs.Fault.{reading_fault}
 use Rattle.gob_tool.specs.Line.{line, lines}
-use Rattle.gob_tool.specs.Machine.Lines.{IsWholeLine, line_given, MakesLine, MakesLines, MakesWhole, ShowsNext, ShowsSo}
+use Rattle.gob_tool.specs.Machine.Lines.{IsWholeLine, line_given, MakesLines, ShowsNext, ShowsSo}
 use Rattle.gob_tool.specs.Machine.Lines.{Trees}
 use Rattle.gob_tool.specs.Showing.{AppendsPrefix, BeginsOutcome, CountsReadFaults, EndsWhole, OfLines, RunAnswers}
 use Rattle.gob_tool.specs.Showing.{ShowAnswers}
@@ -166,11 +166,6 @@ shows_cut {r = r} {r' = r'} {given = given} {made = made} old mid new same h m c
     }
 
 -- ---- a line
-pub whole_some : (r : Trees) (made : List ℕ) (used : ℕ) (o : Option ℕ) → o ≡ Some used → MakesWhole r made (Ok o)
-    → IsWholeLine r used made
-whole_some r made used None e w = cc
-whole_some r made used (Some n) e w = let same : n ≡ used = cc in subst (λ n. IsWholeLine r n made) same w
-
 pub whole_line_made : {r r' : Trees} {read now : Option (List ℕ)} {given : List StreamItem} {made : List ℕ} {used : ℕ}
     → (w : IsWholeLine r used made) → table_of (session_of r') ≡ table_of (session_of r)
     → PassesOne tree_building r r' used
@@ -207,15 +202,6 @@ step_line_made {r' = r'} some st e = record {
   onward = omega (arith, some, st.takes.onward);
   made_of = e ∙ given_lines (types_of (session_of r')) st.gives;
 }
-
--- at the error that a `?` returns
-pub makes_at : (r r' : Trees) (read now : Option (List ℕ)) (given : List StreamItem) (made : List ℕ)
-    (res : Result (Unit {0}) Fault)
-    (e : Fault) → IsErrAnd res (λ x. x ≡ e) → StopsFrom tree_building (session_of r) read now given e
-    → MakesLine r r' read now given made res
-makes_at r r' read now given made (Ok u) e is h = absurd is
-makes_at r r' read now given made (Err f) e is h =
-    subst (λ e. StopsFrom tree_building (session_of r) read now given e) (sym is) h
 
 pub no_memory : {r : Trees} {read now : Option (List ℕ)} {given : List StreamItem}
     → HasReadFrom tree_building r read now given

@@ -19,8 +19,8 @@ use gob_types::{Shapes, TypeId};
 use gob_value::is_whole;
 use std::io::Write;
 
-// The most bytes of an item whose line is made before it goes out.
-const MOST_GATHERED: usize = 65536;
+/// The most bytes of an item whose line is made before it goes out.
+pub(crate) const MOST_GATHERED: usize = 65536;
 
 // An output that text is sent to. It is taken apart in the end, and not dropped: so what it did to the output is known.
 struct Sending<'a, W: Write> {

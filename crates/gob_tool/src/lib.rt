@@ -12,7 +12,7 @@ mod fault;
 mod in_memory;
 mod item_json;
 mod large;
-mod next_line;
+mod next_lines;
 mod piece;
 mod received;
 mod receiver;

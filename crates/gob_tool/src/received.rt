@@ -17,7 +17,7 @@ ghost use Rattle.std.specs.Prelude.{◌≡◌, ◌↔◌, ◌<◌, ◌≤◌, �
 
 use crate::fault::ToolFault;
 use crate::large::{send_item, shown_depth, whole_item};
-use crate::next_line::given_line;
+use crate::next_lines::given_line;
 use crate::receiver::Receiver;
 use gob_read::TreeBuilder;
 use gob_stream::{Item, Output, StreamReader, Whole};

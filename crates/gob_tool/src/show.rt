@@ -14,7 +14,7 @@ ghost use Rattle.gob_tool.specs.Showing.{ShowAnswers, CountsReadFaults, CountsWr
 use crate::end::{end_run, flush_before_waiting};
 use crate::fault::ToolFault;
 use crate::large::show_large;
-use crate::next_line::next_line;
+use crate::next_lines::next_lines;
 use gob_read::TreeBuilder;
 use gob_stream::{Input, Limits, Output, StreamReader};
 use std::alloc::Global;
@@ -55,20 +55,22 @@ fn show_items<R: Read, W: Write>(
     ensures writes { CountsOnlyWrites (failed_writes output.old) (failed_writes output.new) result }
 {
     let mut reader = StreamReader::<TreeBuilder>::new(alloc, limits)?;
-    let mut line = Vec::new(alloc);
-    while reader.fill(input)? {
-        show_next(alloc, &mut reader, &mut line, output)?;
+    let mut lines = Vec::new(alloc);
+    let mut room = Vec::new(alloc);
+    'items: while reader.fill(input)? {
+        show_next(alloc, &mut reader, &mut lines, &mut room, output)?;
         flush_before_waiting(&reader, output)?;
     }
     Ok(())
 }
 
-/// Takes some of the bytes that wait, and writes the line of the item that is whole with them. `line` is room for it;
-/// that of a large item goes out while it is made.
+/// Takes some of the bytes that wait, and writes the lines of the items that are whole with them. `lines` and `room`
+/// are for those that are made; the line of a large item goes out while it is made.
 fn show_next<W: Write>(
     alloc: Global,
     reader: &mut StreamReader<TreeBuilder>,
-    line: &mut Vec<u8>,
+    lines: &mut Vec<u8>,
+    room: &mut Vec<u8>,
     output: &mut Output<W>,
 ) -> Result<(), ToolFault>
     requires { 0 < length (waits_in reader.old) }
@@ -83,15 +85,16 @@ fn show_next<W: Write>(
     if show_large(reader, output)? {
         return Ok(());
     }
-    show_line(alloc, reader, line, output)
+    show_lines(alloc, reader, lines, room, output)
 }
 
-/// Takes some of the bytes that wait, and writes the line of the item that is whole with them, which is made in `line`
-/// before it goes out.
-fn show_line<W: Write>(
+/// Takes some of the bytes that wait, and writes the lines of the items that are whole with them, which are made in
+/// `lines` before they go out. Those before a fault go out before it is answered.
+fn show_lines<W: Write>(
     alloc: Global,
     reader: &mut StreamReader<TreeBuilder>,
-    line: &mut Vec<u8>,
+    lines: &mut Vec<u8>,
+    room: &mut Vec<u8>,
     output: &mut Output<W>,
 ) -> Result<(), ToolFault>
     requires { 0 < length (waits_in reader.old) }
@@ -103,7 +106,8 @@ fn show_line<W: Write>(
     ensures limits { limits_of (session_of reader.new) ≡ limits_of (session_of reader.old) }
     ensures writes { CountsOnlyWrites (failed_writes output.old) (failed_writes output.new) result }
 {
-    line.clear();
-    next_line(alloc, reader, line)?;
-    Ok(output.send_all(line)?)
+    lines.clear();
+    let made = next_lines(alloc, reader, lines, room);
+    output.send_all(lines)?;
+    Ok(made?)
 }

@@ -1,5 +1,5 @@
 -- Where a run stands that writes lines. For private clauses.
-use Rattle.std.specs.Prelude.{◌≡◌, ℕ, ◌<◌, List, [], ◌++◌, Option, Some, None, Result, Ok, Err}
+use Rattle.std.specs.Prelude.{◌≡◌, ℕ, ◌<◌, List, [], ◌++◌, length, Option, Some, None, Result, Ok, Err}
 use Rattle.std.specs.Io.KnownBytes.{Appends}
 use Rattle.gob_num.specs.declared.memory.Memory.{Memory}
 use Rattle.gob_read.specs.Calls.Builders.{tree_building}
@@ -13,7 +13,7 @@ use Rattle.gob_stream.specs.Calls.Session.{HasBodyNext, IsBetweenItems, limits_o
 use Rattle.gob_stream.specs.Item.{StreamItem, item_view, puts}
 use Rattle.gob_stream.specs.declared.fault.Fault.{Fault}
 use Rattle.gob_stream.specs.declared.item.Item as declared
-use Rattle.gob_stream.specs.Calls.Reader.{HasReadFrom, StopsFrom, session_of, waits_in}
+use Rattle.gob_stream.specs.Calls.Reader.{Begins, HasReadFrom, StopsFrom, session_of, waits_in}
 use Rattle.gob_stream.specs.declared.stream_reader.StreamReader.{StreamReader}
 use Rattle.gob_tool.specs.declared.fault.ToolFault.{ToolFault}
 use Rattle.gob_tool.specs.Line.{line, lines}
@@ -37,10 +37,26 @@ pub record MakesLines (r r' : Trees) (read now : Option (List ℕ)) (given : Lis
   pub onward : taken_of (session_of r) < taken_of (session_of r')
   pub made_of : made ≡ lines (types_of (session_of r')) more
 
-abbrev pub MakesLine : (r r' : Trees) → (read now : Option (List ℕ)) → List StreamItem → (made : List ℕ)
+-- the reader is as it was, and there are no lines; or they are those of items that it went past
+pub data PassesLines (r r' : Trees) (made : List ℕ) : Type 0 where
+  passes_none : r' ≡ r → made ≡ [] → PassesLines r r' made
+  passes_some : 0 < length made
+      → ((read now : Option (List ℕ)) (given : List StreamItem) → HasReadFrom tree_building r read now given
+      → MakesLines r r' read now given made) → PassesLines r r' made
+
+-- why no more items come behind these, where the lines of those behind the ones that were given are made
+pub record StopsBehind (r : Trees) (read now : Option (List ℕ)) (given : List StreamItem) (made : List ℕ)
+    (e : Fault) : Type 0 where
+  pub more : List StreamItem
+  pub begins : (bytes : List ℕ) → read ≡ Some bytes
+      → Begins (within_trees (limits_of (session_of r))) (types_of (session_of r)) (given ++ more) bytes
+  pub stops : StopsFrom tree_building (session_of r) read now (given ++ more) e
+  pub made_of : made ≡ lines (types_of (session_of r)) more
+
+abbrev pub MakesNext : (r r' : Trees) → (read now : Option (List ℕ)) → List StreamItem → (made : List ℕ)
     → Result (Unit {0}) Fault → Type 0
-MakesLine r r' read now given made (Ok _) = MakesLines r r' read now given made
-MakesLine r r' read now given made (Err e) = StopsFrom tree_building (session_of r) read now given e
+MakesNext r r' read now given made (Ok _) = MakesLines r r' read now given made
+MakesNext r r' read now given made (Err e) = StopsBehind r read now given made e
 
 -- the line of the item of a value that waits as a whole
 pub record IsWholeLine (r : Trees) (used : ℕ) (made : List ℕ) : Type 0 where
@@ -53,17 +69,18 @@ pub record IsWholeLine (r : Trees) (used : ℕ) (made : List ℕ) : Type 0 where
   pub whole : IsWhole (types_of (session_of r)) id depth body
   pub made_of : made ≡ line (types_of (session_of r)) (puts id whole.value)
 
-abbrev pub MakesWhole : (r : Trees) → (made : List ℕ) → Result (Option ℕ) Memory → Type 0
-MakesWhole r made (Ok (Some used)) = IsWholeLine r used made
-MakesWhole r made (Ok None) = made ≡ []
-MakesWhole r made (Err _) = Unit {0}
+-- it was appended, or nothing was
+abbrev pub MakesWhole : (r : Trees) → (old new : List ℕ) → Result (Option ℕ) Memory → Type 0
+MakesWhole r old new (Ok (Some used)) = (made : List ℕ) × IsWholeLine r used made × (new ≡ old ++ made)
+MakesWhole r old new (Ok None) = new ≡ old
+MakesWhole r old new (Err _) = new ≡ old
 
 -- the line of what a step gave
 abbrev pub line_given : Table → Option (declared.Item Value) → List ℕ
 line_given T None = []
 line_given T (Some given) = line T (item_view given)
 
--- the line went out, or a prefix of it
+-- the lines went out, or a prefix of them
 abbrev pub ShowsNext : (r r' : Trees) → (read now : Option (List ℕ)) → List StreamItem → (old new : Option (List ℕ))
     → Result (Unit {0}) ToolFault → Type 0
 ShowsNext r r' read now given old new (Ok _) = (made : List ℕ) × MakesLines r r' read now given made

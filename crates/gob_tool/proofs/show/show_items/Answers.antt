@@ -30,8 +30,8 @@ returns-in_err-reader-clause-shown g c = λ bytes known.
     known
     (Appends-nil out))
 
-pub loop-line-init : goal.loop-line-init
-loop-line-init g c =
+pub items-init : goal.items-init
+items-init g c =
     let read = g.R.Read.remaining (reader_of c.args.input.now) in (
       c.in_ok-reader.ensures.limits,
       refl,
@@ -42,13 +42,13 @@ loop-line-init g c =
 
 pub returns-in_err-fill-clause-shown : goal.returns-in_err-fill-clause-shown
 returns-in_err-fill-clause-shown g c = λ bytes known.
-    let i = c.loop-line.invariant in
+    let i = c.items.invariant in
     let e = c.in_err-fill.field-0.0 in
     let read = g.R.Read.remaining (reader_of c.args.input.now) in
     let next = g.R.Read.remaining (reader_of c.fill.new.input) in
     let old = g.W.Write.contents (writer_of c.args.output.now) in
-    let out = g.W.Write.contents (writer_of c.loop-line.output) in
-    let s = session_of c.loop-line.reader in
+    let out = g.W.Write.contents (writer_of c.items.output) in
+    let s = session_of c.items.reader in
     at_error (λ r. ShowAnswers (within_trees c.args.limits) bytes next old out r) c.from_residual-in_err-fill.result
     (reading_fault e) c.from_residual-in_err-fill.ensures.1
     (runs_under (limits_of s) c.args.limits bytes next (OfLines (Appends old out)) (OfLines (AppendsPrefix old out))
@@ -61,32 +61,32 @@ returns-in_err-fill-clause-shown g c = λ bytes known.
 
 pub returns-in_err-fill-clause-reads : goal.returns-in_err-fill-clause-reads
 returns-in_err-fill-clause-reads g c =
-    let i = c.loop-line.invariant in
+    let i = c.items.invariant in
     let e = c.in_err-fill.field-0.0 in
     at_error (λ r. CountsReadFaults (failed_reads c.args.input.now) (failed_reads c.fill.new.input) r)
     c.from_residual-in_err-fill.result (reading_fault e) c.from_residual-in_err-fill.ensures.1
-    (stop_faults Bool (failed_reads c.args.input.now) (failed_reads c.loop-line.input) (failed_reads c.fill.new.input) e
+    (stop_faults Bool (failed_reads c.args.input.now) (failed_reads c.items.input) (failed_reads c.fill.new.input) e
     i.1
     c.in_err-fill.ensures.counted)
 
-pub loop-line-smaller : goal.loop-line-smaller
-loop-line-smaller g c =
-    let i = c.loop-line.invariant in
+pub items-smaller : goal.items-smaller
+items-smaller g c =
+    let i = c.items.invariant in
     let read = g.R.Read.remaining (reader_of c.args.input.now) in
     let next = g.R.Read.remaining (reader_of c.fill.new.input) in
-    let on = goes_on tree_building (session_of c.loop-line.reader) c.fill.new.self read next i.3.given
+    let on = goes_on tree_building (session_of c.items.reader) c.fill.new.self read next i.3.given
     c.in_ok-fill.field-0
     c.if-branch.true (c.in_ok-fill.ensures.filled read i.3.given i.3.has) in
     let m = (c.in_ok-show_next.ensures.shown read next i.3.given on.0).1 in
-    shows_fall c.loop-line.reader (taken_of (session_of c.loop-line.reader))
+    shows_fall c.items.reader (taken_of (session_of c.items.reader))
     (c.in_ok-show_next.ensures.limits ∙ c.in_ok-fill.ensures.limits) m.after (omega (arith, on.1, m.onward))
 
-pub loop-line-preserved : goal.loop-line-preserved
-loop-line-preserved g c =
-    let i = c.loop-line.invariant in
+pub items-preserved : goal.items-preserved
+items-preserved g c =
+    let i = c.items.invariant in
     let read = g.R.Read.remaining (reader_of c.args.input.now) in
     let next = g.R.Read.remaining (reader_of c.fill.new.input) in
-    let on = goes_on tree_building (session_of c.loop-line.reader) c.fill.new.self read next i.3.given
+    let on = goes_on tree_building (session_of c.items.reader) c.fill.new.self read next i.3.given
     c.in_ok-fill.field-0
     c.if-branch.true (c.in_ok-fill.ensures.filled read i.3.given i.3.has) in
     let shown = c.in_ok-show_next.ensures.shown read next i.3.given on.0 in (
@@ -99,14 +99,14 @@ loop-line-preserved g c =
 
 pub returns-in_err-flush_before_waiting-clause-shown : goal.returns-in_err-flush_before_waiting-clause-shown
 returns-in_err-flush_before_waiting-clause-shown g c = λ bytes known.
-    let i = c.loop-line.invariant in
+    let i = c.items.invariant in
     let e = c.in_err-flush_before_waiting.field-0.0 in
     let read = g.R.Read.remaining (reader_of c.args.input.now) in
     let next = g.R.Read.remaining (reader_of c.fill.new.input) in
     let old = g.W.Write.contents (writer_of c.args.output.now) in
     let new = g.W.Write.contents (writer_of c.flush_before_waiting.new.output) in
     let s = session_of c.show_next.new.reader in
-    let on = goes_on tree_building (session_of c.loop-line.reader) c.fill.new.self read next i.3.given
+    let on = goes_on tree_building (session_of c.items.reader) c.fill.new.self read next i.3.given
     c.in_ok-fill.field-0
     c.if-branch.true (c.in_ok-fill.ensures.filled read i.3.given i.3.has) in
     let shown = c.in_ok-show_next.ensures.shown read next i.3.given on.0 in
@@ -127,11 +127,11 @@ returns-in_err-flush_before_waiting-clause-reads g c =
     c.from_residual-in_err-flush_before_waiting.result (writing_fault e)
     c.from_residual-in_err-flush_before_waiting.ensures.1
     (reads_unread (failed_reads c.args.input.now) (failed_reads c.fill.new.input) (Err (writing_fault e))
-    (c.in_ok-fill.ensures.counted ∙ c.loop-line.invariant.1) (writing_unread e))
+    (c.in_ok-fill.ensures.counted ∙ c.items.invariant.1) (writing_unread e))
 
 pub returns-in_err-flush_before_waiting-clause-writes : goal.returns-in_err-flush_before_waiting-clause-writes
 returns-in_err-flush_before_waiting-clause-writes g c =
-    let i = c.loop-line.invariant in
+    let i = c.items.invariant in
     let e = c.in_err-flush_before_waiting.field-0.0 in
     at_error (λ r. CountsOnlyWrites (failed_writes c.args.output.now) (failed_writes c.flush_before_waiting.new.output)
     r)
@@ -143,15 +143,15 @@ returns-in_err-flush_before_waiting-clause-writes g c =
 
 pub returns-in_err-show_next-clause-shown : goal.returns-in_err-show_next-clause-shown
 returns-in_err-show_next-clause-shown g c = λ bytes known.
-    let i = c.loop-line.invariant in
+    let i = c.items.invariant in
     let f = c.in_err-show_next.field-0.0 in
     let read = g.R.Read.remaining (reader_of c.args.input.now) in
     let next = g.R.Read.remaining (reader_of c.fill.new.input) in
     let old = g.W.Write.contents (writer_of c.args.output.now) in
-    let out = g.W.Write.contents (writer_of c.loop-line.output) in
+    let out = g.W.Write.contents (writer_of c.items.output) in
     let new = g.W.Write.contents (writer_of c.show_next.new.output) in
     let s = session_of c.fill.new.self in
-    let on = goes_on tree_building (session_of c.loop-line.reader) c.fill.new.self read next i.3.given
+    let on = goes_on tree_building (session_of c.items.reader) c.fill.new.self read next i.3.given
     c.in_ok-fill.field-0
     c.if-branch.true (c.in_ok-fill.ensures.filled read i.3.given i.3.has) in
     at_error (λ r. ShowAnswers (within_trees c.args.limits) bytes next old new r)
@@ -169,16 +169,16 @@ returns-in_err-show_next-clause-reads g c =
     at_error (λ r. CountsReadFaults (failed_reads c.args.input.now) (failed_reads c.fill.new.input) r)
     c.from_residual-in_err-show_next.result f c.from_residual-in_err-show_next.ensures.1
     (reads_unread (failed_reads c.args.input.now) (failed_reads c.fill.new.input) (Err f)
-    (c.in_ok-fill.ensures.counted ∙ c.loop-line.invariant.1) c.in_err-show_next.ensures.unread)
+    (c.in_ok-fill.ensures.counted ∙ c.items.invariant.1) c.in_err-show_next.ensures.unread)
 
 pub returns-clause-shown : goal.returns-clause-shown
 returns-clause-shown g c = λ bytes known.
-    let i = c.loop-line.invariant in
+    let i = c.items.invariant in
     let read = g.R.Read.remaining (reader_of c.args.input.now) in
     let next = g.R.Read.remaining (reader_of c.fill.new.input) in
     let old = g.W.Write.contents (writer_of c.args.output.now) in
-    let out = g.W.Write.contents (writer_of c.loop-line.output) in
-    let s = session_of c.loop-line.reader in
+    let out = g.W.Write.contents (writer_of c.items.output) in
+    let s = session_of c.items.reader in
     let end = has_ended tree_building s c.fill.new.self read next i.3.given c.in_ok-fill.field-0
     c.if-branch.false (c.in_ok-fill.ensures.filled read i.3.given i.3.has) in
     runs_under (limits_of s) c.args.limits bytes next (OfLines (Appends old out)) (OfLines (AppendsPrefix old out))
@@ -186,4 +186,4 @@ returns-clause-shown g c = λ bytes known.
     (shown_whole (OfLines (Appends old out)) (end.0 bytes known) (i.3.out bytes known))
 
 pub returns-clause-reads : goal.returns-clause-reads
-returns-clause-reads g c = c.in_ok-fill.ensures.counted ∙ c.loop-line.invariant.1
+returns-clause-reads g c = c.in_ok-fill.ensures.counted ∙ c.items.invariant.1

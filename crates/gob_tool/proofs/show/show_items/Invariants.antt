@@ -6,13 +6,13 @@ use Rattle.gob_stream.specs.Calls.Reader.{session_of}
 use Rattle.gob_tool.specs.Machine.Lines.{ShowsSo}
 use Rattle.gob_tool.proofs.show.show_items.Given as goal
 
-abbrev pub invariant-loop-line : goal.invariant-loop-line
-invariant-loop-line g l =
+abbrev pub invariant-items : goal.invariant-items
+invariant-items g l =
     (limits_of (session_of l.reader) ≡ l.fn.limits)
     × (failed_reads l.input ≡ failed_reads l.fn.input)
     × (failed_writes l.output ≡ failed_writes l.fn.output)
     × ShowsSo l.reader (g.R.Read.remaining (reader_of l.fn.input)) (g.R.Read.remaining (reader_of l.input))
     (g.W.Write.contents (writer_of l.fn.output)) (g.W.Write.contents (writer_of l.output))
 
-abbrev pub decreases-loop-line : goal.decreases-loop-line
-decreases-loop-line g l = (limits_of (session_of l.reader)).stream + 9 - taken_of (session_of l.reader)
+abbrev pub decreases-items : goal.decreases-items
+decreases-items g l = (limits_of (session_of l.reader)).stream + 9 - taken_of (session_of l.reader)

@@ -30,16 +30,16 @@ returns-then-branch-clause-shown g c = λ read now given h.
     (g.W.Write.contents (writer_of c.show_large.new.output)) given c.in_ok-show_large.field-0 c.if-branch.true
     (c.in_ok-show_large.ensures.shown read now given h)
 
-pub show_line-requires : goal.show_line-requires
-show_line-requires g c =
+pub show_lines-requires : goal.show_lines-requires
+show_lines-requires g c =
     let same = none_shown c.in_ok-show_large.field-0 c.if-branch.false c.in_ok-show_large.ensures.same in
     omega (arith, ap (λ r. length (waits_in r)) same.0, c.requires)
 
 pub returns-clause-shown : goal.returns-clause-shown
 returns-clause-shown g c = λ read now given h.
     let same = none_shown c.in_ok-show_large.field-0 c.if-branch.false c.in_ok-show_large.ensures.same in
-    next_still g.W.Write.contents c.args.reader.now c.show_large.new.reader c.show_line.new.reader c.args.output.now
-    c.show_large.new.output c.show_line.new.output read now given c.show_line.result same c.show_line.ensures.shown h
+    next_still g.W.Write.contents c.args.reader.now c.show_large.new.reader c.show_lines.new.reader c.args.output.now
+    c.show_large.new.output c.show_lines.new.output read now given c.show_lines.result same c.show_lines.ensures.shown h
 
 pub returns-in_err-show_large-clause-writes : goal.returns-in_err-show_large-clause-writes
 returns-in_err-show_large-clause-writes g c =

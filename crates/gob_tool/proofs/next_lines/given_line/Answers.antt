@@ -7,14 +7,14 @@ use Rattle.gob_stream.specs.Item.{item_view}
 use Rattle.gob_tool.specs.Line.{item_json}
 use Rattle.gob_tool.specs.Machine.Lines.{line_given}
 use Rattle.gob_tool.proofs.PrintLaws.{printed}
-use Rattle.gob_tool.proofs.next_line.given_line.Goals as goal
+use Rattle.gob_tool.proofs.next_lines.given_line.Goals as goal
 
 pub returns : goal.returns
 returns c =
     let T = types c.args.table.now in
     let shown = item_json T (item_view c.in-Some.item) in
-    let tokens : c.write_item-written.new.out.tokens ≡ json_tokens (outline shown) = search rules in
-    let before = c.write_item-written.ensures.before ∙ c.new-out.ensures.before
+    let tokens : c.write_item.new.out.tokens ≡ json_tokens (outline shown) = search rules in
+    let before = c.write_item.ensures.before ∙ c.new-out.ensures.before
     ∙ ap (λ v. v.items) c.replace.ensures.value ∙ c.requires in
-    let text = printed shown _ _ _ c.into_inner.ensures.items before tokens in
+    let text = printed shown _ _ _ c.into_inner-made.ensures.items before tokens in
     c.in_ok-push.ensures.items ∙ ap (λ (l : List ℕ). l ++ 10 ∷ []) text ∙ sym (ap (λ o. line_given T o) c.in-Some.is)
