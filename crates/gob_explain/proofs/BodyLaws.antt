@@ -1,5 +1,5 @@
 -- A value behind its tag, or a struct without one.
-use Rattle.std.proofs.Common.{◌≡◌, ℕ, ◌≤◌, List, [], ◌∷◌, ◌++◌, take, Some, refl, sym, ap, ◌∙◌, subst}
+use Rattle.std.proofs.Common.{◌≡◌, ℕ, ◌≤◌, List, [], ◌∷◌, ◌++◌, Some, refl, sym, ap, subst}
 use Rattle.std.proofs.Common.{arith, zero-add}
 use Rattle.gob_num.specs.Unsigned.{IsUnsigned, short}
 use Rattle.gob_num.proofs.PublicLaws.{unsigned_unique}
@@ -9,13 +9,10 @@ use Rattle.gob_types.specs.declared.kind.Kind.{Kind}
 use Rattle.gob_types.specs.declared.kind.Kind.TheVariants as kind
 use Rattle.gob_types.specs.declared.kind.Shape.{Shape}
 use Rattle.gob_types.specs.Table.{Table, shape_of}
-use Rattle.gob_value.specs.Spelling.{Spells}
 use Rattle.gob_value.specs.Top.{IsStruct, SpellsTop, at_once, tagged}
-use Rattle.gob_read.specs.Expected.{tag}
 use Rattle.gob_read.specs.Expects.{ExpectsTop, in_struct, behind_tag}
-use Rattle.gob_explain.specs.Walk.{BeginsPart, between}
-use Rattle.gob_explain.specs.Machine.Walking.{AllowsRange, EndsWhole, SpellsOne}
-use Rattle.gob_explain.proofs.WalkLaws.{take_between}
+use Rattle.gob_explain.specs.Walk.{BeginsPart}
+use Rattle.gob_explain.specs.Machine.Walking.{SpellsOne, SpellsWhole}
 
 pub struct_begins : {T : Table} {t : TypeId} {s : Shape} → shape_of T t ≡ Some s → IsStruct s.kind
     → BeginsPart T t [] t 0
@@ -30,32 +27,24 @@ value_begins {T = T} {t = t} f n = record {
 }
 
 -- a tag is one byte
-pub tag_is : (n : ℕ) (body : List ℕ) (b : ℕ) → n ≤ 0 → IsUnsigned n (between 0 b body) → take b body ≡ 0 ∷ []
-tag_is n body b l q =
+pub tag_is : {n : ℕ} {b : List ℕ} → n ≤ 0 → IsUnsigned n b → b ≡ 0 ∷ []
+tag_is {n = n} {b = b} l q =
     let none : n ≡ 0 = omega arith in
     let zero : IsUnsigned 0 (0 ∷ []) = short (omega arith) in
-    sym (take_between body 0 b (omega arith))
-    ∙ unsigned_unique (subst (λ k. IsUnsigned k (between 0 b body)) none q) zero
-
-pub struct_whole_top : {T : Table} {t : TypeId} {s : Shape} (body : List ℕ) (end : ℕ) → shape_of T t ≡ Some s
-    → IsStruct s.kind → SpellsOne T t (between 0 end body) → EndsWhole T t body end
-struct_whole_top {T = T} {t = t} body end f i q =
-    (q.0, at_once f i (subst (Spells T t q.0) (take_between body 0 end (omega arith)) q.1))
-
-pub tagged_whole_top : {T : Table} {t : TypeId} {s : Shape} (body : List ℕ) (b end : ℕ) → shape_of T t ≡ Some s
-    → ¬ IsStruct s.kind → b ≤ end → take b body ≡ 0 ∷ [] → SpellsOne T t (between b end body) → EndsWhole T t body end
-tagged_whole_top {T = T} {t = t} body b end f n l e q = (
-  q.0,
-  subst (SpellsTop T t q.0)
-      (ap (λ r. r ++ between b end body) (sym e) ∙ take_between body b end l) (tagged f n q.1),
-)
+    unsigned_unique (subst (λ k. IsUnsigned k b) none q) zero
 
 pub value_begins_at : {T : Table} {t u : TypeId} {p q : List ℕ} {around : ℕ} → q ≡ p → BeginsPart T t p u around
     → BeginsPart T t q u around
 value_begins_at {T = T} {t = t} {u = u} {around = around} e b = subst (λ p. BeginsPart T t p u around) (sym e) b
 
-pub tag_range : AllowsRange tag 0 0
-tag_range n l = (λ p. omega (arith, p.1), λ u. (omega arith, omega arith))
+pub struct_whole_top : {T : Table} {t : TypeId} {s : Shape} (b : List ℕ) → shape_of T t ≡ Some s
+    → IsStruct s.kind → SpellsOne T t b → SpellsWhole T t b
+struct_whole_top b f i q = (q.0, at_once f i q.1)
+
+pub tagged_whole_top : {T : Table} {t : TypeId} {s : Shape} (c b : List ℕ) → shape_of T t ≡ Some s
+    → ¬ IsStruct s.kind → c ≡ 0 ∷ [] → SpellsOne T t b → SpellsWhole T t (c ++ b)
+tagged_whole_top {T = T} {t = t} c b f n e q =
+    (q.0, subst (SpellsTop T t q.0) (ap (λ r. r ++ b) (sym e)) (tagged f n q.1))
 
 pub no_struct : (k : Kind) → ((fields : declared.Fields) → ¬ (k ≡ kind.Struct fields)) → ¬ IsStruct k
 no_struct (kind.Struct fields) n = λ i. n fields refl

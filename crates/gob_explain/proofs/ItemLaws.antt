@@ -1,6 +1,6 @@
 -- Lines of an item: of its count, its type number and its body.
 use Rattle.std.proofs.Common.{◌≡◌, ℕ, ◌+◌, ◌*◌, ◌^◌, ◌<◌}
-use Rattle.std.proofs.Common.{◌≤◌, Bool, List, [], ◌∷◌, ◌++◌, length, take, drop}
+use Rattle.std.proofs.Common.{◌≤◌, Bool, List, [], ◌++◌, length, take, drop}
 use Rattle.std.proofs.Common.{refl, sym, ap, ◌∙◌, subst, append_assoc, length-drop, arith}
 use Rattle.std.proofs.lemmas.List.{length-take-le, take-append-drop}
 use Rattle.std.specs.Prelude.{Option, Ok}
@@ -9,22 +9,23 @@ use Rattle.gob_num.specs.Place.{IsUnsignedAt, NoNumberStandsAt}
 use Rattle.gob_num.specs.Signed.{not_negative, negative}
 use Rattle.gob_num.specs.Unsigned.{IsUnsigned}
 use Rattle.gob_types.specs.Base.{wire_type}
-use Rattle.gob_types.specs.Ready.{IsReady}
 use Rattle.gob_types.specs.Table.{Table}
 use Rattle.gob_types.specs.declared.id.TypeId.{TypeId}
 use Rattle.gob_read.proofs.Machine.Pieces.{take_further}
-use Rattle.gob_explain.specs.Body.{EndsSo}
+use Rattle.gob_explain.specs.Body.{EndsSo, begins_value}
 use Rattle.gob_explain.specs.Column.{ColumnIs, HasLineAdded, line_text, no_line, saturated}
 use Rattle.gob_explain.specs.Items.{HasBodyLines, HasItemLines, HasItemShown, HasSomeLine, LineOfRest, LinesOfBody}
-use Rattle.gob_explain.specs.Items.{LinesOfItem, NamesBody, no_count, no_rows, no_type_number, none_left, of_body}
+use Rattle.gob_explain.specs.Items.{LinesOfItem, NamesBody, no_count, no_type_number, none_left, of_body}
 use Rattle.gob_explain.specs.Items.{of_definition, of_value, rows_lead, some_left}
 use Rattle.gob_explain.specs.Machine.Printing.{AreInOrder, HasLines, HasPrinted, HasTold, PrintsRows}
+use Rattle.gob_explain.specs.Open.{Open}
 use Rattle.gob_explain.specs.Walk.{RowsLead, between}
+use Rattle.gob_explain.specs.Walk as walk
 use Rattle.gob_explain.specs.declared.row.Row.{Row}
 use Rattle.gob_explain.specs.declared.text.printer.Line.{Line}
 use Rattle.gob_explain.proofs.ColumnLaws.{column_as, column_on, columns_join, one_line}
 use Rattle.gob_explain.proofs.RowLaws.{append_nil}
-use Rattle.gob_explain.proofs.WalkLaws.{take_between}
+use Rattle.gob_explain.proofs.BetweenLaws.{take_between}
 
 -- ---- type numbers
 pub names_value : (n half : ℕ) (t : TypeId) (b : List ℕ) → n ≡ 2 * half → t.0 ≡ half → IsUnsigned n b → NamesBody b t
@@ -34,20 +35,11 @@ pub names_definition : (n half : ℕ) (b : List ℕ) → n ≡ 2 * half + 1 → 
 names_definition n half b e u = of_definition (negative (subst (λ k. IsUnsigned k b) e u))
 
 -- ---- rows of a body
-pub in_order : (T : Table) (t : TypeId) (body : List ℕ) (at end : ℕ) (rows : List Row) → RowsLead T t body at rows end
-    → AreInOrder (length body) at rows end
-in_order T t body at end [] l = l
-in_order T t body at end (r ∷ rows) l = (l.0, l.1.order, l.1.inside, in_order T t body r.end end rows l.2)
-
-pub no_body : (T : Table) (t : TypeId) (offset : ℕ) (body old : List ℕ) → ¬ IsReady T t
-    → HasBodyLines T t offset body old old 0
-no_body T t offset body old n = record {
-  text = [];
-  added = sym (append_nil old);
-  rows = no_rows n;
-  inside = omega arith;
-  column = no_line;
-}
+pub in_order : {T : Table} {body : List ℕ} {opens last : List Open} {at end : ℕ} {rows : List Row}
+    → RowsLead T body opens at rows last end → AreInOrder (length body) at rows end
+in_order walk.no_row = refl
+in_order (walk.row_then r order inside s more) = (refl, order, inside, in_order more)
+in_order (walk.end_then ends more) = in_order more
 
 -- ---- lines of an item
 pub no_item_lines : (T : Table) (offset : ℕ) (bytes old : List ℕ) → NoNumberStandsAt bytes 0
@@ -162,18 +154,19 @@ rest_shown T offset place p bytes rest meaning old mid new l is is_rest h line =
 -- ---- of what a printer was told
 pub body_shown : (T : Table) (t : TypeId) (offset : ℕ) (body old new : List ℕ) (U : Table) (o : ℕ) (b : List ℕ)
     (line : Option Line) (before : List ℕ) (V : Table) (o' : ℕ) (b' : List ℕ) (line' : Option Line)
-    (after text : List ℕ) (place : ℕ) (rows : List Row) (whole : Bool) → IsReady T t → RowsLead T t body 0 rows place
-    → place ≤ length body → EndsSo T t body 1000 whole place → U ≡ T → o ≡ offset → b ≡ body
+    (after text : List ℕ) (place : ℕ) (rows : List Row) (opens : List Open) (whole : Bool)
+    → RowsLead T body (begins_value t) 0 rows opens place
+    → place ≤ length body → EndsSo T t body 1000 whole opens place → U ≡ T → o ≡ offset → b ≡ body
     → HasTold T offset body line before [] 0 → PrintsRows U o b line before V o' b' line' after rows (Ok tt)
     → ((rows : List Row) (at : ℕ) → HasPrinted V o' b' line' after rows at → HasLines V o' b' rows at text)
     → new ≡ old ++ text → HasBodyLines T t offset body old new place
-body_shown T t offset body old new U o b line before V o' b' line' after text place rows whole r l i e is_T is_o is_b
-    first told finish a =
+body_shown T t offset body old new U o b line before V o' b' line' after text place rows opens whole l i e is_T is_o
+    is_b first told finish a =
     let begun = subst (λ (U : Table). HasTold U o b line before [] 0) (sym is_T)
     (subst (λ (n : ℕ). HasTold T n b line before [] 0) (sym is_o)
     (subst (λ (c : List ℕ). HasTold T offset c line before [] 0) (sym is_b) first)) in
     let order = subst (λ (c : List ℕ). AreInOrder (length c) 0 rows place) (sym is_b)
-    (in_order T t body 0 place rows l) in
+    (in_order l) in
     let printed : HasPrinted U o b line' after rows place = (told.3 [] 0 place order begun).0 in
     let there : HasPrinted V o' b' line' after rows place =
     subst (λ (U : Table). HasPrinted U o' b' line' after rows place) (sym told.0)
@@ -187,7 +180,7 @@ body_shown T t offset body old new U o b line before V o' b' line' after text pl
     record {
       text = text;
       added = a;
-      rows = rows_lead rows whole r l e lines.lines;
+      rows = rows_lead rows opens whole l e lines.lines;
       inside = i;
       column = lines.column;
     }

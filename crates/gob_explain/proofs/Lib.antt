@@ -2,10 +2,14 @@ mod RowLaws
 mod PlaceLaws
 mod FrontLaws
 mod OneWayLaws
+mod BetweenLaws
+mod TakesLaws
 mod WalkLaws
+mod FillingLaws
 mod PartLaws
 mod BodyLaws
 mod ReachLaws
+mod OneRunLaws
 pub mod ColumnLaws
 mod LineLaws
 mod NameLaws

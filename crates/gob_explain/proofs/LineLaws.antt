@@ -16,7 +16,7 @@ use Rattle.gob_explain.specs.declared.row.What.{What}
 use Rattle.gob_explain.specs.declared.row.What.TheVariants as what
 use Rattle.gob_explain.specs.declared.text.printer.Line.{Line}
 use Rattle.gob_explain.proofs.ColumnLaws.{column_as, column_on}
-use Rattle.gob_explain.proofs.WalkLaws.{take_between}
+use Rattle.gob_explain.proofs.BetweenLaws.{take_between}
 
 -- ---- the last of rows
 last_row_snoc : (s : Row) (rows : List Row) (r : Row) → last_row s (rows ++ r ∷ []) ≡ r
@@ -257,6 +257,12 @@ opens_delta T r e h = open_as (shape_of T r.id) r.number r.what what.Delta e h
 pub ends_tag : (T : Table) (r : Row) → r.what ≡ what.Tag → ¬ IsOpen T r
 ends_tag T r e = closed_as (shape_of T r.id) r.number r.what what.Tag e (λ h. h)
 
+pub ends_type_number : (T : Table) (r : Row) → r.what ≡ what.TypeNumber → ¬ IsOpen T r
+ends_type_number T r e = closed_as (shape_of T r.id) r.number r.what what.TypeNumber e (λ h. h)
+
+pub ends_segment : (T : Table) (r : Row) → r.what ≡ what.Segment → ¬ IsOpen T r
+ends_segment T r e = closed_as (shape_of T r.id) r.number r.what what.Segment e (λ h. h)
+
 pub ends_first : (T : Table) (r : Row) → r.what ≡ what.First → ¬ IsFollowed (shape_of T r.id) r.number → ¬ IsOpen T r
 ends_first T r e h = closed_as (shape_of T r.id) r.number r.what what.First e h
 
@@ -280,6 +286,12 @@ behind_raw v e = subst StandsBehind (sym e) tt
 
 pub alone_tag : (v : What) → v ≡ what.Tag → ¬ StandsBehind v
 alone_tag v e = λ h. subst StandsBehind e h
+
+pub alone_type_number : (v : What) → v ≡ what.TypeNumber → ¬ StandsBehind v
+alone_type_number v e = λ h. subst StandsBehind e h
+
+pub alone_segment : (v : What) → v ≡ what.Segment → ¬ StandsBehind v
+alone_segment v e = λ h. subst StandsBehind e h
 
 pub alone_delta : (v : What) → v ≡ what.Delta → ¬ StandsBehind v
 alone_delta v e = λ h. subst StandsBehind e h

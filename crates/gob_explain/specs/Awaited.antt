@@ -22,7 +22,7 @@ basic_text basic.Float = codes "a float"
 basic_text basic.Complex = codes "the real part of a complex"
 basic_text basic.Bytes = codes "the count of the bytes"
 basic_text basic.Str = codes "the count of the bytes"
-basic_text basic.Interface = codes "0, an interface that is nil"
+basic_text basic.Interface = codes "0, an interface that is nil, or the count of a name"
 
 -- the first so many deltas that may come, each with the name of its field, from the field of this number on
 unfoldable pub delta_texts : List Field → (next count : ℕ) → List ℕ
@@ -58,6 +58,8 @@ what_text what.First s most = shape_text s most
 what_text what.Imaginary s most = codes "the imaginary part of a complex"
 what_text what.Raw s most = decimal most ++ codes " bytes"
 what_text what.Delta s most = shape_text s most
+what_text what.TypeNumber s most = codes "a type number"
+what_text what.Segment s most = codes "the count of a segment"
 
 abbrev pub awaited_text : Table → Awaited → List ℕ
 awaited_text T a = what_text a.what (shape_of T a.id) a.most

@@ -1,21 +1,37 @@
 -- Which rows a body has behind its type number, and how far they lead. (docs/FORMAT.md, Explained bytes: this
 -- project's own.)
-use Rattle.std.specs.Prelude.{ℕ, List, Bool, true, false, Result, Ok, Err}
+use Rattle.std.specs.Prelude.{◌≡◌, ℕ, List, [], ◌∷◌, Bool, true, false, Result, Ok, Err}
 use Rattle.gob_types.specs.declared.id.TypeId.{TypeId}
 use Rattle.gob_types.specs.Table.{Table}
+use Rattle.gob_value.specs.Tree.{Tree}
+use Rattle.gob_value.specs.Top.{SpellsTop}
 use Rattle.gob_explain.specs.declared.body.Walked.{Walked}
 use Rattle.gob_explain.specs.declared.row.Row.{Row}
+use Rattle.gob_explain.specs.Open.{Open, a_value}
 use Rattle.gob_explain.specs.Walk.{StopsAt}
-use Rattle.gob_explain.specs.Machine.Walking.{EndsWhole, Told}
+use Rattle.gob_explain.specs.Machine.Walking.{Told}
 
--- a value is whole at the place, or what comes next doesn't stand there
-abbrev pub EndsSo : Table → TypeId → List ℕ → (most : ℕ) → Bool → ℕ → Type 0
-EndsSo T t body most true place = EndsWhole T t body place
-EndsSo T t body most false place = StopsAt T t body most place
+-- a value of the type begins, which is no part of another
+abbrev pub begins_value : TypeId → List Open
+begins_value t = a_value t 0 [] ∷ []
+
+-- it is whole: its skeleton is
+pub record IsWholeValue (T : Table) (t : TypeId) (opens : List Open) : Type 0 where
+  pub skeleton : List ℕ
+  pub value : Tree
+  pub spelled : SpellsTop T t value skeleton
+  pub open_ : opens ≡ a_value t 0 skeleton ∷ []
+
+-- it is whole, or what comes next at the place doesn't stand there
+abbrev pub EndsSo : Table → TypeId → List ℕ → (most : ℕ) → Bool → List Open → ℕ → Type 0
+EndsSo T t body most true opens place = IsWholeValue T t opens
+EndsSo T t body most false opens place = StopsAt T body most opens place
 
 -- a sink was told of the rows up to the place, which is as far as they lead; or of some of them, and no more
 abbrev pub WalksBody : {O E : Type 0} → (O → O → List Row → Result (Unit {0}) E → Type 0) → Table → TypeId → List ℕ
     → (most : ℕ) → O → O → Result Walked E → Type 0
-WalksBody tells T t body most old new (Ok walked) =
-    Told tells T t body 0 old new (Ok tt) walked.place × EndsSo T t body most walked.whole walked.place
-WalksBody tells T t body most old new (Err e) = (place : ℕ) × Told tells T t body 0 old new (Err e) place
+WalksBody tells T t body most old new (Ok walked) = (opens : List Open)
+    × Told tells T body (begins_value t) 0 old new (Ok tt) opens walked.place
+    × EndsSo T t body most walked.whole opens walked.place
+WalksBody tells T t body most old new (Err e) =
+    (opens : List Open) × (place : ℕ) × Told tells T body (begins_value t) 0 old new (Err e) opens place

@@ -4,12 +4,12 @@ use Rattle.std.specs.Prelude.{◌≡◌, ℕ, pos, negsuc, ◌+◌, ◌<◌, ◌
 use Rattle.gob_num.specs.Place.{IsUnsignedAt, NoNumberStandsAt}
 use Rattle.gob_num.specs.Signed.{IsSigned}
 use Rattle.gob_types.specs.Base.{wire_type}
-use Rattle.gob_types.specs.Ready.{IsReady}
 use Rattle.gob_types.specs.Table.{Table}
 use Rattle.gob_types.specs.declared.id.TypeId.{TypeId}
-use Rattle.gob_explain.specs.Body.{EndsSo}
+use Rattle.gob_explain.specs.Body.{EndsSo, begins_value}
 use Rattle.gob_explain.specs.Column.{ColumnIs, HasLineAdded, line_text, saturated}
 use Rattle.gob_explain.specs.Lines.{AreLines}
+use Rattle.gob_explain.specs.Open.{Open}
 use Rattle.gob_explain.specs.Walk.{RowsLead, between}
 use Rattle.gob_explain.specs.declared.row.Row.{Row}
 
@@ -21,10 +21,9 @@ pub data NamesBody : List ℕ → TypeId → Type 0 where
 -- the text is the lines of rows of a body that lead to the place, and no further: a value is whole there, or what comes
 -- next doesn't stand there; of a type that isn't ready there are none
 pub data LinesOfBody (T : Table) (t : TypeId) (offset : ℕ) (body : List ℕ) : ℕ → List ℕ → Type 0 where
-  no_rows : ¬ IsReady T t → LinesOfBody T t offset body 0 []
-  rows_lead : {place : ℕ} {text : List ℕ} (rows : List Row) (whole : Bool) → IsReady T t
-      → RowsLead T t body 0 rows place → EndsSo T t body 1000 whole place → AreLines T offset body rows text
-      → LinesOfBody T t offset body place text
+  rows_lead : {place : ℕ} {text : List ℕ} (rows : List Row) (opens : List Open) (whole : Bool)
+      → RowsLead T body (begins_value t) 0 rows opens place → EndsSo T t body 1000 whole opens place
+      → AreLines T offset body rows text → LinesOfBody T t offset body place text
 
 -- the text is the lines of an item that begins at this offset of the stream, up to the place, which is as far as they
 -- lead: that of its count, that of its type number one level deeper, and those of its body

@@ -1,5 +1,6 @@
 pub mod Rows
 pub mod Laws
+pub mod Open
 pub mod Walk
 pub mod Machine
 pub mod Body

@@ -11,11 +11,13 @@ use Rattle.gob_explain.specs.declared.row.Row.{Row}
 use Rattle.gob_explain.specs.declared.row.What.{What}
 use Rattle.gob_explain.specs.declared.row.What.TheVariants as what
 
--- a part of this kind that begins with the number has a row more: a complex, and raw bytes where there are any
+-- a part of this kind that begins with the number has a row more: a complex, raw bytes where there are any, and the
+-- name of what an interface holds
 abbrev pub HasSecondRow : Kind → ℕ → Type 0
 HasSecondRow (kind.Basic basic.Complex) n = Unit {0}
 HasSecondRow (kind.Basic basic.Bytes) n = 0 < n
 HasSecondRow (kind.Basic basic.Str) n = 0 < n
+HasSecondRow (kind.Basic basic.Interface) n = 0 < n
 HasSecondRow (kind.Opaque marshal) n = 0 < n
 HasSecondRow _ n = ⊥
 
@@ -30,17 +32,21 @@ GoesOnBehind what.First s n = IsFollowed s n
 GoesOnBehind what.Imaginary s n = ⊥
 GoesOnBehind what.Raw s n = ⊥
 GoesOnBehind what.Delta s n = 0 < n
+GoesOnBehind what.TypeNumber s n = ⊥
+GoesOnBehind what.Segment s n = ⊥
 
 abbrev pub IsOpen : Table → Row → Type 0
 IsOpen T r = GoesOnBehind r.what (shape_of T r.id) r.number
 
--- a row may stand behind another one in a line: no tag, and no delta
+-- a row may stand behind another one in a line: no tag, no delta, no type number and no count of a segment
 abbrev pub StandsBehind : What → Type 0
 StandsBehind what.Tag = ⊥
 StandsBehind what.First = Unit {0}
 StandsBehind what.Imaginary = Unit {0}
 StandsBehind what.Raw = Unit {0}
 StandsBehind what.Delta = ⊥
+StandsBehind what.TypeNumber = ⊥
+StandsBehind what.Segment = ⊥
 
 -- the row behind the other one stands in its line
 abbrev pub SharesLine : Table → Row → Row → Type 0

@@ -57,11 +57,16 @@ abbrev pub field_in : Option Shape → ℕ → List ℕ
 field_in None n = []
 field_in (Some s) n = field_of_kind s.kind n
 
+-- what is held is told by the name of its type, or where that is empty by its id
+abbrev pub held_name : Table → TypeId → List ℕ
+held_name T t = known_or (type_name T t) (codes "type " ++ decimal t.0)
+
 abbrev pub step_text : Table → Step → List ℕ
 step_text T (step.Element i) = codes "[" ++ (decimal i ++ codes "]")
 step_text T (step.Key i) = codes "[" ++ (decimal i ++ codes "] key")
 step_text T (step.Value i) = codes "[" ++ (decimal i ++ codes "]")
 step_text T (step.Field t n) = codes "." ++ field_in (shape_of T t) n
+step_text T (step.Held t) = codes ".(" ++ (held_name T t ++ codes ")")
 
 -- the steps one behind another
 abbrev pub path_text : Table → List Step → List ℕ

@@ -1,7 +1,7 @@
 //! Laws of rows. Each function does nothing: its contract is a law that is proved here, once.
 
 ghost use Rattle.gob_explain.specs.Laws.{JoinToSpelling, JoinToTop, EachIsExplained, EachTopIsExplained};
-ghost use Rattle.gob_explain.specs.Reach.{LeadToThePlace};
+ghost use Rattle.gob_explain.specs.Reach.{AreOneRun, LeadToThePlace};
 ghost use Rattle.gob_explain.specs.Laws.{AreOneExplanation, StandWhereExpected, LeadEverywhere, AreCutAlike};
 
 /// The bytes of the rows that explain a value, joined, are its spelling: no byte is left out, added or moved.
@@ -36,8 +36,14 @@ pub fn rows_are_cut_alike()
     ensures { AreCutAlike }
 {}
 
-/// The rows of the bytes before a place at which something is expected lead to it, where nothing before lies too deep:
-/// what [`walk_body`](crate::walk_body) tells of bytes that end at a refused place are all the rows before it.
+/// There is one way to cut bytes into rows also where interfaces hold others, with the rows of what fills them.
+pub fn rows_of_fillings_are_cut_alike()
+    ensures { AreOneRun }
+{}
+
+/// The rows of the bytes before a place at which something is expected lead to it, where nothing before lies too deep
+/// and no interface holds another: what [`walk_body`](crate::walk_body) tells of bytes that end at a refused place are
+/// all the rows before it.
 pub fn rows_lead_to_the_place()
     ensures { LeadToThePlace }
 {}

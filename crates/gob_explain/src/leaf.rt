@@ -1,14 +1,16 @@
 //! The rows of one number, and of raw bytes.
 
-ghost use Rattle.std.specs.Prelude.{◌≡◌, ◌+◌, ◌<◌, ◌≤◌, ℕ, Some, IfOk, length, take};
+ghost use Rattle.std.specs.Prelude.{◌≡◌, ◌≢◌, ◌+◌, ◌<◌, ◌≤◌, ℕ, List, Some, IfOk, length};
 ghost use Rattle.gob_types.specs.declared.id.TypeId.{TypeId};
-ghost use Rattle.gob_types.specs.declared.basic.Basic.TheVariants as basic;
+ghost use Rattle.gob_types.specs.declared.basic.Basic.TheVariants as basics;
 ghost use Rattle.gob_types.specs.declared.kind.Kind.TheVariants as kind;
 ghost use Rattle.gob_types.specs.declared.kind.Shape.{Shape};
 ghost use Rattle.gob_types.specs.Table.{Table, shape_of};
 ghost use Rattle.gob_read.specs.Expected.{Allowed, a_number, first_allowed, raw};
-ghost use Rattle.gob_explain.specs.Walk.{BeginsPart, Comes, HasRawBytes, between};
-ghost use Rattle.gob_explain.specs.Machine.Walking.{AllowsRange, IsInRange, SpellsOne, Walks, ends_at, number_ends};
+ghost use Rattle.gob_explain.specs.Open.{Open};
+ghost use Rattle.gob_explain.specs.Walk.{BeginsPart, HasRawBytes, opened};
+ghost use Rattle.gob_explain.specs.Machine.Walking.{AllowsRange, IsInRange, SpellsOne, Takes, Walks, WalksNumber};
+ghost use Rattle.gob_explain.specs.Machine.Walking.{WalksRaw};
 
 use crate::row::{Awaited, Part, Row, What};
 use crate::sink::RowSink;
@@ -44,11 +46,11 @@ pub(crate) fn walk_number<O: RowSink>(
     out: &mut O,
 ) -> Result<(u64, usize), Stop<O::Fault>>
     ensures most { IfOk result (λ found. found.0 ≤ allowed.most) }
-    ensures walks { (T : Table) (t : TypeId) (a : Allowed) (most : ℕ) → at ≤ length body.now
-        → Comes T t (take at body.now) (a_number a) what part.id part.depth
+    ensures walks { (T : Table) (opens : List Open) (next : ℕ → List ℕ → List Open) (a : Allowed) (most : ℕ)
+        → at ≤ length body.now → Takes T opens (a_number a) what part.id part.depth next
         → AllowsRange a allowed.least allowed.most
-        → Walks O.tells T t body.now most at out.old out.new number_ends
-        (λ found. IsInRange allowed.least allowed.most body.now at found.0 found.1) result }
+        → WalksNumber O.tells T body.now most opens at out.old out.new next
+        (IsInRange allowed.least allowed.most body.now at) result }
 {
     let awaited = Awaited {
         what,
@@ -72,7 +74,7 @@ pub(crate) fn walk_number<O: RowSink>(
     Ok((number, end))
 }
 
-// Tells of so many raw bytes, if there are any, and where they end.
+// Tells of so many raw bytes, and where they end.
 pub(crate) fn walk_raw<O: RowSink>(
     part: Part,
     count: u64,
@@ -80,14 +82,10 @@ pub(crate) fn walk_raw<O: RowSink>(
     at: usize,
     out: &mut O,
 ) -> Result<usize, Stop<O::Fault>>
-    ensures { (T : Table) (t : TypeId) (most : ℕ) → at ≤ length body.now
-        → (0 < count → Comes T t (take at body.now) (raw count) What.Raw part.id part.depth)
-        → Walks O.tells T t body.now most at out.old out.new ends_at
-        (λ end. end ≡ at + count) result }
+    ensures { (T : Table) (opens : List Open) (next : ℕ → List ℕ → List Open) (most : ℕ) → at ≤ length body.now
+        → 0 < count → Takes T opens (raw count) What.Raw part.id part.depth next
+        → WalksRaw O.tells T body.now most opens at count out.old out.new next result }
 {
-    if count == 0 {
-        return Ok(at);
-    }
     if count > body.len().saturating_sub(at) as u64 {
         return Err(Stop::Here(
             at,
@@ -117,16 +115,19 @@ pub(crate) fn walk_counted<O: RowSink>(
     at: usize,
     out: &mut O,
 ) -> Result<usize, Stop<O::Fault>>
-    ensures { (T : Table) (t : TypeId) (s : Shape) (around most : ℕ) → around + 1 ≡ part.depth → at ≤ length body.now
-        → BeginsPart T t (take at body.now) part.id around → shape_of T part.id ≡ Some s → HasRawBytes s.kind
-        → Walks O.tells T t body.now most at out.old out.new ends_at
-        (λ end. SpellsOne T part.id (between at end body.now)) result }
+    ensures { (T : Table) (t : TypeId) (s : Shape) (base around most : ℕ) (p : List ℕ) (outer : List Open)
+        → base + around + 1 ≡ part.depth → at ≤ length body.now
+        → BeginsPart T t p part.id around → shape_of T part.id ≡ Some s → HasRawBytes s.kind
+        → Walks O.tells T body.now most t base p outer at out.old out.new (SpellsOne T part.id) result }
 {
     let (count, behind) = walk_number(What::First, part, Numbers::ANY, body, at, out)?;
+    if count == 0 {
+        return Ok(behind);
+    }
     walk_raw(part, count, body, behind, out)
 }
 
-// Tells of a basic value, and where it ends.
+// Tells of a basic value that is no interface, and where it ends.
 pub(crate) fn walk_basic<O: RowSink>(
     part: Part,
     basic: Basic,
@@ -134,10 +135,11 @@ pub(crate) fn walk_basic<O: RowSink>(
     at: usize,
     out: &mut O,
 ) -> Result<usize, Stop<O::Fault>>
-    ensures { (T : Table) (t : TypeId) (s : Shape) (around most : ℕ) → around + 1 ≡ part.depth → at ≤ length body.now
-        → BeginsPart T t (take at body.now) part.id around → shape_of T part.id ≡ Some s → s.kind ≡ kind.Basic basic
-        → Walks O.tells T t body.now most at out.old out.new ends_at
-        (λ end. SpellsOne T part.id (between at end body.now)) result }
+    ensures { (T : Table) (t : TypeId) (s : Shape) (base around most : ℕ) (p : List ℕ) (outer : List Open)
+        → base + around + 1 ≡ part.depth → at ≤ length body.now
+        → BeginsPart T t p part.id around → shape_of T part.id ≡ Some s → s.kind ≡ kind.Basic basic
+        → basic ≢ basics.Interface
+        → Walks O.tells T body.now most t base p outer at out.old out.new (SpellsOne T part.id) result }
 {
     match basic {
         Basic::Bytes => walk_counted(part, body, at, out),
@@ -157,24 +159,22 @@ fn walk_complex<O: RowSink>(
     at: usize,
     out: &mut O,
 ) -> Result<usize, Stop<O::Fault>>
-    ensures { (T : Table) (t : TypeId) (s : Shape) (around most : ℕ) → around + 1 ≡ part.depth → at ≤ length body.now
-        → BeginsPart T t (take at body.now) part.id around → shape_of T part.id ≡ Some s
-        → s.kind ≡ kind.Basic basic.Complex
-        → Walks O.tells T t body.now most at out.old out.new ends_at
-        (λ end. SpellsOne T part.id (between at end body.now)) result }
+    ensures { (T : Table) (t : TypeId) (s : Shape) (base around most : ℕ) (p : List ℕ) (outer : List Open)
+        → base + around + 1 ≡ part.depth → at ≤ length body.now
+        → BeginsPart T t p part.id around → shape_of T part.id ≡ Some s → s.kind ≡ kind.Basic basics.Complex
+        → Walks O.tells T body.now most t base p outer at out.old out.new (SpellsOne T part.id) result }
 {
     let (_, behind) = walk_number(What::First, part, Numbers::ANY, body, at, out)?;
     let (_, end) = walk_number(What::Imaginary, part, Numbers::ANY, body, behind, out)?;
     Ok(end)
 }
 
-// Which numbers a value of the basic type begins with.
+// Which numbers a value of the basic type begins with, where an interface may hold something.
 fn allowed_of(basic: Basic) -> Numbers
-    ensures { AllowsRange (first_allowed (kind.Basic basic)) result.least result.most }
+    ensures { AllowsRange (opened (first_allowed (kind.Basic basic))) result.least result.most }
 {
     match basic {
         Basic::Bool => Numbers { least: 0, most: 1 },
-        Basic::Interface => Numbers::NONE,
         _ => Numbers::ANY,
     }
 }

@@ -6,7 +6,7 @@ use crate::body::walk_body;
 use crate::row::{Row, Step};
 use crate::sink::RowSink;
 use gob_num::Memory;
-use gob_types::{Shapes, TypeId};
+use gob_types::{Table, TypeId};
 use std::alloc::Global;
 
 // No value is deeper that is gone over.
@@ -40,19 +40,20 @@ impl RowSink for Path {
     ghost joined = { λ a b c x y r p q. tt };
 }
 
-/// The steps from a value to the part that is under way where these bytes end, or to the one that is too deep there.
+/// The steps from a value to the part that is under way where these bytes end, or to the one that is too deep there,
+/// also in what an interface holds.
 /// `id` is the value's type, and `front` the bytes of its body behind the type number, up to the place that is asked
 /// for. Parts deeper than 1000 aren't looked at.
-pub fn path_to<S: Shapes>(
+pub fn path_to(
     alloc: Global,
-    shapes: &S,
+    table: &Table,
     id: TypeId,
     front: &[u8],
 ) -> Result<Vec<Step>, Memory> {
     let mut path = Path {
         steps: Vec::new(alloc),
     };
-    walk_body(shapes, id, front, MOST_DEPTH, &mut path)?;
+    walk_body(table, id, front, MOST_DEPTH, &mut path)?;
     let Path { steps } = path;
     Ok(steps)
 }

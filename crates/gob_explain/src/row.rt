@@ -8,17 +8,22 @@ pub enum What {
     /// The 0 before a value that is no struct.
     Tag,
     /// The first number of a part that is no struct: a basic number, the first pattern of a complex, a count of raw
-    /// bytes, of elements or of pairs.
+    /// bytes, of elements or of pairs; of an interface 0, or the count of the name of what it holds.
     First,
     /// The second pattern of a complex.
     Imaginary,
-    /// The raw bytes behind their count.
+    /// The raw bytes behind their count; of an interface the name of what it holds.
     Raw,
     /// The delta to the next field of a struct, or 0 at its end.
     Delta,
+    /// A type number in a filling: that of what an interface holds, or below 0 that of a definition.
+    TypeNumber,
+    /// A count in a filling: of the next segment behind a definition, or of the first one of what is held.
+    Segment,
 }
 
-/// A part of a value: its type, and how deep it lies. The value itself lies at depth 1.
+/// A part of a value: its type, and how deep it lies. The value itself lies at depth 1, the filling of an interface one
+/// deeper than that, and what it holds and the types that it defines one deeper than the filling.
 #[derive(Clone, Copy, Debug, PartialEq, Eq)]
 pub struct Part {
     /// The part's type.
@@ -45,7 +50,7 @@ pub struct Row {
     pub what: What,
     /// The type of the part that they belong to.
     pub id: TypeId,
-    /// How deep that part lies; 0 for a tag.
+    /// How deep that part lies; for a tag, how deep what is around the value does, which is 0 for that of an item.
     pub depth: u64,
     /// The number that the bytes spell, or how many raw bytes they are.
     pub number: u64,
@@ -82,4 +87,7 @@ pub enum Step {
         /// The number of the field, counted from 0.
         number: u64,
     },
+    /// Into the value of this type that an interface holds, or into the description of a type that is defined in front
+    /// of that, which has the type 16.
+    Held(TypeId),
 }

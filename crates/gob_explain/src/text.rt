@@ -1,6 +1,7 @@
 //! The rows of a body as lines of text.
 
 pub(crate) mod expected;
+pub(crate) mod heads;
 pub(crate) mod item;
 pub(crate) mod labels;
 pub(crate) mod lines;

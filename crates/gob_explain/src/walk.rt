@@ -1,26 +1,30 @@
-//! The walk over the bytes of a body, which tells a sink of their rows. It recurses as deep as the value is, at most
-//! 1000.
+//! The walk over the bytes of a body, which tells a sink of their rows: those of its value, and at an interface that
+//! holds something, of what fills it. It recurses as deep as the value is, at most 1000.
 
-ghost use Rattle.std.specs.Prelude.{◌≡◌, ◌+◌, ◌≤◌, ℕ, Some, length, take};
+ghost use Rattle.std.specs.Prelude.{◌≡◌, ◌+◌, ◌≤◌, ℕ, List, [], ◌∷◌, ◌++◌, Some, length};
+ghost use Rattle.gob_types.specs.Base.{wire_type};
+ghost use Rattle.gob_types.specs.Defined.{types};
 ghost use Rattle.gob_types.specs.declared.id.TypeId.{TypeId};
+ghost use Rattle.gob_types.specs.declared.basic.Basic.TheVariants as basics;
 ghost use Rattle.gob_types.specs.declared.kind.Kind.TheVariants as kind;
 ghost use Rattle.gob_types.specs.declared.kind.Shape.{Shape};
 ghost use Rattle.gob_types.specs.Ready.{IsReady};
 ghost use Rattle.gob_types.specs.Table.{shape_of};
-ghost use Rattle.gob_explain.specs.Walk.{BeginsPart, between};
+ghost use Rattle.gob_explain.specs.Open.{Open, a_filling, a_value, count, description, type_number};
+ghost use Rattle.gob_explain.specs.Walk.{BeginsPart};
 ghost use Rattle.gob_explain.specs.Machine.Walking.{BeginsEachKey, BeginsEachPart, BeginsEachValue, SpellsEntries};
-ghost use Rattle.gob_explain.specs.Machine.Walking.{SpellsMany, SpellsOne, Walks, ends_at};
+ghost use Rattle.gob_explain.specs.Machine.Walking.{SpellsMany, SpellsOne, SpellsWhole, Walks, WalksTo};
 
-use crate::leaf::{Numbers, walk_basic, walk_counted, walk_number};
-use crate::row::{Part, Step, What};
+use crate::leaf::{Numbers, walk_basic, walk_counted, walk_number, walk_raw};
+use crate::row::{Awaited, Part, Step, What};
 use crate::sink::RowSink;
 use crate::stop::Stop;
-use gob_types::{Fields, Kind, Shapes, TypeId};
+use gob_types::{Basic, Fields, Kind, Shapes, Table, TypeId};
 
-// Tells of the part that begins at the place, and where it ends.
+// Tells of a value and the tag before it, if it has one, and where the value ends.
 #[cycle(walk)]
-pub(crate) fn walk_part<S: Shapes, O: RowSink>(
-    shapes: &S,
+pub(crate) fn walk_value<O: RowSink>(
+    table: &Table,
     part: Part,
     body: &[u8],
     at: usize,
@@ -29,29 +33,63 @@ pub(crate) fn walk_part<S: Shapes, O: RowSink>(
 ) -> Result<usize, Stop<O::Fault>>
     requires most { most ≤ 1000 }
     requires depth { part.depth ≤ most + 1 }
-    ensures { (t : TypeId) (around : ℕ) → around + 1 ≡ part.depth → at ≤ length body.now
-        → IsReady (S.table shapes.now) part.id
-        → BeginsPart (S.table shapes.now) t (take at body.now) part.id around
-        → Walks O.tells (S.table shapes.now) t body.now most at out.old out.new ends_at
-        (λ end. SpellsOne (S.table shapes.now) part.id (between at end body.now)) result }
+    ensures { (base : ℕ) (outer : List Open) → base + 1 ≡ part.depth → at ≤ length body.now
+        → Walks O.tells (types table.now) body.now most part.id base [] outer at out.old out.new
+        (SpellsWhole (types table.now) part.id) result }
+{
+    if !table.kept(part.id) {
+        return Err(Stop::Here(at, part.awaited()));
+    }
+    let Some(shape) = table.shape_of(part.id) else {
+        return Err(Stop::Here(at, part.awaited()));
+    };
+    match &shape.kind {
+        Kind::Struct { .. } => walk_part(table, part, body, at, most, out),
+        _ => {
+            let tag = Part {
+                id: part.id,
+                depth: part.depth.saturating_sub(1),
+            };
+            let (_, behind) = walk_number(What::Tag, tag, Numbers::NONE, body, at, out)?;
+            walk_part(table, part, body, behind, most, out)
+        }
+    }
+}
+
+// Tells of the part that begins at the place, and where it ends.
+#[cycle(walk)]
+fn walk_part<O: RowSink>(
+    table: &Table,
+    part: Part,
+    body: &[u8],
+    at: usize,
+    most: u64,
+    out: &mut O,
+) -> Result<usize, Stop<O::Fault>>
+    requires most { most ≤ 1000 }
+    requires depth { part.depth ≤ most + 1 }
+    ensures { (t : TypeId) (base around : ℕ) (p : List ℕ) (outer : List Open) → base + around + 1 ≡ part.depth
+        → at ≤ length body.now → IsReady (types table.now) part.id → BeginsPart (types table.now) t p part.id around
+        → Walks O.tells (types table.now) body.now most t base p outer at out.old out.new
+        (SpellsOne (types table.now) part.id) result }
 {
     if part.depth > most {
         return Err(Stop::Here(at, part.awaited()));
     }
-    let Some(shape) = shapes.shape_of(part.id) else {
+    let Some(shape) = table.shape_of(part.id) else {
         return Err(Stop::Here(at, part.awaited()));
     };
     match &shape.kind {
-        Kind::Basic(basic) => walk_basic(part, *basic, body, at, out),
+        Kind::Basic(basic) => walk_basic_part(table, part, *basic, body, at, most, out),
         Kind::Opaque(_) => walk_counted(part, body, at, out),
-        Kind::Struct { fields } => walk_fields(shapes, part, fields, body, at, most, out),
+        Kind::Struct { fields } => walk_fields(table, part, fields, body, at, most, out),
         Kind::Slice { elem } => {
             let (count, behind) = walk_number(What::First, part, Numbers::ANY, body, at, out)?;
             let each = Part {
                 id: *elem,
                 depth: part.depth + 1,
             };
-            walk_elements(shapes, each, count, body, behind, most, out)
+            walk_elements(table, each, count, body, behind, most, out)
         }
         Kind::Array { elem, len } => {
             let allowed = Numbers {
@@ -63,7 +101,7 @@ pub(crate) fn walk_part<S: Shapes, O: RowSink>(
                 id: *elem,
                 depth: part.depth + 1,
             };
-            walk_elements(shapes, each, count, body, behind, most, out)
+            walk_elements(table, each, count, body, behind, most, out)
         }
         Kind::Map { key, elem } => {
             let (count, behind) = walk_number(What::First, part, Numbers::ANY, body, at, out)?;
@@ -72,15 +110,15 @@ pub(crate) fn walk_part<S: Shapes, O: RowSink>(
                 elem: *elem,
                 depth: part.depth + 1,
             };
-            walk_pairs(shapes, each, count, body, behind, most, out)
+            walk_pairs(table, each, count, body, behind, most, out)
         }
     }
 }
 
 // Tells of the part of another part to which the step leads, and where it ends.
 #[cycle(walk)]
-fn walk_step<S: Shapes, O: RowSink>(
-    shapes: &S,
+fn walk_step<O: RowSink>(
+    table: &Table,
     step: Step,
     part: Part,
     body: &[u8],
@@ -90,22 +128,21 @@ fn walk_step<S: Shapes, O: RowSink>(
 ) -> Result<usize, Stop<O::Fault>>
     requires most { most ≤ 1000 }
     requires depth { part.depth ≤ most + 1 }
-    ensures { (t : TypeId) (around : ℕ) → around + 1 ≡ part.depth → at ≤ length body.now
-        → IsReady (S.table shapes.now) part.id
-        → BeginsPart (S.table shapes.now) t (take at body.now) part.id around
-        → Walks O.tells (S.table shapes.now) t body.now most at out.old out.new ends_at
-        (λ end. SpellsOne (S.table shapes.now) part.id (between at end body.now)) result }
+    ensures { (t : TypeId) (base around : ℕ) (p : List ℕ) (outer : List Open) → base + around + 1 ≡ part.depth
+        → at ≤ length body.now → IsReady (types table.now) part.id → BeginsPart (types table.now) t p part.id around
+        → Walks O.tells (types table.now) body.now most t base p outer at out.old out.new
+        (SpellsOne (types table.now) part.id) result }
 {
     out.enter(step)?;
-    let end = walk_part(shapes, part, body, at, most, out)?;
+    let end = walk_part(table, part, body, at, most, out)?;
     out.leave();
     Ok(end)
 }
 
 // Tells of so many elements, each such a part, and where they end.
 #[cycle(walk)]
-fn walk_elements<S: Shapes, O: RowSink>(
-    shapes: &S,
+fn walk_elements<O: RowSink>(
+    table: &Table,
     each: Part,
     count: u64,
     body: &[u8],
@@ -115,15 +152,15 @@ fn walk_elements<S: Shapes, O: RowSink>(
 ) -> Result<usize, Stop<O::Fault>>
     requires most { most ≤ 1000 }
     requires depth { each.depth ≤ most + 1 }
-    ensures { (t : TypeId) (around : ℕ) → around + 1 ≡ each.depth → begin ≤ length body.now
-        → IsReady (S.table shapes.now) each.id
-        → BeginsEachPart (S.table shapes.now) t (take begin body.now) each.id count around
-        → Walks O.tells (S.table shapes.now) t body.now most begin out.old out.new ends_at
-        (λ end. SpellsMany (S.table shapes.now) each.id count (between begin end body.now)) result }
+    ensures { (t : TypeId) (base around : ℕ) (p : List ℕ) (outer : List Open) → base + around + 1 ≡ each.depth
+        → begin ≤ length body.now → IsReady (types table.now) each.id
+        → BeginsEachPart (types table.now) t p each.id count around
+        → Walks O.tells (types table.now) body.now most t base p outer begin out.old out.new
+        (SpellsMany (types table.now) each.id count) result }
 {
     let mut at = begin;
     'elements: for index in 0..count {
-        at = walk_step(shapes, Step::Element(index), each, body, at, most, out)?;
+        at = walk_step(table, Step::Element(index), each, body, at, most, out)?;
     }
     Ok(at)
 }
@@ -138,8 +175,8 @@ struct Entry {
 
 // Tells of so many pairs of a key and an element, and where they end.
 #[cycle(walk)]
-fn walk_pairs<S: Shapes, O: RowSink>(
-    shapes: &S,
+fn walk_pairs<O: RowSink>(
+    table: &Table,
     each: Entry,
     count: u64,
     body: &[u8],
@@ -149,13 +186,12 @@ fn walk_pairs<S: Shapes, O: RowSink>(
 ) -> Result<usize, Stop<O::Fault>>
     requires most { most ≤ 1000 }
     requires depth { each.depth ≤ most + 1 }
-    ensures { (t : TypeId) (around : ℕ) → around + 1 ≡ each.depth → begin ≤ length body.now
-        → IsReady (S.table shapes.now) each.key
-        → IsReady (S.table shapes.now) each.elem
-        → BeginsEachKey (S.table shapes.now) t (take begin body.now) each.key each.elem count around
-        → BeginsEachValue (S.table shapes.now) t (take begin body.now) each.key each.elem count around
-        → Walks O.tells (S.table shapes.now) t body.now most begin out.old out.new ends_at
-        (λ end. SpellsEntries (S.table shapes.now) each.key each.elem count (between begin end body.now)) result }
+    ensures { (t : TypeId) (base around : ℕ) (p : List ℕ) (outer : List Open) → base + around + 1 ≡ each.depth
+        → begin ≤ length body.now → IsReady (types table.now) each.key → IsReady (types table.now) each.elem
+        → BeginsEachKey (types table.now) t p each.key each.elem count around
+        → BeginsEachValue (types table.now) t p each.key each.elem count around
+        → Walks O.tells (types table.now) body.now most t base p outer begin out.old out.new
+        (SpellsEntries (types table.now) each.key each.elem count) result }
 {
     let keys = Part {
         id: each.key,
@@ -167,18 +203,18 @@ fn walk_pairs<S: Shapes, O: RowSink>(
     };
     let mut at = begin;
     'pairs: for index in 0..count {
-        let behind = walk_step(shapes, Step::Key(index), keys, body, at, most, out)?;
-        at = walk_step(shapes, Step::Value(index), elems, body, behind, most, out)?;
+        let behind = walk_step(table, Step::Key(index), keys, body, at, most, out)?;
+        at = walk_step(table, Step::Value(index), elems, body, behind, most, out)?;
     }
     Ok(at)
 }
 
 // Tells of the fields of a struct, and where it ends.
 #[cycle(walk)]
-fn walk_fields<S: Shapes, O: RowSink>(
-    shapes: &S,
+fn walk_fields<O: RowSink>(
+    table: &Table,
     part: Part,
-    types: &Fields,
+    fields: &Fields,
     body: &[u8],
     begin: usize,
     most: u64,
@@ -186,26 +222,26 @@ fn walk_fields<S: Shapes, O: RowSink>(
 ) -> Result<usize, Stop<O::Fault>>
     requires most { most ≤ 1000 }
     requires depth { part.depth ≤ most }
-    ensures { (t : TypeId) (around : ℕ) (s : Shape) → around + 1 ≡ part.depth → begin ≤ length body.now
-        → IsReady (S.table shapes.now) part.id
-        → shape_of (S.table shapes.now) part.id ≡ Some s → s.kind ≡ kind.Struct types.now
-        → BeginsPart (S.table shapes.now) t (take begin body.now) part.id around
-        → Walks O.tells (S.table shapes.now) t body.now most begin out.old out.new ends_at
-        (λ end. SpellsOne (S.table shapes.now) part.id (between begin end body.now)) result }
+    ensures { (t : TypeId) (base around : ℕ) (p : List ℕ) (outer : List Open) (s : Shape)
+        → base + around + 1 ≡ part.depth → begin ≤ length body.now → IsReady (types table.now) part.id
+        → shape_of (types table.now) part.id ≡ Some s → s.kind ≡ kind.Struct fields.now
+        → BeginsPart (types table.now) t p part.id around
+        → Walks O.tells (types table.now) body.now most t base p outer begin out.old out.new
+        (SpellsOne (types table.now) part.id) result }
 {
     let mut next = 0;
     let mut at = begin;
     'fields: loop {
         let allowed = Numbers {
             least: 0,
-            most: types.count().saturating_sub(next),
+            most: fields.count().saturating_sub(next),
         };
         let (delta, behind) = walk_number(What::Delta, part, allowed, body, at, out)?;
         if delta == 0 {
             return Ok(behind);
         }
         let number = next + delta - 1;
-        let Some(field) = types.get(number) else {
+        let Some(field) = fields.get(number) else {
             return Err(Stop::Here(at, part.awaited()));
         };
         let step = Step::Field {
@@ -216,7 +252,173 @@ fn walk_fields<S: Shapes, O: RowSink>(
             id: field.id,
             depth: part.depth + 1,
         };
-        at = walk_step(shapes, step, inner, body, behind, most, out)?;
+        at = walk_step(table, step, inner, body, behind, most, out)?;
         next = number + 1;
     }
+}
+
+// Tells of a part of this basic type, which may be an interface, and where it ends.
+#[cycle(walk)]
+fn walk_basic_part<O: RowSink>(
+    table: &Table,
+    part: Part,
+    basic: Basic,
+    body: &[u8],
+    at: usize,
+    most: u64,
+    out: &mut O,
+) -> Result<usize, Stop<O::Fault>>
+    requires most { most ≤ 1000 }
+    requires depth { part.depth ≤ most }
+    ensures { (t : TypeId) (base around : ℕ) (p : List ℕ) (outer : List Open) (s : Shape)
+        → base + around + 1 ≡ part.depth → at ≤ length body.now → BeginsPart (types table.now) t p part.id around
+        → shape_of (types table.now) part.id ≡ Some s → s.kind ≡ kind.Basic basic
+        → Walks O.tells (types table.now) body.now most t base p outer at out.old out.new
+        (SpellsOne (types table.now) part.id) result }
+{
+    match basic {
+        Basic::Interface => walk_interface(table, part, body, at, most, out),
+        _ => walk_basic(part, basic, body, at, out),
+    }
+}
+
+// Tells of an interface and of what fills it, if anything does, and where it ends.
+#[cycle(walk)]
+fn walk_interface<O: RowSink>(
+    table: &Table,
+    part: Part,
+    body: &[u8],
+    at: usize,
+    most: u64,
+    out: &mut O,
+) -> Result<usize, Stop<O::Fault>>
+    requires most { most ≤ 1000 }
+    requires depth { part.depth ≤ most }
+    ensures { (t : TypeId) (base around : ℕ) (p : List ℕ) (outer : List Open) (s : Shape)
+        → base + around + 1 ≡ part.depth → at ≤ length body.now → BeginsPart (types table.now) t p part.id around
+        → shape_of (types table.now) part.id ≡ Some s → s.kind ≡ kind.Basic basics.Interface
+        → Walks O.tells (types table.now) body.now most t base p outer at out.old out.new
+        (SpellsOne (types table.now) part.id) result }
+{
+    let (length, behind) = walk_number(What::First, part, Numbers::ANY, body, at, out)?;
+    if length == 0 {
+        return Ok(behind);
+    }
+    let filling = Part {
+        id: part.id,
+        depth: part.depth + 1,
+    };
+    if filling.depth > most {
+        return Err(Stop::Here(behind, filling.awaited()));
+    }
+    let named = walk_raw(filling, length, body, behind, out)?;
+    walk_filling(table, filling, body, named, most, out)
+}
+
+// Tells of a filling behind its name, and where it ends.
+#[cycle(walk)]
+fn walk_filling<O: RowSink>(
+    table: &Table,
+    filling: Part,
+    body: &[u8],
+    begin: usize,
+    most: u64,
+    out: &mut O,
+) -> Result<usize, Stop<O::Fault>>
+    requires most { most ≤ 1000 }
+    requires depth { filling.depth ≤ most }
+    ensures { (t : TypeId) (base : ℕ) (p : List ℕ) (outer : List Open) → begin ≤ length body.now
+        → WalksTo O.tells (types table.now) body.now most
+        (a_filling filling.id filling.depth type_number ∷ (a_value t base p ∷ outer)) begin out.old out.new
+        (a_value t base (p ++ 0 ∷ []) ∷ outer) result }
+{
+    let mut at = begin;
+    // each definition takes a byte at least
+    'definitions: for least in begin..body.len() {
+        let (number, behind) = walk_number(What::TypeNumber, filling, Numbers::ANY, body, at, out)?;
+        let sign = number % 2;
+        if sign == 0 {
+            return walk_held(table, TypeId(number / 2), filling, body, behind, most, out);
+        }
+        at = walk_definition(table, filling, body, behind, most, out)?;
+    }
+    Err(Stop::Here(
+        at,
+        Awaited {
+            what: What::TypeNumber,
+            id: filling.id,
+            most: u64::MAX,
+        },
+    ))
+}
+
+// Tells of a description in a filling and of the count of the segment behind it, and where that ends.
+#[cycle(walk)]
+fn walk_definition<O: RowSink>(
+    table: &Table,
+    filling: Part,
+    body: &[u8],
+    at: usize,
+    most: u64,
+    out: &mut O,
+) -> Result<usize, Stop<O::Fault>>
+    requires most { most ≤ 1000 }
+    requires depth { filling.depth ≤ most }
+    ensures { (outer : List Open) → at ≤ length body.now
+        → WalksTo O.tells (types table.now) body.now most
+        (a_value wire_type filling.depth [] ∷ (a_filling filling.id filling.depth description ∷ outer))
+        at out.old out.new (a_filling filling.id filling.depth type_number ∷ outer) result }
+{
+    let behind = walk_inside(table, TypeId::WIRE_TYPE, filling, body, at, most, out)?;
+    let (_, end) = walk_number(What::Segment, filling, Numbers::ANY, body, behind, out)?;
+    Ok(end)
+}
+
+// Tells of the count and the value of what is held, of this type, and where it ends.
+#[cycle(walk)]
+fn walk_held<O: RowSink>(
+    table: &Table,
+    id: TypeId,
+    filling: Part,
+    body: &[u8],
+    at: usize,
+    most: u64,
+    out: &mut O,
+) -> Result<usize, Stop<O::Fault>>
+    requires most { most ≤ 1000 }
+    requires depth { filling.depth ≤ most }
+    ensures { (t : TypeId) (base : ℕ) (p : List ℕ) (outer : List Open) → at ≤ length body.now
+        → WalksTo O.tells (types table.now) body.now most
+        (a_filling filling.id filling.depth (count id) ∷ (a_value t base p ∷ outer)) at out.old out.new
+        (a_value t base (p ++ 0 ∷ []) ∷ outer) result }
+{
+    let (_, begin) = walk_number(What::Segment, filling, Numbers::ANY, body, at, out)?;
+    walk_inside(table, id, filling, body, begin, most, out)
+}
+
+// Tells of a value of this type in a filling, or of a description, and where it ends.
+#[cycle(walk)]
+fn walk_inside<O: RowSink>(
+    table: &Table,
+    id: TypeId,
+    filling: Part,
+    body: &[u8],
+    at: usize,
+    most: u64,
+    out: &mut O,
+) -> Result<usize, Stop<O::Fault>>
+    requires most { most ≤ 1000 }
+    requires depth { filling.depth ≤ most }
+    ensures { (outer : List Open) → at ≤ length body.now
+        → Walks O.tells (types table.now) body.now most id filling.depth [] outer at out.old out.new
+        (SpellsWhole (types table.now) id) result }
+{
+    out.enter(Step::Held(id))?;
+    let part = Part {
+        id,
+        depth: filling.depth + 1,
+    };
+    let end = walk_value(table, part, body, at, most, out)?;
+    out.leave();
+    Ok(end)
 }

@@ -16,7 +16,7 @@ pub(crate) struct Row {
 }
 
 /// The rows.
-pub(crate) const ROWS: [Row; 6] = [
+pub(crate) const ROWS: [Row; 11] = [
     Row {
         what: "an int",
         id: 2,
@@ -92,6 +92,81 @@ pub(crate) const ROWS: [Row; 6] = [
         lines: "
      0  00                       >the tag of a value that is no struct
      1  04 1b 5b 32 4a           >>\"\\u{1b}[2J\"
+",
+        path: "",
+    },
+    Row {
+        what: "an interface that is nil",
+        id: 8,
+        bytes: "00 00",
+        lines: "
+     0  00                       >the tag of a value that is no struct
+     1  00                       >>nil
+",
+        path: "",
+    },
+    Row {
+        what: "an interface that holds an int",
+        id: 8,
+        bytes: "00 03 69 6e 74 04 02 00 0a",
+        lines: "
+     0  00                       >the tag of a value that is no struct
+     1  03 69 6e 74              >>holds \"int\"
+     5  04                       >>>a value of type 2, int
+     6  02                       >>>a segment of 2 bytes
+     7  00                       >>>the tag of a value that is no struct
+     8  0a                       >>>>5
+",
+        path: "",
+    },
+    Row {
+        what: "an interface that defines a type and holds an int",
+        id: 8,
+        bytes: "00 01 78 ff 81 02 01 02 ff 82 00 01 04 00 00 04 04 02 00 0a",
+        lines: "
+     0  00                       >the tag of a value that is no struct
+     1  01 78                    >>holds \"x\"
+     3  ff 81                    >>>defines type 65
+     5  02                       >>>>SliceT
+     6  01                       >>>>>CommonType
+     7  02 ff 82                 >>>>>>Id 65
+    10  00                       >>>>>>end of CommonType
+    11  01 04                    >>>>>Elem 2
+    13  00                       >>>>>end of sliceType
+    14  00                       >>>>end of wireType
+    15  04                       >>>a segment of 4 bytes
+    16  04                       >>>a value of type 2, int
+    17  02                       >>>a segment of 2 bytes
+    18  00                       >>>the tag of a value that is no struct
+    19  0a                       >>>>5
+",
+        path: "",
+    },
+    Row {
+        what: "an interface that holds one that holds a string, which ends in it",
+        id: 8,
+        bytes: "00 01 69 10 0a 00 01 73 0c 04 00 02 61",
+        lines: "
+     0  00                       >the tag of a value that is no struct
+     1  01 69                    >>holds \"i\"
+     3  10                       >>>a value of type 8, interface{}
+     4  0a                       >>>a segment of 10 bytes
+     5  00                       >>>the tag of a value that is no struct
+     6  01 73                    >>>>holds \"s\"
+     8  0c                       >>>>>a value of type 6, string
+     9  04                       >>>>>a segment of 4 bytes
+    10  00                       >>>>>the tag of a value that is no struct
+    11  02                       >>>>>>2 bytes
+",
+        path: ".(interface{}).(string)",
+    },
+    Row {
+        what: "an interface that ends in the name of what it holds",
+        id: 8,
+        bytes: "00 03 69 6e",
+        lines: "
+     0  00                       >the tag of a value that is no struct
+     1  03                       >>holds something, by a name of 3 bytes
 ",
         path: "",
     },

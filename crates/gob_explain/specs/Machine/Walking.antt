@@ -1,54 +1,85 @@
 -- What a walk over a part has told where it ends, for private clauses.
-use Rattle.std.specs.Prelude.{◌≡◌, ◌↔◌, ℕ, ◌^◌, ◌<◌, ◌≤◌, List, ◌++◌, length, take, Result, Ok, Err}
+use Rattle.std.specs.Prelude.{◌≡◌, ◌↔◌, ℕ, ◌+◌, ◌^◌, ◌<◌, ◌≤◌, List, ◌∷◌, ◌++◌, length, Result, Ok, Err}
 use Rattle.gob_num.specs.Unsigned.{IsUnsigned}
 use Rattle.gob_types.specs.declared.id.TypeId.{TypeId}
 use Rattle.gob_types.specs.Table.{Table}
 use Rattle.gob_value.specs.Tree.{Tree, Trees, Pairs, tree_count, pair_count}
 use Rattle.gob_value.specs.Spelling.{Spells, SpellsEach, SpellsPairs}
 use Rattle.gob_value.specs.Top.{SpellsTop}
-use Rattle.gob_read.specs.Expected.{Allowed, Allows}
+use Rattle.gob_read.specs.Expected.{Allowed, Allows, Expected}
+use Rattle.gob_explain.specs.Laws.{Answers}
+use Rattle.gob_explain.specs.Open.{Open, a_value}
 use Rattle.gob_explain.specs.declared.row.Row.{Row}
 use Rattle.gob_explain.specs.declared.stop.Stop.{Stop}
 use Rattle.gob_explain.specs.declared.stop.Stop.TheVariants as stops
-use Rattle.gob_explain.specs.Walk.{BeginsPart, RowsLead, StopsAt, between}
+use Rattle.gob_explain.specs.declared.row.What.{What}
+use Rattle.gob_explain.specs.Walk.{Awaits, BeginsPart, IsRow, RowsLead, Steps, StopsAt, TellsNumber, between}
 
--- a sink was told of rows that lead from one place to the other
-pub record Told {O E : Type 0} (tells : O → O → List Row → Result (Unit {0}) E → Type 0) (T : Table) (t : TypeId)
-    (body : List ℕ) (at : ℕ) (old new : O) (answer : Result (Unit {0}) E) (end : ℕ) : Type 0 where
+-- a sink was told of rows that lead from one place to the other, where these are open
+pub record Told {O E : Type 0} (tells : O → O → List Row → Result (Unit {0}) E → Type 0) (T : Table) (bytes : List ℕ)
+    (opens : List Open) (at : ℕ) (old new : O) (answer : Result (Unit {0}) E) (last : List Open) (end : ℕ) : Type
+    0 where
   pub rows : List Row
   pub told : tells old new rows answer
-  pub lead : RowsLead T t body at rows end
+  pub lead : RowsLead T bytes opens at rows last end
   pub order : at ≤ end
-  pub inside : end ≤ length body
+  pub inside : end ≤ length bytes
 
 -- why a walk from the place on ended too early: nothing more can stand there, or the sink is told no more
-abbrev pub Fails : {O E : Type 0} → (O → O → List Row → Result (Unit {0}) E → Type 0) → Table → TypeId → List ℕ
-    → (most at : ℕ) → O → O → Stop E → Type 0
-Fails tells T t body most at old new (stops.Here place awaited) =
-    Told tells T t body at old new (Ok tt) place × StopsAt T t body most place
-Fails tells T t body most at old new (stops.Sink e) = (place : ℕ) × Told tells T t body at old new (Err e) place
+abbrev pub Fails : {O E : Type 0} → (O → O → List Row → Result (Unit {0}) E → Type 0) → Table → List ℕ → (most : ℕ)
+    → List Open → (at : ℕ) → O → O → Stop E → Type 0
+Fails tells T bytes most opens at old new (stops.Here place awaited) = (last : List Open)
+    × Told tells T bytes opens at old new (Ok tt) last place × StopsAt T bytes most last place
+Fails tells T bytes most opens at old new (stops.Sink e) =
+    (last : List Open) × (place : ℕ) × Told tells T bytes opens at old new (Err e) last place
 
--- how a walk from the place on ends: at the end of what is whole, of which this holds, or too early
-abbrev pub Walks : {O E X : Type 0} → (O → O → List Row → Result (Unit {0}) E → Type 0) → Table → TypeId → List ℕ
-    → (most at : ℕ) → O → O → (X → ℕ) → (X → Type 0) → Result X (Stop E) → Type 0
-Walks tells T t body most at old new end_of Whole (Ok x) = Told tells T t body at old new (Ok tt) (end_of x) × Whole x
-Walks tells T t body most at old new end_of Whole (Err stop) = Fails tells T t body most at old new stop
+-- how a walk from the place on ends: where the others are open, or too early
+abbrev pub WalksTo : {O E : Type 0} → (O → O → List Row → Result (Unit {0}) E → Type 0) → Table → List ℕ → (most : ℕ)
+    → List Open → (at : ℕ) → O → O → List Open → Result ℕ (Stop E) → Type 0
+WalksTo tells T bytes most opens at old new last (Ok end) = Told tells T bytes opens at old new (Ok tt) last end
+WalksTo tells T bytes most opens at old new last (Err stop) = Fails tells T bytes most opens at old new stop
 
--- the end of a walk is the place that it answers
-abbrev pub ends_at : ℕ → ℕ
-ends_at end = end
+-- how a walk ends within a value of this type, below so many parts, whose skeleton is p before it: behind more of the
+-- skeleton, of which this holds, or too early
+abbrev pub Walks : {O E : Type 0} → (O → O → List Row → Result (Unit {0}) E → Type 0) → Table → List ℕ → (most : ℕ)
+    → TypeId → (base : ℕ) → (p : List ℕ) → (outer : List Open) → (at : ℕ) → O → O → (List ℕ → Type 0)
+    → Result ℕ (Stop E) → Type 0
+Walks tells T bytes most t base p outer at old new Whole (Ok end) = (more : List ℕ) × Whole more
+    × Told tells T bytes (a_value t base p ∷ outer) at old new (Ok tt) (a_value t base (p ++ more) ∷ outer) end
+Walks tells T bytes most t base p outer at old new Whole (Err stop) =
+    Fails tells T bytes most (a_value t base p ∷ outer) at old new stop
 
--- that of a walk over a number is behind the number
-abbrev pub number_ends : (ℕ × ℕ) → ℕ
-number_ends found = found.1
+-- where these are open this comes next, and is what in which part, so deep; behind the row of a number and its bytes
+-- the others are
+pub record Takes (T : Table) (opens : List Open) (w : Expected) (x : What) (u : TypeId) (d : ℕ)
+    (next : ℕ → List ℕ → List Open) : Type 0 where
+  pub awaits : Awaits T opens w d
+  pub steps : (r : Row) (b : List ℕ) → IsRow x u d r → Answers w b → TellsNumber w r.number b
+      → Steps T opens r b (next r.number b)
+
+-- how a walk over a number ends
+abbrev pub WalksNumber : {O E : Type 0} → (O → O → List Row → Result (Unit {0}) E → Type 0) → Table → List ℕ
+    → (most : ℕ) → List Open → (at : ℕ) → O → O → (ℕ → List ℕ → List Open) → (ℕ → ℕ → Type 0)
+    → Result (ℕ × ℕ) (Stop E) → Type 0
+WalksNumber tells T bytes most opens at old new next Whole (Ok found) =
+    Told tells T bytes opens at old new (Ok tt) (next found.0 (between at found.1 bytes)) found.1
+    × Whole found.0 found.1
+WalksNumber tells T bytes most opens at old new next Whole (Err stop) = Fails tells T bytes most opens at old new stop
+
+-- and over raw bytes
+abbrev pub WalksRaw : {O E : Type 0} → (O → O → List Row → Result (Unit {0}) E → Type 0) → Table → List ℕ
+    → (most : ℕ) → List Open → (at count : ℕ) → O → O → (ℕ → List ℕ → List Open) → Result ℕ (Stop E) → Type 0
+WalksRaw tells T bytes most opens at count old new next (Ok end) =
+    Told tells T bytes opens at old new (Ok tt) (next count (between at end bytes)) end × (end ≡ at + count)
+WalksRaw tells T bytes most opens at count old new next (Err stop) = Fails tells T bytes most opens at old new stop
 
 -- the bytes spell a value of the type
 abbrev pub SpellsOne : Table → TypeId → List ℕ → Type 0
 SpellsOne T u b = (v : Tree) × Spells T u v b
 
--- the bytes up to the place are a whole value with its tag
-abbrev pub EndsWhole : Table → TypeId → List ℕ → ℕ → Type 0
-EndsWhole T t body place = (v : Tree) × SpellsTop T t v (take place body)
+-- and one with its tag
+abbrev pub SpellsWhole : Table → TypeId → List ℕ → Type 0
+SpellsWhole T t b = (v : Tree) × SpellsTop T t v b
 
 -- so many elements
 abbrev pub SpellsMany : Table → TypeId → ℕ → List ℕ → Type 0

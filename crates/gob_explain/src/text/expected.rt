@@ -28,6 +28,8 @@ pub fn push_expected<S: Shapes>(
         What::Tag => out.push_str("the tag, which is 0"),
         What::Imaginary => out.push_str("the imaginary part of a complex"),
         What::Raw => write!(out, "{} bytes", awaited.most),
+        What::TypeNumber => out.push_str("a type number"),
+        What::Segment => out.push_str("the count of a segment"),
         What::First | What::Delta => match shapes.shape_of(awaited.id) {
             Some(shape) => push_first(alloc, &shape.kind, awaited.most, out),
             None => Ok(()),
@@ -58,7 +60,7 @@ fn basic_words(basic: Basic) -> &'static str
         Basic::Float => "a float",
         Basic::Complex => "the real part of a complex",
         Basic::Bytes | Basic::Str => "the count of the bytes",
-        Basic::Interface => "0, an interface that is nil",
+        Basic::Interface => "0, an interface that is nil, or the count of a name",
     }
 }
 

@@ -8,10 +8,10 @@ ghost use Rattle.gob_explain.specs.Walk.{between};
 
 use crate::body::{Walked, walk_body};
 use crate::row::Awaited;
+use crate::text::heads::{size_meaning, type_meaning};
 use crate::text::lines::push_line;
-use crate::text::names::push_type_name;
 use crate::text::printer::Printer;
-use gob_num::{Memory, to_signed, uint_at};
+use gob_num::{Memory, uint_at};
 use gob_types::{Table, TypeId};
 use std::alloc::{AllocError, Global};
 
@@ -128,8 +128,7 @@ fn push_count(
 ) -> Result<(), AllocError>
     ensures { OnOk result (HasSomeLine offset bytes.now 0 (string_bytes out.old) (string_bytes out.new)) }
 {
-    let noun = if count == 1 { "byte" } else { "bytes" };
-    let meaning = format!(in alloc; "an item of {count} {noun}")?;
+    let meaning = size_meaning(alloc, "an item", count)?;
     push_line(offset, bytes, 0, meaning.as_str(), out)
 }
 
@@ -159,23 +158,6 @@ fn push_type(
     push_line(offset, bytes, 1, meaning.as_str(), out)
 }
 
-// What a type number says.
-fn type_meaning(alloc: Global, table: &Table, number: u64) -> Result<String, AllocError> {
-    let signed = to_signed(number);
-    let id = signed.unsigned_abs();
-    if signed < 0 {
-        return format!(in alloc; "defines type {id}");
-    }
-    let mut name = String::new(alloc);
-    push_type_name(alloc, table, TypeId(id), &mut name)?;
-    let mut meaning = format!(in alloc; "a value of type {id}")?;
-    if !name.is_empty() {
-        meaning.push_str(", ")?;
-        meaning.push_str(name.as_str())?;
-    }
-    Ok(meaning)
-}
-
 // Puts the lines of a body behind the text.
 fn push_body(
     alloc: Global,
@@ -188,13 +170,6 @@ fn push_body(
     ensures { IfOk result (λ walked. HasBodyLines (types table.now) id offset body.now (string_bytes out.old)
         (string_bytes out.new) walked.place) }
 {
-    if !table.kept(id) {
-        return Ok(Walked {
-            place: 0,
-            whole: false,
-            awaited: None,
-        });
-    }
     let mut printer = Printer::new(alloc, table, body, offset);
     let walked = walk_body(table, id, body, MOST_DEPTH, &mut printer)?;
     out.push_str(printer.finish()?.as_str())?;

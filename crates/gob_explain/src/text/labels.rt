@@ -2,16 +2,17 @@
 
 ghost use Rattle.std.specs.Prelude.{◌≡◌, ◌++◌, IfOk, OnOk, string_bytes};
 ghost use Rattle.gob_types.specs.Table.{shape_of};
-ghost use Rattle.gob_explain.specs.Names.{field_in, path_text, step_text};
+ghost use Rattle.gob_explain.specs.Names.{field_in, held_name, path_text, step_text};
 
 use crate::row::Step;
-use crate::text::names::push_name;
+use crate::text::names::{push_name, push_type_name};
 use gob_num::Memory;
 use gob_types::{Kind, Shapes, TypeId};
 use std::alloc::{AllocError, Global};
 
-/// The path as text: `[2].Lines[0].Count`, with ` key` behind the index of a pair whose key it leads to. Names of
-/// fields are those of the table, with no character that a terminal obeys. Empty where there is no step.
+/// The path as text: `[2].Lines[0].Count`, with ` key` behind the index of a pair whose key it leads to, and with
+/// `.(Point)` into a Point that an interface holds. Names of fields and types are those of the table, with no character
+/// that a terminal obeys. Empty where there is no step.
 pub fn path_text<S: Shapes>(alloc: Global, shapes: &S, path: &[Step]) -> Result<String, Memory>
     ensures { IfOk result (λ text. string_bytes text ≡ path_text (S.table shapes.now) path.now) }
 {
@@ -38,7 +39,29 @@ fn push_path_step<S: Shapes>(
             out.push('.')?;
             push_field(alloc, shapes, of, number, out)
         }
+        Step::Held(id) => {
+            out.push_str(".(")?;
+            push_held(alloc, shapes, id, out)?;
+            out.push_str(")")
+        }
     }
+}
+
+// Puts behind the text what is held: the name of its type, or its id where it has none.
+fn push_held<S: Shapes>(
+    alloc: Global,
+    shapes: &S,
+    id: TypeId,
+    out: &mut String,
+) -> Result<(), AllocError>
+    ensures { OnOk result (string_bytes out.new ≡ string_bytes out.old ++ held_name (S.table shapes.now) id) }
+{
+    let mut name = String::new(alloc);
+    push_type_name(alloc, shapes, id, &mut name)?;
+    if name.is_empty() {
+        return write!(out, "type {}", id.0);
+    }
+    out.push_str(name.as_str())
 }
 
 /// Puts behind the text what the part is called to which the path leads: its field, or its place in a list or map. A

@@ -6,12 +6,13 @@ ghost use Rattle.gob_types.specs.Table.{shape_of};
 ghost use Rattle.gob_explain.specs.declared.row.Row.{Row};
 ghost use Rattle.gob_explain.specs.declared.text.printer.Line.{Line};
 ghost use Rattle.gob_explain.specs.Column.{HasLineAdded, saturated};
-ghost use Rattle.gob_explain.specs.Lines.{BeginsLine, IsFollowed, last_of};
+ghost use Rattle.gob_explain.specs.Lines.{BeginsLine, IsFollowed, IsOpen, StandsBehind, last_of};
 ghost use Rattle.gob_explain.specs.Machine.Printing.{FitsIn, HasLines, HasPrinted, HasTold, PrintsRows};
 ghost use Rattle.gob_explain.specs.Walk.{between};
 
 use crate::row::{Row, Step, What};
 use crate::sink::RowSink;
+use crate::text::heads::{size_meaning, type_meaning};
 use crate::text::labels::push_label;
 use crate::text::lines::push_line;
 use crate::text::names::push_type_name;
@@ -24,7 +25,7 @@ use std::alloc::{AllocError, Global};
 const OUTER: u64 = 1;
 
 /// Makes lines of the rows of a body. A delta stands in the line of its field's first number, a count of bytes in that
-/// of the bytes, and the two numbers of a complex in one.
+/// of the bytes, the name of what an interface holds in that of the interface, and the two numbers of a complex in one.
 #[derive(Drop)]
 pub struct Printer<'a, S: Shapes> {
     alloc: Global,
@@ -194,7 +195,7 @@ impl<'a, S: Shapes> Printer<'a, S> {
     fn end_of_struct(&self, id: TypeId) -> Result<String, AllocError> {
         let mut name = String::new(self.alloc);
         match self.path.last() {
-            Some(Step::Field { .. }) | None => {
+            Some(Step::Field { .. } | Step::Held(_)) | None => {
                 push_type_name(self.alloc, self.shapes, id, &mut name)?;
             }
             _ => push_label(self.alloc, self.shapes, &self.path, &mut name)?,
@@ -218,11 +219,16 @@ impl<'a, S: Shapes> Printer<'a, S> {
             (string_bytes self.new.text) (rows ++ row.now ∷ []) row.now.end) }
     {
         match row.what {
-            What::Tag => {
-                self.end_line(Behind::Missing)?;
-                self.push_row(row, "the tag of a value that is no struct")
-            }
+            What::Tag => self.put_alone(row, "the tag of a value that is no struct"),
             What::Delta => self.put_delta(row),
+            What::TypeNumber => {
+                let meaning = type_meaning(self.alloc, self.shapes, row.number)?;
+                self.put_alone(row, meaning.as_str())
+            }
+            What::Segment => {
+                let meaning = size_meaning(self.alloc, "a segment", row.number)?;
+                self.put_alone(row, meaning.as_str())
+            }
             What::First => {
                 self.go_on(row);
                 if goes_on(self.shapes, row) {
@@ -240,6 +246,22 @@ impl<'a, S: Shapes> Printer<'a, S> {
                 self.end_line(Behind::Raw(raw))
             }
         }
+    }
+
+    // Ends the line under way, and gives the row one of its own.
+    fn put_alone(&mut self, row: &Row, meaning: &str) -> Result<(), AllocError>
+        ensures offset { self.new.offset ≡ self.old.offset }
+        ensures body { self.new.body ≡ self.old.body }
+        ensures shapes { self.new.shapes ≡ self.old.shapes }
+        ensures told { ¬ StandsBehind row.now.what → ¬ IsOpen (S.table self.old.shapes.now) row.now
+            → (rows : List Row) → row.now.begin < row.now.end → row.now.end ≤ length self.old.body.now
+            → HasTold (S.table self.old.shapes.now) self.old.offset self.old.body.now self.old.line
+            (string_bytes self.old.text) rows row.now.begin
+            → OnOk result (HasTold (S.table self.old.shapes.now) self.old.offset self.old.body.now self.new.line
+            (string_bytes self.new.text) (rows ++ row.now ∷ []) row.now.end) }
+    {
+        self.end_line(Behind::Missing)?;
+        self.push_row(row, meaning)
     }
 
     // A delta begins the line of its field, and a 0 ends the struct.
@@ -300,9 +322,10 @@ fn goes_on<S: Shapes>(shapes: &S, first: &Row) -> bool
     let Some(shape) = shapes.shape_of(first.id) else {
         return false;
     };
+    let some = first.number > 0;
     match &shape.kind {
         Kind::Basic(Basic::Complex) => true,
-        Kind::Basic(Basic::Bytes | Basic::Str) | Kind::Opaque(_) => first.number > 0,
+        Kind::Basic(Basic::Bytes | Basic::Str | Basic::Interface) | Kind::Opaque(_) => some,
         _ => false,
     }
 }

@@ -1,7 +1,7 @@
 //! What the numbers of a part mean.
 
 use crate::row::Row;
-use crate::text::names::{push_string, push_type_name};
+use crate::text::names::{push_name, push_string};
 use gob_num::{to_pattern, to_signed};
 use gob_types::{Basic, Kind, Marshal, Shapes};
 use ryu::Buffer;
@@ -30,8 +30,10 @@ pub(crate) fn push_value<S: Shapes>(
         Kind::Map { .. } => push_count(first.number, "pair", out),
         Kind::Opaque(marshal) => {
             push_count(first.number, "byte", out)?;
-            out.push_str(" of ")?;
-            push_type_name(alloc, shapes, first.id, out)?;
+            if !shape.name.as_bytes().is_empty() {
+                out.push_str(" of ")?;
+                push_name(alloc, shape.name.as_bytes(), out)?;
+            }
             out.push_str(by_marshal(*marshal))
         }
         Kind::Struct { .. } => Ok(()),
@@ -63,7 +65,7 @@ fn push_basic(
         Basic::Int => write!(out, "{}", to_signed(number)),
         Basic::Uint => write!(out, "{number}"),
         Basic::Float => push_float(to_pattern(number), out),
-        Basic::Interface => out.push_str("nil"),
+        Basic::Interface => push_interface(alloc, number, behind, out),
         Basic::Complex => push_complex(number, behind, out),
         Basic::Bytes => push_count(number, "byte", out),
         Basic::Str => match behind {
@@ -71,6 +73,26 @@ fn push_basic(
             Behind::Missing => push_count(number, "byte", out),
             _ => out.push_str("\"\""),
         },
+    }
+}
+
+// Nil, or the name of what it holds.
+fn push_interface(
+    alloc: Global,
+    length: u64,
+    behind: Behind<'_>,
+    out: &mut String,
+) -> Result<(), AllocError> {
+    match behind {
+        Behind::Raw(name) => {
+            out.push_str("holds ")?;
+            push_string(alloc, name, out)
+        }
+        Behind::Missing => {
+            out.push_str("holds something, by a name of ")?;
+            push_count(length, "byte", out)
+        }
+        _ => out.push_str("nil"),
     }
 }
 

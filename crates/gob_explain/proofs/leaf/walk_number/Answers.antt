@@ -1,22 +1,46 @@
--- No number stands there, or one that isn't allowed.
-use Rattle.std.proofs.Common.{inl, inr}
-use Rattle.gob_explain.proofs.WalkLaws.{out_of_range, stops_none, stops_other, told_nothing}
+-- No number stands there, or one that isn't allowed; else the sink is told of it.
+use Rattle.std.proofs.Common.{arith, inl, inr}
+use Rattle.gob_explain.proofs.WalkLaws.{in_range, number_failed, number_told, out_of_range, stops_none, stops_other}
+use Rattle.gob_explain.proofs.WalkLaws.{told_nothing}
+use Rattle.gob_explain.specs.Machine.Walking.{IsInRange}
 use Rattle.gob_explain.proofs.leaf.walk_number.Goals as goal
 use Rattle.gob_explain.proofs.leaf.walk_number.Goals.{then-number-allowed-via-then-number-allowed}
 use Rattle.gob_explain.proofs.leaf.walk_number.Goals.{then-number-allowed-via-else-number-allowed+then-number-allowed-2}
 
 pub returns-in_default-clause-walks : goal.returns-in_default-clause-walks
-returns-in_default-clause-walks g c = λ T t a most l p r. (
+returns-in_default-clause-walks g c = λ T opens next a most l k r. (
+  opens,
   told_nothing g.O.RowSink.tells (g.met.O.RowSink.nothing _) l,
-  stops_none most l p (c.uint_at.ensures.none c.in_default.is),
+  stops_none most k.awaits (c.uint_at.ensures.none c.in_default.is),
 )
 
 pub returns-then-number-allowed-clause-walks : goal.returns-then-number-allowed-clause-walks
-returns-then-number-allowed-clause-walks g c = λ T t a most l p r. (
+returns-then-number-allowed-clause-walks g c = λ T opens next a most l k r. (
+  opens,
   told_nothing g.O.RowSink.tells (g.met.O.RowSink.nothing _) l,
-  stops_other most l p c.in-Some.ensures.found (out_of_range a r c.in-Some.ensures.found.spelled
+  stops_other most k.awaits c.in-Some.ensures.found (out_of_range a r c.in-Some.ensures.found.spelled
       (elim c.then-number-allowed.branch [
         | then-number-allowed-via-then-number-allowed w ↦ inl w.if-number-allowed.true
         | then-number-allowed-via-else-number-allowed+then-number-allowed-2 w ↦ inr w.if-number-allowed-2.true
       ])),
 )
+
+pub returns-in_err-put-clause-walks : goal.returns-in_err-put-clause-walks
+returns-in_err-put-clause-walks g c = λ T opens next a most l k r.
+    let found = c.in-Some.ensures.found in
+    number_failed g.O.RowSink.tells T c.args.body.now most opens c.args.at _ _ next
+    (IsInRange c.args.allowed.least c.args.allowed.most c.args.body.now c.args.at) _ c.from_residual.result
+    c.from_residual.ensures.1 (
+      _,
+      c.in-Some.end,
+      number_told g.O.RowSink.tells c.in-Some.number c.args.at c.in-Some.end k found
+          (in_range a r found.spelled (omega arith) (omega arith)) c.in_err-put.ensures,
+    )
+
+pub returns-clause-walks : goal.returns-clause-walks
+returns-clause-walks g c = λ T opens next a most l k r.
+    let found = c.in-Some.ensures.found in (
+      number_told g.O.RowSink.tells c.in-Some.number c.args.at c.in-Some.end k found
+          (in_range a r found.spelled (omega arith) (omega arith)) c.in_ok-put.ensures,
+      (found.order, omega arith, omega arith, found.spelled),
+    )

@@ -1,60 +1,92 @@
 -- What was told of the parts before the place.
-use Rattle.std.proofs.Common.{◌≡◌, ◌+◌, ◌≤◌, ℕ, Ok, length, take, ◌-◌, ◌*◌}
-use Rattle.gob_types.specs.declared.id.TypeId.{TypeId}
+use Rattle.std.proofs.Common.{◌≡◌, ◌∷◌, ◌++◌, ◌+◌, ◌-◌, ◌*◌, ◌≤◌, ℕ, List, Ok, Some, length}
+use Rattle.gob_types.specs.Defined.{types}
 use Rattle.gob_types.specs.Ready.{IsReady}
-use Rattle.gob_read.specs.Expects.{FieldsRun}
-use Rattle.gob_explain.specs.Walk.{BeginsPart, between}
-use Rattle.gob_explain.specs.Machine.Walking.{BeginsEachKey, BeginsEachPart, BeginsEachValue, SpellsEntries}
-use Rattle.gob_explain.specs.Machine.Walking.{SpellsMany, Told}
+use Rattle.gob_types.specs.Table.{shape_of}
+use Rattle.gob_types.specs.declared.id.TypeId.{TypeId}
 use Rattle.gob_types.specs.declared.kind.Kind.TheVariants as kind
 use Rattle.gob_types.specs.declared.kind.Shape.{Shape}
-use Rattle.gob_types.specs.Table.{shape_of}
-use Rattle.std.proofs.Common.{Some}
+use Rattle.gob_read.specs.Expects.{FieldsRun}
+use Rattle.gob_explain.specs.Open.{Open, a_filling, a_value, type_number}
+use Rattle.gob_explain.specs.Walk.{BeginsPart}
+use Rattle.gob_explain.specs.Machine.Walking.{BeginsEachKey, BeginsEachPart, BeginsEachValue, SpellsEntries}
+use Rattle.gob_explain.specs.Machine.Walking.{SpellsMany, Told}
 use Rattle.gob_explain.proofs.walk.+walk.Given as goal
 
--- a part, so many levels above the deepest; a step to it; the parts in a list or map; and the fields in a struct
+-- a part, so many levels above the deepest; a step to it; the parts in a list or map; the fields in a struct; a
+-- filling, and what is in it
 abbrev pub decreases-walk_part : goal.decreases-walk_part
-decreases-walk_part g l = 4 * (l.most + 1 - l.part.depth)
+decreases-walk_part g l = 8 * (l.most + 1 - l.part.depth)
+
+abbrev pub decreases-walk_value : goal.decreases-walk_value
+decreases-walk_value g l = 8 * (l.most + 1 - l.part.depth) + 1
 
 abbrev pub decreases-walk_step : goal.decreases-walk_step
-decreases-walk_step g l = 4 * (l.most + 1 - l.part.depth) + 1
+decreases-walk_step g l = 8 * (l.most + 1 - l.part.depth) + 1
 
 abbrev pub decreases-walk_elements : goal.decreases-walk_elements
-decreases-walk_elements g l = 4 * (l.most + 1 - l.each.depth) + 2
+decreases-walk_elements g l = 8 * (l.most + 1 - l.each.depth) + 2
 
 abbrev pub decreases-walk_pairs : goal.decreases-walk_pairs
-decreases-walk_pairs g l = 4 * (l.most + 1 - l.each.depth) + 2
+decreases-walk_pairs g l = 8 * (l.most + 1 - l.each.depth) + 2
 
 abbrev pub decreases-walk_fields : goal.decreases-walk_fields
-decreases-walk_fields g l = 4 * (l.most - l.part.depth) + 2
+decreases-walk_fields g l = 8 * (l.most - l.part.depth) + 3
+
+abbrev pub decreases-walk_basic_part : goal.decreases-walk_basic_part
+decreases-walk_basic_part g l = 8 * (l.most - l.part.depth) + 7
+
+abbrev pub decreases-walk_interface : goal.decreases-walk_interface
+decreases-walk_interface g l = 8 * (l.most - l.part.depth) + 6
+
+abbrev pub decreases-walk_filling : goal.decreases-walk_filling
+decreases-walk_filling g l = 8 * (l.most + 1 - l.filling.depth) + 5
+
+abbrev pub decreases-walk_definition : goal.decreases-walk_definition
+decreases-walk_definition g l = 8 * (l.most + 1 - l.filling.depth) + 4
+
+abbrev pub decreases-walk_held : goal.decreases-walk_held
+decreases-walk_held g l = 8 * (l.most + 1 - l.filling.depth) + 4
+
+abbrev pub decreases-walk_inside : goal.decreases-walk_inside
+decreases-walk_inside g l = 8 * (l.most + 1 - l.filling.depth) + 3
 
 abbrev pub invariant-walk_elements-elements : goal.invariant-walk_elements-elements
 invariant-walk_elements-elements g l =
-    (t : TypeId) (around : ℕ) → around + 1 ≡ l.each.depth → l.begin ≤ length l.body
-    → IsReady (g.S.Shapes.table l.shapes) l.each.id
-    → BeginsEachPart (g.S.Shapes.table l.shapes) t (take l.begin l.body) l.each.id l.count around
-    → Told g.O.RowSink.tells (g.S.Shapes.table l.shapes) t l.body l.begin l.fn.out l.out (Ok tt) l.at
-    × SpellsMany (g.S.Shapes.table l.shapes) l.each.id l.index (between l.begin l.at l.body)
+    (t : TypeId) (base around : ℕ) (p : List ℕ) (outer : List Open) → base + around + 1 ≡ l.each.depth
+    → l.begin ≤ length l.body → IsReady (types l.table) l.each.id
+    → BeginsEachPart (types l.table) t p l.each.id l.count around
+    → (more : List ℕ) × SpellsMany (types l.table) l.each.id l.index more
+    × Told g.O.RowSink.tells (types l.table) l.body (a_value t base p ∷ outer) l.begin l.fn.out l.out (Ok tt)
+    (a_value t base (p ++ more) ∷ outer) l.at
 
 abbrev pub invariant-walk_pairs-pairs : goal.invariant-walk_pairs-pairs
 invariant-walk_pairs-pairs g l =
-    (t : TypeId) (around : ℕ) → around + 1 ≡ l.fn.each.depth → l.begin ≤ length l.body
-    → IsReady (g.S.Shapes.table l.shapes) l.fn.each.key → IsReady (g.S.Shapes.table l.shapes) l.fn.each.elem
-    → BeginsEachKey (g.S.Shapes.table l.shapes) t (take l.begin l.body) l.fn.each.key l.fn.each.elem l.count around
-    → BeginsEachValue (g.S.Shapes.table l.shapes) t (take l.begin l.body) l.fn.each.key l.fn.each.elem l.count around
-    → Told g.O.RowSink.tells (g.S.Shapes.table l.shapes) t l.body l.begin l.fn.out l.out (Ok tt) l.at
-    × SpellsEntries (g.S.Shapes.table l.shapes) l.fn.each.key l.fn.each.elem l.index (between l.begin l.at l.body)
+    (t : TypeId) (base around : ℕ) (p : List ℕ) (outer : List Open) → base + around + 1 ≡ l.fn.each.depth
+    → l.begin ≤ length l.body → IsReady (types l.table) l.fn.each.key → IsReady (types l.table) l.fn.each.elem
+    → BeginsEachKey (types l.table) t p l.fn.each.key l.fn.each.elem l.count around
+    → BeginsEachValue (types l.table) t p l.fn.each.key l.fn.each.elem l.count around
+    → (more : List ℕ) × SpellsEntries (types l.table) l.fn.each.key l.fn.each.elem l.index more
+    × Told g.O.RowSink.tells (types l.table) l.body (a_value t base p ∷ outer) l.begin l.fn.out l.out (Ok tt)
+    (a_value t base (p ++ more) ∷ outer) l.at
 
 abbrev pub invariant-walk_fields-fields : goal.invariant-walk_fields-fields
 invariant-walk_fields-fields g l = record {
-  within : l.next ≤ length l.types;
-  walked : (t : TypeId) (around : ℕ) (s : Shape) → around + 1 ≡ l.part.depth → l.begin ≤ length l.body
-      → IsReady (g.S.Shapes.table l.shapes) l.part.id → shape_of (g.S.Shapes.table l.shapes) l.part.id ≡ Some s
-      → s.kind ≡ kind.Struct l.types
-      → BeginsPart (g.S.Shapes.table l.shapes) t (take l.begin l.body) l.part.id around
-      → Told g.O.RowSink.tells (g.S.Shapes.table l.shapes) t l.body l.begin l.fn.out l.out (Ok tt) l.at
-      × FieldsRun (g.S.Shapes.table l.shapes) l.types 0 l.next (between l.begin l.at l.body);
+  within : l.next ≤ length l.fields;
+  walked : (t : TypeId) (base around : ℕ) (p : List ℕ) (outer : List Open) (s : Shape)
+      → base + around + 1 ≡ l.part.depth → l.begin ≤ length l.body
+      → IsReady (types l.table) l.part.id → shape_of (types l.table) l.part.id ≡ Some s
+      → s.kind ≡ kind.Struct l.fields → BeginsPart (types l.table) t p l.part.id around
+      → (more : List ℕ) × FieldsRun (types l.table) l.fields 0 l.next more
+      × Told g.O.RowSink.tells (types l.table) l.body (a_value t base p ∷ outer) l.begin l.fn.out l.out (Ok tt)
+      (a_value t base (p ++ more) ∷ outer) l.at;
 }
 
 abbrev pub decreases-walk_fields-fields : goal.decreases-walk_fields-fields
-decreases-walk_fields-fields g l = length l.types - l.next
+decreases-walk_fields-fields g l = length l.fields - l.next
+
+abbrev pub invariant-walk_filling-definitions : goal.invariant-walk_filling-definitions
+invariant-walk_filling-definitions g l =
+    (outer : List Open) → l.begin ≤ length l.body → (l.least ≤ l.at)
+    × Told g.O.RowSink.tells (types l.table) l.body (a_filling l.filling.id l.filling.depth type_number ∷ outer)
+    l.begin l.fn.out l.out (Ok tt) (a_filling l.filling.id l.filling.depth type_number ∷ outer) l.at
