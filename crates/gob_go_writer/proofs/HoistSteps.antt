@@ -108,14 +108,6 @@ pub record FillSo (whole left made : List Filling) (old new : List GoItem) : Typ
   pub completes : (others : List Filling) (rest : List GoItem) → FillWithout left others rest
       → FillWithout whole (made ++ others) (given ++ rest)
 
-pub none_filled : (whole : List Filling) {made : List Filling} {old : List GoItem} → made ≡ []
-    → FillSo whole whole made old old
-none_filled whole {made = made} {old = old} e = record {
-  given = [];
-  appended = sym (append-nil old);
-  completes = λ others rest w. subst (λ m. FillWithout whole (m ++ others) rest) (sym e) w;
-}
-
 pub one_filled : {whole left others made made' : List Filling} {old mid new : List GoItem} {f : Filling} (m : Filling)
     → FillSo whole left made old mid → left ≡ f ∷ others → HoistsFilling f m mid new → made' ≡ made ++ m ∷ []
     → FillSo whole others made' old new

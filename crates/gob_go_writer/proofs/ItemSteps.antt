@@ -13,30 +13,34 @@ use Rattle.gob_filled.specs.Stream.{FilledItem, IsFilledItem, of_definition, of_
 use Rattle.gob_filled.proofs.Items.{segments_of}
 use Rattle.gob_go.specs.Meaning.{ItemMeans, means_definition, means_value}
 use Rattle.gob_go.specs.declared.filled.Filled.{Filled}
+use Rattle.gob_go.specs.declared.item.GoItem.{GoItem}
 use Rattle.gob_go.specs.declared.item.GoItem.TheVariants as item
 use Rattle.gob_go_writer.specs.Item.{IsGrown, IsItemOf}
 use Rattle.gob_go_writer.specs.Machine.Letters.{Takes, TakesSegments}
-use Rattle.gob_go_writer.specs.Machine.Parts.{AreOfDefinition, AreOfValue}
+use Rattle.gob_go_writer.specs.Machine.Parts.{AreOfDefinition, AreOfValue, IsItemUnder}
+use Rattle.gob_go_writer.specs.Machine.Parts.{SharesDescriptions}
 use Rattle.gob_go_writer.specs.declared.segments.Segments.{Segments}
 use Rattle.gob_go_writer.proofs.LetterLaws.{takes_then}
 
 -- ---- a definition
 
-pub record DefinitionLetters (now : Table) (id : TypeId) (described : Value) (bytes : List ℕ) : Type 0 where
+pub record DefinitionLetters (here : Table) (id : TypeId) (described : Value) (bytes : List ℕ) : Type 0 where
   pub count : List ℕ
   pub letters : List ℕ
   pub counts : IsUnsigned (length letters) count
   pub whole : bytes ≡ count ++ letters
-  pub are : AreOfDefinition now id (view described) letters
+  pub are : AreOfDefinition here id (view described) letters
 
-pub definition_letters : {now : Table} {id : TypeId} {described : Value} {bytes : List ℕ}
-    → IsItemOf now (item.Define id described) bytes → DefinitionLetters now id described bytes
-definition_letters {now = now} a = by a.means a.is a.grown a.shallow
+pub definition_letters : {here : Table} {id : TypeId} {described : Value} {bytes : List ℕ}
+    → IsItemUnder here (item.Define id described) bytes → DefinitionLetters here id described bytes
+definition_letters {here = here} a = by a.is.means a.is.is a.is.grown a.shares a.is.shallow
   where
-    by : {id : TypeId} {described : Value} {L : Bounds} {T V : Table} {offset : ℕ} {i : FilledItem} {bytes : List ℕ}
+    by : {id : TypeId} {described : Value} {L : Bounds} {now T V : Table} {offset : ℕ} {i : FilledItem}
+        {bytes : List ℕ}
         → ItemMeans now (item.Define id described) i → IsFilledItem base_table L T offset i bytes V → IsGrown V now
-        → L.depth ≤ greatest_depth → DefinitionLetters now id described bytes
-    by {L = L} {T = T} {V = V} means_definition (of_definition {c = c} {d = d} counts few short def) grown shallow =
+        → SharesDescriptions now here → L.depth ≤ greatest_depth → DefinitionLetters here id described bytes
+    by {L = L} {now = now} {T = T} {V = V} means_definition (of_definition {c = c} {d = d} counts few short def) grown
+        shares shallow =
         record {
           count = c;
           letters = d;
@@ -46,14 +50,16 @@ definition_letters {now = now} a = by a.means a.is a.grown a.shallow
             limits = L;
             before = T;
             behind = V;
+            now = now;
             defines = def;
             grown = grown;
+            shares = shares;
             shallow = shallow;
           };
         }
 
-pub definition_taken : {now : Table} {id : TypeId} {described : Value} {bytes : List ℕ} {old new : Segments}
-    (d : DefinitionLetters now id described bytes) → Takes old new d.letters → AreBytes d.letters
+pub definition_taken : {here : Table} {id : TypeId} {described : Value} {bytes : List ℕ} {old new : Segments}
+    (d : DefinitionLetters here id described bytes) → Takes old new d.letters → AreBytes d.letters
     → TakesSegments old new bytes
 definition_taken d t o = record {
   letters = d.letters;
@@ -63,22 +69,22 @@ definition_taken d t o = record {
 
 -- ---- a value
 
-pub record ValueLetters (now : Table) (id : TypeId) (value : Filled) (bytes : List ℕ) : Type 0 where
+pub record ValueLetters (here : Table) (id : TypeId) (value : Filled) (bytes : List ℕ) : Type 0 where
   pub number : List ℕ
   pub letters : List ℕ
   pub numbered : IsSigned (pos id.0) number
-  pub are : AreOfValue now value letters
+  pub are : AreOfValue here value letters
   pub are_segments : AreSegments (number ++ letters) bytes
 
-pub value_letters : {now : Table} {id : TypeId} {value : Filled} {bytes : List ℕ}
-    → IsItemOf now (item.Put id value) bytes → ValueLetters now id value bytes
-value_letters {now = now} a = by a.means a.is a.grown a.shallow
+pub value_letters : {here : Table} {id : TypeId} {value : Filled} {bytes : List ℕ}
+    → IsItemUnder here (item.Put id value) bytes → ValueLetters here id value bytes
+value_letters {here = here} a = by a.is.means a.is.is a.is.grown a.shares a.is.shallow
   where
-    by : {id : TypeId} {value : Filled} {L : Bounds} {T V : Table} {offset : ℕ} {i : FilledItem} {bytes : List ℕ}
+    by : {id : TypeId} {value : Filled} {L : Bounds} {now T V : Table} {offset : ℕ} {i : FilledItem} {bytes : List ℕ}
         → ItemMeans now (item.Put id value) i → IsFilledItem base_table L T offset i bytes V → IsGrown V now
-        → L.depth ≤ greatest_depth → ValueLetters now id value bytes
-    by {id = id} {L = L} {T = T} {V = V} (means_value {w = w} m) (of_value {a = a} {ls = ls} may sg k cs) grown
-        shallow = record {
+        → SharesDescriptions now here → L.depth ≤ greatest_depth → ValueLetters here id value bytes
+    by {id = id} {L = L} {now = now} {T = T} {V = V} (means_value {w = w} m) (of_value {a = a} {ls = ls} may sg k cs)
+        grown shares shallow = record {
           number = a;
           letters = ls;
           numbered = sg;
@@ -86,22 +92,30 @@ value_letters {now = now} a = by a.means a.is a.grown a.shallow
             limits = L;
             before = T;
             behind = V;
+            now = now;
             type = id;
             limit = L.depth;
             value = w;
             means = m;
             spells = k;
             grown = grown;
+            shares = shares;
             shallow = shallow;
           };
           are_segments = segments_of cs;
         }
 
-pub value_taken : {now : Table} {id : TypeId} {value : Filled} {bytes : List ℕ} {old mid new : Segments}
-    (v : ValueLetters now id value bytes) → Takes old mid v.number → Takes mid new v.letters
+pub value_taken : {here : Table} {id : TypeId} {value : Filled} {bytes : List ℕ} {old mid new : Segments}
+    (v : ValueLetters here id value bytes) → Takes old mid v.number → Takes mid new v.letters
     → TakesSegments old new bytes
 value_taken v t u = record {
   letters = v.number ++ v.letters;
   takes = takes_then t u;
   are_segments = v.are_segments;
 }
+
+-- ---- under the types that it is one of
+
+pub under_itself : {here : Table} {kept : GoItem} {bytes : List ℕ} → IsItemOf here kept bytes
+    → IsItemUnder here kept bytes
+under_itself {here = here} a = record { now = here; is = a; shares = λ v b s. s }

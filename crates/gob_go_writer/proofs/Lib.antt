@@ -3,5 +3,8 @@ pub mod PartSteps
 pub mod ValueSteps
 pub mod ItemSteps
 pub mod AgainSteps
+pub mod AlikeLaws
+pub mod SameSteps
+pub mod WriterSteps
 pub mod HoistSteps
 pub mod HoistedLaws

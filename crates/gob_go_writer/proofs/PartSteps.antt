@@ -12,7 +12,12 @@ use Rattle.gob_types.specs.Table.{Table}
 use Rattle.gob_types.proofs.PublicLaws.{Keeps}
 use Rattle.gob_value.specs.Tree.{Tree, depth}
 use Rattle.gob_value.specs.View.{view}
+use Rattle.gob_types.specs.Denial.{IsDenial}
+use Rattle.gob_value.specs.Faults.{IsSpellFault, value_denial}
 use Rattle.gob_value.specs.Spelling.{Spells}
+use Rattle.gob_value.specs.Within.{FitsWithin}
+use Rattle.gob_value.specs.declared.fault.SpellFault.{SpellFault}
+use Rattle.gob_value.specs.declared.fault.SpellFault.TheVariants as spelling
 use Rattle.gob_value.proofs.PublicLaws.{spells_on}
 use Rattle.gob_stream.specs.Bounds.{Bounds, greatest_depth}
 use Rattle.gob_filled.specs.Definition.{Defines, defines}
@@ -22,7 +27,7 @@ use Rattle.gob_go.specs.Meaning.{definitions_of}
 use Rattle.gob_go.specs.declared.filled.Definition.{Definition}
 use Rattle.gob_go_writer.specs.Item.{IsGrown}
 use Rattle.gob_go_writer.specs.Machine.Letters.{Takes}
-use Rattle.gob_go_writer.specs.Machine.Parts.{AreOfDefinition, AreOfDefinitions}
+use Rattle.gob_go_writer.specs.Machine.Parts.{AreOfDefinition, AreOfDefinitions, SharesDescriptions}
 use Rattle.gob_go_writer.specs.declared.segments.Segments.{Segments}
 use Rattle.gob_go_writer.proofs.LetterLaws.{takes_then, takes_as, takes_none}
 
@@ -63,10 +68,17 @@ pub vector_bytes : (bytes : List ℕ) → ((i : ℕ) → i < length bytes → ge
 vector_bytes [] p = tt
 vector_bytes (b ∷ bytes) p = (p 0 (omega arith), vector_bytes bytes (λ i l. p (suc i) (omega arith)))
 
+-- what refuses to spell a description shows that it has no spelling
+pub not_described : (T : Table) (t : TypeId) (v : Tree) (f : SpellFault) → IsSpellFault T t 1000 v f
+    → IsDenial (λ _. ¬ FitsWithin T t 1000 v) (value_denial f)
+not_described T t v spelling.TooDeep fault = λ w. let low = w.within in absurd (omega arith)
+not_described T t v spelling.DoesNotFit fault = λ w. fault.1 (record { bytes = w.bytes; spelled = w.spelled })
+not_described T t v spelling.Memory fault = tt
+
 -- ---- a definition
 
 -- what is said of it
-pub record IsDefining (now : Table) (id : TypeId) (v : Tree) (ls : List ℕ) : Type 0 where
+pub record IsDefining (here : Table) (id : TypeId) (v : Tree) (ls : List ℕ) : Type 0 where
   pub below : ℕ
   pub number : List ℕ
   pub description : List ℕ
@@ -74,16 +86,18 @@ pub record IsDefining (now : Table) (id : TypeId) (v : Tree) (ls : List ℕ) : T
   pub id_is : id.0 ≡ below + 1
   pub small : id.0 < 2 ^ 63
   pub signed : IsSigned (negsuc below) number
-  pub spelled : Spells now wire_type v description
+  pub spelled : Spells here wire_type v description
   pub shallow : depth v ≤ greatest_depth
 
-defining_by : {now T V : Table} {L : Bounds} {id : TypeId} {v : Tree} {ls : List ℕ} → Defines base_table L T id v ls V
-    → IsGrown V now → L.depth ≤ greatest_depth → IsDefining now id v ls
-defining_by {now = now} def grown shallow = by def (definition_keeps def) (record { shape = grown }) shallow
+defining_by : {here now T V : Table} {L : Bounds} {id : TypeId} {v : Tree} {ls : List ℕ}
+    → Defines base_table L T id v ls V → IsGrown V now → SharesDescriptions now here → L.depth ≤ greatest_depth
+    → IsDefining here id v ls
+defining_by {here = here} {now = now} def grown shares shallow =
+    by def (definition_keeps def) (record { shape = grown }) shallow
   where
     by : {T V : Table} {L : Bounds} {id : TypeId} {v : Tree} {ls : List ℕ} → Defines base_table L T id v ls V
-        → Keeps T V → Keeps V now → L.depth ≤ greatest_depth → IsDefining now id v ls
-    by (defines {n = n} {a = a} {b = b} may de d i s k) one two sh = record {
+        → Keeps T V → Keeps V now → L.depth ≤ greatest_depth → IsDefining here id v ls
+    by (defines {n = n} {v = v} {a = a} {b = b} may de d i s k) one two sh = record {
       below = n;
       number = a;
       description = b;
@@ -91,7 +105,7 @@ defining_by {now = now} def grown shallow = by def (definition_keeps def) (recor
       id_is = i;
       small = omega (arith, may.own);
       signed = s;
-      spelled = spells_on two (spells_on one k);
+      spelled = shares v b (spells_on two (spells_on one k));
       shallow = omega arith;
     }
 
@@ -102,9 +116,9 @@ below_zero {id = id} {below = below} {number = number} e l s =
     let same : negsuc below ≡ to_z w64 (of_z w64 (pos 0 -ℤ to_z w64 id)) = omega (arith, ints) in
     subst (λ i. IsSigned i number) same s
 
-pub is_defining : {now : Table} {id : TypeId} {v : Tree} {ls : List ℕ} → AreOfDefinition now id v ls
-    → IsDefining now id v ls
-is_defining a = defining_by a.defines a.grown a.shallow
+pub is_defining : {here : Table} {id : TypeId} {v : Tree} {ls : List ℕ} → AreOfDefinition here id v ls
+    → IsDefining here id v ls
+is_defining a = defining_by a.defines a.grown a.shares a.shallow
 
 -- ---- definitions in a value
 
@@ -114,7 +128,7 @@ defs_keep none_defined = record { shape = λ t s e. e }
 defs_keep (one_defined o d ds) = in_turn (definition_keeps d) (defs_keep ds)
 
 -- the first of them, and the others
-record FirstDefined (now : Table) (id : TypeId) (v : Tree) (ds : Definitions) (L : Bounds) (V : Table) (ls : List ℕ)
+record FirstDefined (id : TypeId) (v : Tree) (ds : Definitions) (L : Bounds) (V : Table) (ls : List ℕ)
     : Type 0 where
   pub first : List ℕ
   pub others : List ℕ
@@ -125,8 +139,8 @@ record FirstDefined (now : Table) (id : TypeId) (v : Tree) (ds : Definitions) (L
   pub define : AreDefined base_table L middle ds others V
   pub keep : Keeps middle V
 
-first_defined : {now T V : Table} {L : Bounds} {id : TypeId} {v : Tree} {ds : Definitions} {ls : List ℕ}
-    → AreDefined base_table L T (definition id v ds) ls V → FirstDefined now id v ds L V ls
+first_defined : {T V : Table} {L : Bounds} {id : TypeId} {v : Tree} {ds : Definitions} {ls : List ℕ}
+    → AreDefined base_table L T (definition id v ds) ls V → FirstDefined id v ds L V ls
 first_defined {T = T} (one_defined {U = U} {b = b} {c = c} o def k) = record {
   first = b;
   others = c;
@@ -138,17 +152,17 @@ first_defined {T = T} (one_defined {U = U} {b = b} {c = c} o def k) = record {
   keep = defs_keep k;
 }
 
-pub record NextDefined (now : Table) (d : Definition) (ds : List Definition) (ls : List ℕ) : Type 0 where
+pub record NextDefined (here : Table) (d : Definition) (ds : List Definition) (ls : List ℕ) : Type 0 where
   pub first : List ℕ
   pub others : List ℕ
   pub whole : ls ≡ (first ++ (cut ∷ [])) ++ others
-  pub of_first : AreOfDefinition now d.id (view d.described) first
-  pub of_others : AreOfDefinitions now ds others
+  pub of_first : AreOfDefinition here d.id (view d.described) first
+  pub of_others : AreOfDefinitions here ds others
 
-next_defined : {now : Table} {all : List Definition} {ls : List ℕ} (d : Definition) (ds : List Definition)
-    → all ≡ d ∷ ds → AreOfDefinitions now all ls → NextDefined now d ds ls
-next_defined {now = now} {all = all} {ls = ls} d ds e a =
-    let f : FirstDefined now d.id (view d.described) (definitions_of ds) a.limits a.behind ls =
+next_defined : {here : Table} {all : List Definition} {ls : List ℕ} (d : Definition) (ds : List Definition)
+    → all ≡ d ∷ ds → AreOfDefinitions here all ls → NextDefined here d ds ls
+next_defined {all = all} {ls = ls} d ds e a =
+    let f : FirstDefined d.id (view d.described) (definitions_of ds) a.limits a.behind ls =
     first_defined
     (subst (λ all. AreDefined base_table a.limits a.before (definitions_of all) ls a.behind) e a.define) in
     record {
@@ -159,28 +173,32 @@ next_defined {now = now} {all = all} {ls = ls} d ds e a =
         limits = a.limits;
         before = f.start;
         behind = f.middle;
+        now = a.now;
         defines = f.defines;
         grown = λ t s m. a.grown t s (f.keep.shape t s m);
+        shares = a.shares;
         shallow = a.shallow;
       };
       of_others = record {
         limits = a.limits;
         before = f.middle;
         behind = a.behind;
+        now = a.now;
         define = f.define;
         grown = a.grown;
+        shares = a.shares;
         shallow = a.shallow;
       };
     }
 
-pub definition_there : {now : Table} {ls : List ℕ} (all : List Definition) (i : ℕ) (d : Definition)
-    → d ≡ get_or all i d → i < length all → AreOfDefinitions now (drop i all) ls
-    → NextDefined now d (drop (i + 1) all) ls
+pub definition_there : {here : Table} {ls : List ℕ} (all : List Definition) (i : ℕ) (d : Definition)
+    → d ≡ get_or all i d → i < length all → AreOfDefinitions here (drop i all) ls
+    → NextDefined here d (drop (i + 1) all) ls
 definition_there all i d is l a = next_defined d (drop (i + 1) all) (item_left all i d is l) a
 
 -- behind the last of them nothing is left
-pub no_definition_left : {now : Table} {all : List Definition} {ls : List ℕ} → all ≡ [] → AreOfDefinitions now all ls
-    → ls ≡ []
+pub no_definition_left : {here : Table} {all : List Definition} {ls : List ℕ} → all ≡ []
+    → AreOfDefinitions here all ls → ls ≡ []
 no_definition_left {ls = ls} e a =
     none (subst (λ all. AreDefined base_table a.limits a.before (definitions_of all) ls a.behind) e a.define)
   where

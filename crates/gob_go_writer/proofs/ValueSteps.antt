@@ -23,7 +23,7 @@ use Rattle.gob_go.specs.Meaning.{IsFilled, is_filled, AreFillings, no_fillings, 
 use Rattle.gob_go.specs.declared.filled.Filled.{Filled, out-Filled}
 use Rattle.gob_go.specs.declared.filled.Filling.{Filling, out-Filling}
 use Rattle.gob_go_writer.specs.Item.{IsGrown}
-use Rattle.gob_go_writer.specs.Machine.Parts.{AreOfFilling, AreOfValue}
+use Rattle.gob_go_writer.specs.Machine.Parts.{AreOfFilling, AreOfValue, SharesDescriptions}
 use Rattle.gob_go_writer.proofs.PartSteps.{defs_keep, item_left}
 
 -- ---- tables behind tables
@@ -41,11 +41,12 @@ grown_by V k g = λ t s e. g t s (k.shape t s e)
 
 -- the letters are what is left of the value behind so many bytes of its skeleton, where the fillings from this number
 -- on are left
-pub record IsLeft (now : Table) (kept : Filled) (number done : ℕ) (ls : List ℕ) : Type 0 where
+pub record IsLeft (here : Table) (kept : Filled) (number done : ℕ) (ls : List ℕ) : Type 0 where
   pub limits : Bounds
   pub before : Table
   pub at : Table
   pub behind : Table
+  pub now : Table
   pub type : TypeId
   pub limit : ℕ
   pub front : List ℕ
@@ -56,19 +57,22 @@ pub record IsLeft (now : Table) (kept : Filled) (number done : ℕ) (ls : List �
   pub means : AreFillings now (drop number (out-Filled kept).fillings.items) fillings
   pub fills : Fills base_table limits before type limit at front rest fillings ls behind
   pub grown : IsGrown behind now
+  pub shares : SharesDescriptions now here
   pub shallow : limits.depth ≤ greatest_depth
 
 -- all of it
-all_left_by : {now T V : Table} {L : Bounds} {t : TypeId} {limit : ℕ} {kept : Filled} {w : spelled.Filled} {ls : List ℕ}
+all_left_by : {here now T V : Table} {L : Bounds} {t : TypeId} {limit : ℕ} {kept : Filled} {w : spelled.Filled}
+    {ls : List ℕ}
     → IsFilled now t kept w → SpellsFilled base_table L T t limit w ls V → Keeps T now → IsGrown V now
-    → L.depth ≤ greatest_depth → IsLeft now kept 0 0 ls
+    → SharesDescriptions now here → L.depth ≤ greatest_depth → IsLeft here kept 0 0 ls
 all_left_by {now = now} {T = T} {V = V} {L = L} {t = t} {limit = limit} {ls = ls}
-    (is_filled {kept = kept} {fs = fs} top means) (with_fillings {b = b} sp de fl) keep grown shallow =
+    (is_filled {kept = kept} {fs = fs} top means) (with_fillings {b = b} sp de fl) keep grown shares shallow =
     record {
       limits = L;
       before = T;
       at = T;
       behind = V;
+      now = now;
       type = t;
       limit = limit;
       front = [];
@@ -79,12 +83,13 @@ all_left_by {now = now} {T = T} {V = V} {L = L} {t = t} {limit = limit} {ls = ls
       means = means;
       fills = subst (λ b. Fills base_table L T t limit T [] b fs ls V) (one_top (top_on keep sp) top) fl;
       grown = grown;
+      shares = shares;
       shallow = shallow;
     }
 
-pub all_left : {now : Table} {kept : Filled} {ls : List ℕ} → AreOfValue now kept ls → IsLeft now kept 0 0 ls
+pub all_left : {here : Table} {kept : Filled} {ls : List ℕ} → AreOfValue here kept ls → IsLeft here kept 0 0 ls
 all_left a = all_left_by a.means a.spells (in_turn (filled_keeps a.spells) (record { shape = a.grown })) a.grown
-    a.shallow
+    a.shares a.shallow
 
 -- ---- the next filling
 
@@ -102,7 +107,7 @@ first_filling (filling_then {w = w} {fs = others} m ms) =
     record { value = w; others = others; is = refl; means = m; others_mean = ms }
 
 -- what stands at the first filled nil
-record AtFilling (now : Table) (L : Bounds) (T : Table) (t : TypeId) (limit place : ℕ) (s : List ℕ) (ds : Definitions)
+record AtFilling (L : Bounds) (T : Table) (t : TypeId) (limit place : ℕ) (s : List ℕ) (ds : Definitions)
     (u : TypeId) (v : spelled.Filled) (fs : Fillings) (done left ls : List ℕ) (V : Table) : Type 0 where
   pub between : List ℕ
   pub count : List ℕ
@@ -126,10 +131,10 @@ record AtFilling (now : Table) (L : Bounds) (T : Table) (t : TypeId) (limit plac
   pub are_segments : AreSegments letters segments
   pub fills : Fills base_table L T t limit held_at (done ++ (between ++ (0 ∷ []))) left_behind fs behind V
 
-at_filling : {now : Table} {L : Bounds} {T U V : Table} {t u : TypeId} {limit place : ℕ} {s done left ls : List ℕ}
+at_filling : {L : Bounds} {T U V : Table} {t u : TypeId} {limit place : ℕ} {s done left ls : List ℕ}
     {ds : Definitions} {v : spelled.Filled} {fs : Fillings}
     → Fills base_table L T t limit U done left (filling place s ds u v fs) ls V
-    → AtFilling now L T t limit place s ds u v fs done left ls V
+    → AtFilling L T t limit place s ds u v fs done left ls V
 at_filling {U = U} {limit = limit}
     (next_filled {V = V} {W = W} {d = d} {left = left} {a = a} {e = e} {n = n} {f = f} {ls = ls} {ms = ms} c oc ex l o p
     defs may i vs g fl) = record {
@@ -156,7 +161,7 @@ at_filling {U = U} {limit = limit}
       fills = fl;
     }
 
-pub record NextFilling (now : Table) (kept : Filled) (number done : ℕ) (f : Filling) (ls : List ℕ) : Type 0 where
+pub record NextFilling (here : Table) (kept : Filled) (number done : ℕ) (f : Filling) (ls : List ℕ) : Type 0 where
   pub between : List ℕ
   pub held : List ℕ
   pub behind : List ℕ
@@ -168,23 +173,23 @@ pub record NextFilling (now : Table) (kept : Filled) (number done : ℕ) (f : Fi
   pub place_is : (out-Filling f).place ≡ length front + length between
   pub low : done ≤ (out-Filling f).place
   pub high : (out-Filling f).place < length (out-Filled kept).skeleton.items
-  pub of_held : AreOfFilling now f held
-  pub left : IsLeft now kept (number + 1) ((out-Filling f).place + 1) behind
+  pub of_held : AreOfFilling here f held
+  pub left : IsLeft here kept (number + 1) ((out-Filling f).place + 1) behind
 
 -- a count and a name, and then the rest
 together : (count name rest : List ℕ) {ls : List ℕ} → ls ≡ count ++ (name ++ rest) → ls ≡ (count ++ name) ++ rest
 together count name rest e = e ∙ sym (append_assoc count name rest)
 
-next_filling : {now : Table} {kept : Filled} {number done : ℕ} {ls : List ℕ} (f : Filling)
+next_filling : {here : Table} {kept : Filled} {number done : ℕ} {ls : List ℕ} (f : Filling)
     {xs : List Filling} → xs ≡ (out-Filled kept).fillings.items → drop number xs ≡ f ∷ drop (number + 1) xs
-    → IsLeft now kept number done ls → NextFilling now kept number done f ls
-next_filling {now = now} {kept = kept} {number = number} {done = done} {ls = ls} f {xs = xs} same e' h =
+    → IsLeft here kept number done ls → NextFilling here kept number done f ls
+next_filling {kept = kept} {number = number} {done = done} {ls = ls} f {xs = xs} same e' h =
     let others = drop (number + 1) (out-Filled kept).fillings.items in
     let e : drop number (out-Filled kept).fillings.items ≡ f ∷ others =
     subst (λ xs. drop number xs ≡ f ∷ drop (number + 1) xs) same e' in
-    let first : FirstFilling now f others h.fillings =
-    first_filling (subst (λ l. AreFillings now l h.fillings) e h.means) in
-    let a : AtFilling now h.limits h.before h.type h.limit (out-Filling f).place (out-Filling f).name.items
+    let first : FirstFilling h.now f others h.fillings =
+    first_filling (subst (λ l. AreFillings h.now l h.fillings) e h.means) in
+    let a : AtFilling h.limits h.before h.type h.limit (out-Filling f).place (out-Filling f).name.items
     (definitions_of (out-Filling f).definitions.items) (out-Filling f).id first.value first.others h.front h.rest ls
     h.behind = at_filling
     (subst (λ fs. Fills base_table h.limits h.before h.type h.limit h.at h.front h.rest fs ls h.behind) first.is
@@ -195,8 +200,8 @@ next_filling {now = now} {kept = kept} {number = number} {done = done} {ls = ls}
     h.skeleton ∙ ap (λ l. h.front ++ l) a.left_is in
     let place : (out-Filling f).place ≡ length h.front + length a.between =
     a.place_is ∙ length-append h.front a.between in
-    let behind_held : IsGrown a.held_at now = grown_by now (fills_keep a.fills) h.grown in
-    let behind_definitions : IsGrown a.defined_at now = grown_by now (filled_keeps a.held) behind_held in
+    let behind_held : IsGrown a.held_at h.now = grown_by h.now (fills_keep a.fills) h.grown in
+    let behind_definitions : IsGrown a.defined_at h.now = grown_by h.now (filled_keeps a.held) behind_held in
     record {
       between = a.between;
       held = a.count ++ (name ++ (a.definitions ++ (a.number ++ a.segments)));
@@ -225,8 +230,10 @@ next_filling {now = now} {kept = kept} {number = number} {done = done} {ls = ls}
           limits = h.limits;
           before = a.at;
           behind = a.defined_at;
+          now = h.now;
           define = a.define;
           grown = behind_definitions;
+          shares = h.shares;
           shallow = h.shallow;
         };
         numbered = a.numbered;
@@ -234,12 +241,14 @@ next_filling {now = now} {kept = kept} {number = number} {done = done} {ls = ls}
           limits = h.limits;
           before = a.defined_at;
           behind = a.held_at;
+          now = h.now;
           type = (out-Filling f).id;
           limit = a.inner;
           value = first.value;
           means = first.means;
           spells = a.held;
           grown = behind_held;
+          shares = h.shares;
           shallow = h.shallow;
         };
         are_segments = a.are_segments;
@@ -250,6 +259,7 @@ next_filling {now = now} {kept = kept} {number = number} {done = done} {ls = ls}
         before = h.before;
         at = a.held_at;
         behind = h.behind;
+        now = h.now;
         type = h.type;
         limit = h.limit;
         front = h.front ++ (a.between ++ (0 ∷ []));
@@ -261,13 +271,14 @@ next_filling {now = now} {kept = kept} {number = number} {done = done} {ls = ls}
         means = first.others_mean;
         fills = a.fills;
         grown = h.grown;
+        shares = h.shares;
         shallow = h.shallow;
       };
     }
 
-pub filling_there : {now : Table} {kept : Filled} {number done : ℕ} {ls : List ℕ} {xs : List Filling} (f : Filling)
+pub filling_there : {here : Table} {kept : Filled} {number done : ℕ} {ls : List ℕ} {xs : List Filling} (f : Filling)
     → xs ≡ (out-Filled kept).fillings.items → f ≡ get_or xs number f → number < length xs
-    → IsLeft now kept number done ls → NextFilling now kept number done f ls
+    → IsLeft here kept number done ls → NextFilling here kept number done f ls
 filling_there {number = number} {xs = xs} f same is l h = next_filling f same (item_left xs number f is l) h
 
 -- ---- behind the last filling
@@ -278,27 +289,27 @@ pub record LastLeft (kept : Filled) (done : ℕ) (ls : List ℕ) : Type 0 where
   pub done_is : done ≡ length front
   pub low : done ≤ length (out-Filled kept).skeleton.items
 
-pub last_left : {now : Table} {kept : Filled} {number done : ℕ} {ls : List ℕ} {xs : List Filling}
-    → xs ≡ (out-Filled kept).fillings.items → drop number xs ≡ [] → IsLeft now kept number done ls
+pub last_left : {here : Table} {kept : Filled} {number done : ℕ} {ls : List ℕ} {xs : List Filling}
+    → xs ≡ (out-Filled kept).fillings.items → drop number xs ≡ [] → IsLeft here kept number done ls
     → LastLeft kept done ls
-last_left {now = now} {kept = kept} {number = number} {done = done} {ls = ls} same e' h =
+last_left {kept = kept} {number = number} {done = done} {ls = ls} same e' h =
     let done_is = h.done_is in
     let e : drop number (out-Filled kept).fillings.items ≡ [] = subst (λ xs. drop number xs ≡ []) same e' in record {
       front = h.front;
       low = omega (arith, ap length h.skeleton, length-append h.front h.rest);
       skeleton = h.skeleton ∙ ap (λ l. h.front ++ l)
-          (by (subst (λ l. AreFillings now l h.fillings) e h.means) h.fills);
+          (by (subst (λ l. AreFillings h.now l h.fillings) e h.means) h.fills);
       done_is = h.done_is;
     }
   where
-    none : {fs : Fillings} → AreFillings now [] fs → fs ≡ no_filling
+    none : {now : Table} {fs : Fillings} → AreFillings now [] fs → fs ≡ no_filling
     none no_fillings = refl
 
     as_it_is : {L : Bounds} {T U V : Table} {t : TypeId} {limit : ℕ} {front rest ls : List ℕ}
         → Fills base_table L T t limit U front rest no_filling ls V → rest ≡ ls
     as_it_is (as_it_stands o) = refl
 
-    by : {L : Bounds} {T U V : Table} {t : TypeId} {limit : ℕ} {front rest ls : List ℕ} {fs : Fillings}
+    by : {L : Bounds} {now T U V : Table} {t : TypeId} {limit : ℕ} {front rest ls : List ℕ} {fs : Fillings}
         → AreFillings now [] fs → Fills base_table L T t limit U front rest fs ls V → rest ≡ ls
     by {L = L} {T = T} {U = U} {V = V} {t = t} {limit = limit} {front = front} {rest = rest} {ls = ls} m f =
         as_it_is (subst (λ fs. Fills base_table L T t limit U front rest fs ls V) (none m) f)

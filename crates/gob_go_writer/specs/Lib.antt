@@ -3,3 +3,4 @@ pub mod Hoisting
 pub mod HoistingLaws
 pub mod Item
 pub mod Machine
+pub mod PuttingLaws

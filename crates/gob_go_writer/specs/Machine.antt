@@ -1,3 +1,6 @@
+pub mod Alike
 pub mod Hoisted
 pub mod Letters
 pub mod Parts
+pub mod PutFaults
+pub mod ReadingBack

@@ -1,16 +1,18 @@
 //! The bytes of an item.
 
-ghost use Rattle.std.specs.Prelude.{◌≡◌, ℕ, List, ◌++◌, OnErr, OnOk};
+ghost use Rattle.std.specs.Prelude.{◌≡◌, ℕ, List, ◌++◌, IfErr, OnErr, OnOk};
 ghost use Rattle.gob_num.specs.Spelled.{IsSpelled};
 ghost use Rattle.gob_types.specs.Defined.{types};
+ghost use Rattle.gob_types.specs.Denial.{IsDenial};
 ghost use Rattle.gob_go_writer.specs.Item.{IsItemOf};
 ghost use Rattle.gob_go_writer.specs.Machine.Letters.{TakesSegments};
+ghost use Rattle.gob_go_writer.specs.Machine.Parts.{IsItemUnder};
 
 use crate::segments::Segments;
-use crate::value::{put_definition, put_value};
+use crate::value::{has_number, put_definition, put_value};
 use gob_go::GoItem;
 use gob_num::Memory;
-use gob_types::Table;
+use gob_types::{Denial, Reason, Table};
 use std::alloc::Global;
 
 /// Appends the bytes of the item, as they stood in the stream that it was read of: the item must be one that a session
@@ -28,6 +30,27 @@ pub fn write_item(
         → out.new.items ≡ out.old.items ++ bytes) }
     ensures err { OnErr result (out.new.items ≡ out.old.items) }
 {
+    match spell_item(alloc, table, item, out) {
+        Ok(()) => Ok(()),
+        Err(Denial::Memory) => Err(Memory),
+        // an item of a stream is spelled
+        Err(Denial::Refused(_)) => unreachable!(),
+    }
+}
+
+/// Appends the bytes of an item, whoever made it. Where it is refused, no bytes are that item in any stream that goes
+/// on from the types of the table. After a denial the vector holds what it held.
+pub(crate) fn spell_item(
+    alloc: Global,
+    table: &Table,
+    item: &GoItem,
+    out: &mut Vec<u8>,
+) -> Result<(), Denial>
+    ensures ok { OnOk result ((bytes : List ℕ) → IsItemUnder (types table.now) item.now bytes
+        → out.new.items ≡ out.old.items ++ bytes) }
+    ensures refused { IfErr result (IsDenial (λ _. ¬ IsSpelled (IsItemUnder (types table.now) item.now))) }
+    ensures err { OnErr result (out.new.items ≡ out.old.items) }
+{
     let mut segments = Segments::new(alloc);
     put_item(alloc, table, item, &mut segments)?;
     let start = out.len();
@@ -35,7 +58,7 @@ pub fn write_item(
         Ok(()) => Ok(()),
         Err(_) => {
             out.truncate(start);
-            Err(Memory)
+            Err(Denial::Memory)
         }
     }
 }
@@ -46,14 +69,17 @@ fn put_item(
     table: &Table,
     item: &GoItem,
     segments: &mut Segments,
-) -> Result<(), Memory>
-    requires { IsSpelled (IsItemOf (types table.now) item.now) }
-    ensures { OnOk result ((bytes : List ℕ) → IsItemOf (types table.now) item.now bytes
+) -> Result<(), Denial>
+    ensures ok { OnOk result ((bytes : List ℕ) → IsItemUnder (types table.now) item.now bytes
         → TakesSegments segments.old segments.new bytes) }
+    ensures refused { IfErr result (IsDenial (λ _. ¬ IsSpelled (IsItemUnder (types table.now) item.now))) }
 {
     match item {
         GoItem::Define { id, described } => put_definition(alloc, table, *id, described, segments),
         GoItem::Put { id, value } => {
+            if !has_number(*id) {
+                return Err(Denial::Refused(Reason::UndefinedType(*id)));
+            }
             segments.put_int(alloc, id.0 as i64)?;
             put_value(alloc, table, value, segments)
         }

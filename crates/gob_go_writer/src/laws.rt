@@ -1,9 +1,16 @@
-//! Laws of hoisted items. The function does nothing: its contract is a law that is proved here, once.
+//! Laws of hoisted items and of what is put. The functions do nothing: their contracts are laws, proved here once.
 
 ghost use Rattle.gob_go_writer.specs.HoistingLaws.{HoistedHaveBytes};
+ghost use Rattle.gob_go_writer.specs.PuttingLaws.{PutIsRead};
 
 /// Where an item is one of a stream, the items that come of it are, too: they have bytes there, and behind them the
 /// types are those behind the item. The bytes may be more than the item's, so that limits may have to be wider.
 pub fn hoisted_items_have_bytes()
     ensures { HoistedHaveBytes }
+{}
+
+/// What a [`GoWriter`](crate::GoWriter) has written is one whole stream under its limits: whoever reads these bytes, in
+/// pieces of any lengths, is given the items that were put, and no other one.
+pub fn what_is_put_is_read()
+    ensures { PutIsRead }
 {}

@@ -1,4 +1,4 @@
-//! Items of streams of Go's encoder, written as they were read.
+//! Items of streams of Go's encoder, written: as they were read, or as a caller made them.
 //!
 //! [`write_item`] appends the bytes of an item as a [`GoSession`](gob_go::GoSession) gave it, and [`write_again`] those
 //! of all items of a stream. A value is spelled level by level: the skeleton, where a name, definitions, a type number
@@ -11,17 +11,27 @@
 //! segments  33 .. 01 02 01 09 "main.Wrap" ff83 ..      34 ff84 23 .. 0a .. 01 08 00
 //! ```
 //!
+//! A [`GoWriter`] writes a stream of items that a caller made. It appends an item exactly where some bytes are this
+//! item there, and refuses any other one: it spells the item, reads its own bytes, and compares what it reads.
+//!
 //! [`hoist_item`] gives each definition in a value an item of its own, in front of the value's: a stream of such items
-//! has the types of the other one, and no definition in a value. [`laws`] says that they have bytes where the item has.
+//! has the types of the other one, and no definition in a value.
+//!
+//! [`laws`] says that hoisted items have bytes where the item has, and that what is put is read.
 #![tactic(auto)]
 
 mod again;
 mod hoist;
 mod item;
 pub mod laws;
+mod put_fault;
+mod same;
 mod segments;
 mod value;
+mod writer;
 
 pub use again::write_again;
 pub use hoist::hoist_item;
 pub use item::write_item;
+pub use put_fault::PutFault;
+pub use writer::GoWriter;

@@ -1,10 +1,11 @@
-//! The segments of a value, level by level. Recursion is as deep as interfaces hold others, at most 1000.
+//! The segments of a value, level by level. Recursion is as deep as interfaces hold others.
 
-ghost use Rattle.std.specs.Prelude.{◌≡◌, ◌^◌, ◌<◌, ℕ, List, OnOk};
+ghost use Rattle.std.specs.Prelude.{◌≡◌, ◌^◌, ◌<◌, ℕ, List, IfErr, MatchBool, OnOk};
 ghost use Rattle.gob_num.specs.Spelled.{Appends, IsSpelled};
 ghost use Rattle.gob_num.specs.Unsigned.{AreBytes};
 ghost use Rattle.gob_types.specs.Base.{wire_type};
 ghost use Rattle.gob_types.specs.Defined.{types};
+ghost use Rattle.gob_types.specs.Denial.{IsDenial};
 ghost use Rattle.gob_value.specs.Spelling.{Spells};
 ghost use Rattle.gob_value.specs.View.{view};
 ghost use Rattle.gob_value.specs.Within.{FitsWithin};
@@ -14,10 +15,15 @@ ghost use Rattle.gob_go_writer.specs.Machine.Parts.{AreOfDefinition, AreOfDefini
 
 use crate::segments::Segments;
 use gob_go::{Definition, Filled, Filling};
-use gob_num::Memory;
-use gob_types::{Table, TypeId};
-use gob_value::{SpellFault, Value, spell};
+use gob_types::{Denial, Reason, Table, TypeId};
+use gob_value::{Value, spell};
 use std::alloc::Global;
+
+/// The answer where what is kept is no part of an item.
+pub(crate) const NO_ITEM: Denial = Denial::Refused(Reason::DoesNotFit);
+
+// The greatest id that is below 2^63, so that it has a type number.
+const GREATEST_ID: u64 = 9223372036854775807;
 
 /// Goes on with the definition of a type: the id below 0, and the description.
 pub(crate) fn put_definition(
@@ -26,33 +32,42 @@ pub(crate) fn put_definition(
     id: TypeId,
     described: &Value,
     segments: &mut Segments,
-) -> Result<(), Memory>
-    requires { IsSpelled (AreOfDefinition (types table.now) id (view described.now)) }
-    ensures { OnOk result ((letters : List ℕ) → AreOfDefinition (types table.now) id (view described.now) letters
+) -> Result<(), Denial>
+    ensures ok { OnOk result ((letters : List ℕ) → AreOfDefinition (types table.now) id (view described.now) letters
         → TakesBytes segments.old segments.new letters) }
+    ensures refused { IfErr result (IsDenial (λ _.
+        ¬ IsSpelled (AreOfDefinition (types table.now) id (view described.now)))) }
 {
+    if !has_number(id) {
+        return Err(Denial::Refused(Reason::ReservedType(id)));
+    }
     segments.put_int(alloc, -(id.0 as i64))?;
-    write_description(alloc, table, described, &mut segments.last)
+    write_description(alloc, table, described, &mut segments.last)?;
+    Ok(())
 }
 
-// Appends a description, which fits its type.
-fn write_description(
+/// Whether there is a number of the type.
+pub(crate) fn has_number(id: TypeId) -> bool
+    ensures { MatchBool result (id.0 < 2 ^ 63) (¬ (id.0 < 2 ^ 63)) }
+{
+    id.0 <= GREATEST_ID
+}
+
+/// Appends a description, where it is one of trees that are no deeper than 1000.
+pub(crate) fn write_description(
     alloc: Global,
     table: &Table,
     described: &Value,
     out: &mut Vec<u8>,
-) -> Result<(), Memory>
-    requires { FitsWithin (types table.now) wire_type greatest_depth (view described.now) }
+) -> Result<(), Denial>
     ensures spelled { OnOk result (Appends (Spells (types table.now) wire_type (view described.now)) out.old.items
         out.new.items) }
     ensures bytes { AreBytes out.new.items }
+    ensures refused { IfErr result (IsDenial (λ _.
+        ¬ FitsWithin (types table.now) wire_type greatest_depth (view described.now))) }
 {
-    match spell(alloc, table, TypeId::WIRE_TYPE, described, 1000, out) {
-        Ok(()) => Ok(()),
-        Err(SpellFault::Memory) => Err(Memory),
-        Err(SpellFault::TooDeep) => unreachable!(),
-        Err(SpellFault::DoesNotFit) => unreachable!(),
-    }
+    spell(alloc, table, TypeId::WIRE_TYPE, described, 1000, out)?;
+    Ok(())
 }
 
 // Goes on with definitions in a value, each of which ends its segment.
@@ -61,10 +76,10 @@ fn put_definitions(
     table: &Table,
     definitions: &[Definition],
     segments: &mut Segments,
-) -> Result<(), Memory>
-    requires { IsSpelled (AreOfDefinitions (types table.now) definitions.now) }
-    ensures { OnOk result ((letters : List ℕ) → AreOfDefinitions (types table.now) definitions.now letters
+) -> Result<(), Denial>
+    ensures ok { OnOk result ((letters : List ℕ) → AreOfDefinitions (types table.now) definitions.now letters
         → Takes segments.old segments.new letters) }
+    ensures refused { IfErr result (IsDenial (λ _. ¬ IsSpelled (AreOfDefinitions (types table.now) definitions.now))) }
 {
     for definition in definitions {
         put_definition(alloc, table, definition.id, &definition.described, segments)?;
@@ -80,19 +95,23 @@ pub(crate) fn put_value(
     table: &Table,
     value: &Filled,
     segments: &mut Segments,
-) -> Result<(), Memory>
-    requires { IsSpelled (AreOfValue (types table.now) value.now) }
-    ensures { OnOk result ((letters : List ℕ) → AreOfValue (types table.now) value.now letters
+) -> Result<(), Denial>
+    ensures ok { OnOk result ((letters : List ℕ) → AreOfValue (types table.now) value.now letters
         → Takes segments.old segments.new letters) }
+    ensures refused { IfErr result (IsDenial (λ _. ¬ IsSpelled (AreOfValue (types table.now) value.now))) }
 {
     let mut done = 0;
     for filling in &value.fillings {
+        if filling.place < done as u64 || filling.place >= value.skeleton.len() as u64 {
+            return Err(NO_ITEM);
+        }
         let place = filling.place as usize;
         segments.put(&value.skeleton[done..place])?;
         put_filling(alloc, table, filling, segments)?;
         done = place + 1;
     }
-    segments.put(&value.skeleton[done..])
+    segments.put(&value.skeleton[done..])?;
+    Ok(())
 }
 
 // Goes on with what fills a nil: a name, definitions, the type number, and the segments of the value.
@@ -102,15 +121,19 @@ fn put_filling(
     table: &Table,
     filling: &Filling,
     segments: &mut Segments,
-) -> Result<(), Memory>
-    requires { IsSpelled (AreOfFilling (types table.now) filling.now) }
-    ensures { OnOk result ((letters : List ℕ) → AreOfFilling (types table.now) filling.now letters
+) -> Result<(), Denial>
+    ensures ok { OnOk result ((letters : List ℕ) → AreOfFilling (types table.now) filling.now letters
         → Takes segments.old segments.new letters) }
+    ensures refused { IfErr result (IsDenial (λ _. ¬ IsSpelled (AreOfFilling (types table.now) filling.now))) }
 {
     segments.put_name(alloc, &filling.name)?;
     put_definitions(alloc, table, &filling.definitions, segments)?;
+    if !has_number(filling.id) {
+        return Err(Denial::Refused(Reason::UndefinedType(filling.id)));
+    }
     segments.put_int(alloc, filling.id.0 as i64)?;
     let mut held = Segments::new(alloc);
     put_value(alloc, table, &filling.value, &mut held)?;
-    held.append_to(alloc, &mut segments.last)
+    held.append_to(alloc, &mut segments.last)?;
+    Ok(())
 }

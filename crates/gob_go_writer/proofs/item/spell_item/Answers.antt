@@ -1,0 +1,16 @@
+use Rattle.std.proofs.Common.{[], ◌++◌, ◌∙◌, ap, take}
+use Rattle.std.proofs.Math.Seq.{take-append_seam}
+use Rattle.gob_go_writer.proofs.item.spell_item.Goals as goal
+
+pub returns-in-Ok-clause-ok : goal.returns-in-Ok-clause-ok
+returns-in-Ok-clause-ok c = λ bytes a.
+    let t = c.in_ok-put_item.ensures.ok bytes a in
+    c.in-Ok.ensures.ok t.letters bytes (t.takes.behind [] c.new-segments.ensures) t.are_segments
+
+pub returns-in-Err-clause-err : goal.returns-in-Err-clause-err
+returns-in-Err-clause-err c =
+    let more = c.in-Err.ensures.err in
+    let old = c.args.out.now in
+    c.truncate.ensures.items ∙ ap (λ l. take c.len-start.result l) more.appended
+    ∙ ap (λ n. take n (old.items ++ more.bytes)) (c.len-start.ensures ∙ old.ok.0)
+    ∙ take-append_seam old.items more.bytes
