@@ -45,6 +45,8 @@ ARRAY = HEX("0eff81010102ff82000104010400 00".replace(" ", ""))
 LOOP = HEX("0fff81010102ff820001ff8201020000")
 NODE = item(HEX("ff81 03 01 01 04 4e6f6465 01 ff82 00 01 01 01 04 4e657874 01 ff82 00 00 00".replace(" ", "")))
 TWO_NUMBERS = HEX("10ff8105010104 54696d65 01ff84000000".replace(" ", ""))
+# a big.Int in an interface, whose type is defined within the value
+BIG = HEX("151000082a6269672e496e74ff81050102ff8400000007ff82040002 0205".replace(" ", ""))
 
 CHANGED = "These bytes were changed, or something else stands in the file from here on."
 WRITER = "Go's encoder doesn't write this. Either these bytes were changed, or another program wrote the file."
@@ -53,6 +55,7 @@ FETCH = "Get the file once more from where it comes from, in binary, and compare
 COUNT = "how many bytes the next item has"
 TYPE = "a type: the id of a defined one, or below 0 the id that is defined here"
 TAG = "the byte 0, as before each value that is no struct"
+SEGMENT = "how many bytes come up to the next cut of the value, or to its end"
 WHOLE = "the end of the item, since what it holds is complete"
 DESCRIPTION = "the description of one type, with its own number"
 FIELDS = "0 for the end of the struct, or how far on the next field stands: of X, Y"
@@ -80,11 +83,11 @@ REASONS = [
         "2 NotMinimal at 36 seen 38", "This number is spelled in more bytes than it needs.",
         f"item 1, Point.X: {VALUE_OF_POINT}", INT, "ff 2c, at byte 36", WRITER, FETCH)),
     Row("item_too_long", POINT + HEX("fc04000001ff82"), due(
-        "3 ItemTooLong at 32 seen 37", "An item of more bytes than the limit allows is announced here.",
+        "3 ItemTooLong at 32 seen 37", "More bytes are announced here than the limit allows, or what is around them.",
         "item 1, which begins at byte 32", COUNT, "fc 04 00 00 01, at byte 32",
         "The item has 67108865 bytes, and the limit is 67108864.", "gob why --item 67108865 IN")),
     Row("item_of_no_type", POINT + HEX("fc04000001fe0400"), due(
-        "3 ItemTooLong at 32 seen 37", "An item of more bytes than the limit allows is announced here.",
+        "3 ItemTooLong at 32 seen 37", "More bytes are announced here than the limit allows, or what is around them.",
         "item 1, which begins at byte 32", COUNT, "fc 04 00 00 01, at byte 32", CHANGED, FETCH)),
     Row("stream_too_long", HEX("fb2000000000"), due(
         "4 StreamTooLong at 0 seen 6", "The stream would be longer than 64 GiB.", "item 0, which begins at byte 0",
@@ -133,28 +136,25 @@ REASONS = [
     Row("field_number", POINT + HEX("07ff82012c024200"), due(
         "15 FieldNumber at 37 seen 38", "A struct has no such field.", f"item 1, Point: {VALUE_OF_POINT}", FIELDS,
         "02, at byte 37", CHANGED, FETCH)),
-    Row("interface_value", HEX("0a1000066d61696e2e5000"), due(
-        "16 InterfaceValue at 3 seen 4",
-        "An interface holds a value here, which is read with --go alone.",
-        "item 0, interface{}: a value of type 8, interface{}, which begins at byte 0",
-        "the byte 0, for an interface that holds nothing", "06, at byte 3",
-        "The interface holds a value of the Go type main.P.",
-        "gob show --go IN")),
     Row("too_deep", NODE + item(HEX("ff82"), b"\1" * 5, bytes(6)), due(
         "17 TooDeep at 37 seen 37", "Parts lie in one another deeper than the limit allows.",
         "item 1, Node.Next.Next.Next.Next.Next: a value of type 65, Node, which begins at byte 29",
         "nothing: parts lie in one another as deep here as the limit allows", "00, at byte 37",
         "The value has the depth 6, and the limit is 5.", "gob why --depth 6 IN"), ("--depth", "5")),
+    Row("deeper_than_any_view", NODE + item(HEX("ff82"), b"\1" * 1200, bytes(1201)), due(
+        "17 TooDeep at 1034 seen 1034", "Parts lie in one another deeper than the limit allows.",
+        f"item 1, Node{'.Next' * 1000}: a value of type 65, Node, which begins at byte 29",
+        "nothing: parts lie in one another as deep here as the limit allows", "01, at byte 1034",
+        "Either the value is deep, as a long linked list is, or these bytes were changed.",
+        "If the values are meant to be so deep, type: gob check --depth 65536 IN")),
     Row("kind_count", HEX("03ff8100"), due(
         "18 KindCount at 3 seen 4", "A definition gives no kind of type, or more than one.",
         "item 0, wireType: the definition of type 65, which begins at byte 0", DESCRIPTION, "00, at byte 3", WRITER,
         FETCH)),
-    Row("wrong_id", TWO_NUMBERS, due(
-        "19 WrongId at 3 seen 17", "A definition names another number than the type that it defines.",
+    Row("wrong_id", HEX("0aff81050102ff80000000"), due(
+        "19 WrongId at 3 seen 11", "A definition names another number than the type that it defines.",
         "item 0, wireType: the definition of type 65, which begins at byte 0", DESCRIPTION,
-        "05 01 01 04 54 69 6d 65 01 ff 84 00 00 00, at byte 3",
-        "A type that encodes itself, as big.Int, was first sent by a pointer, and Go described it twice.",
-        "gob show --go IN")),
+        "05 01 02 ff 80 00 00 00, at byte 3", WRITER, FETCH)),
     Row("bad_reference", HEX("0eff81010102ff82000130010400 00".replace(" ", "")), due(
         "20 BadReference at 3 seen 15", "A definition leads to a number that no type can have.",
         "item 0, wireType: the definition of type 65, which begins at byte 0", DESCRIPTION,
@@ -166,6 +166,35 @@ REASONS = [
     Row("ended", POINT + HEX("07ff8201"), due(
         "22 Ended at 36 seen 36", "The file ends within an item.", f"item 1, Point.X: {VALUE_OF_POINT}", INT,
         "the end of the input, at byte 36",
+        "The file was cut off, or isn't all written yet. What stands before this item is whole.",
+        "Get the whole file.")),
+]
+
+
+def in_interface(line, what, path, expected, found, cause=CHANGED, step=FETCH):
+    return due(line, what, f"item 0, interface{{}}{path}: a value of type 8, interface{{}}, which begins at byte 0",
+               expected, found, cause, step)
+
+
+# within what an interface holds
+HELD = [
+    Row("short_name", HEX("05100003696e"), in_interface(
+        "5 Short at 6 seen 6", "The item ends here, and its value isn't complete.", "",
+        "the bytes of the name of what the interface holds", "the end of the item, at byte 6")),
+    Row("no_type_of_what_is_held", HEX("06100003696e74"), in_interface(
+        "5 Short at 7 seen 7", "The item ends here, and its value isn't complete.", "", TYPE,
+        "the end of the item, at byte 7")),
+    Row("reserved_type_of_what_is_held", HEX("0a100003696e747d02000a"), in_interface(
+        "7 ReservedType(63) at 7 seen 8", "A type is defined under a number that no type may have.", "", TYPE,
+        "7d, at byte 7")),
+    Row("segment_too_long", HEX("0a100003696e740403000a"), in_interface(
+        "3 ItemTooLong at 8 seen 9", "More bytes are announced here than the limit allows, or what is around them.", "",
+        SEGMENT, "03, at byte 8")),
+    Row("tag_of_what_is_held", HEX("0a100003696e740402010a"), in_interface(
+        "12 SingleTag at 9 seen 10", "Before a value that is no struct a byte other than 0 stands.", ".(int)", TAG,
+        "01, at byte 9")),
+    Row("ended_between_segments", BIG[:22], in_interface(
+        "22 Ended at 22 seen 22", "The file ends within an item.", "", SEGMENT, "the end of the input, at byte 22",
         "The file was cut off, or isn't all written yet. What stands before this item is whole.",
         "Get the whole file.")),
 ]
@@ -288,9 +317,12 @@ WHOLES = [
     Row("nothing", b"", "ok: 0 items, 0 types, 0 bytes\n"),
     Row("basics", HEX("0304000603020001") + HEX("03040008"),
         "ok: 3 items, 0 types, 12 bytes\n1 value of type 1, bool\n2 values of type 2, int\n"),
+    Row("two_numbers", TWO_NUMBERS, "ok: 1 items, 1 types, 17 bytes\n"),
+    Row("held", HEX("0a100003696e740402000a") + BIG,
+        "ok: 2 items, 1 types, 41 bytes\n2 values of type 8, interface{}\n"),
 ]
 
-ROWS = REASONS + CAUSES + WHOLES
+ROWS = REASONS + HELD + CAUSES + WHOLES
 
 
 def main():

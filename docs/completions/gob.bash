@@ -14,7 +14,8 @@ _gob() {
         case ${COMP_WORDS[1]} in
         show) words+=' --go' ;;
         check) words+=' --go' ;;
-        values) words+=' --zeros --raw' ;;
+        rewrite) words+=' --go --hoist' ;;
+        values) words+=' --zeros --raw --tagged' ;;
         explain) words+=' --fault --at' ;;
         esac
     else

@@ -10,7 +10,7 @@ use Rattle.gob_tool.specs.Fault.{fault_status, fault_line}
 use Rattle.gob_tool.specs.Running.{OrderAnswers, order_limits}
 use Rattle.gob_words.specs.Words.{order_line, order_status}
 use Rattle.gob_words.specs.declared.view.View.{View}
-use Rattle.gob_views.specs.Running.{ViewAnswers, view_explained, view_limits, view_style}
+use Rattle.gob_views.specs.Running.{ViewAnswers}
 use Rattle.gob.specs.declared.Stop.{Stop}
 use Rattle.gob.specs.declared.Stop.TheVariants.{Words, Run, Unread}
 use Rattle.gob.specs.declared.Stop.TheVariants as stop
@@ -94,5 +94,5 @@ pub record EndsView (view : View) (bytes : List ℕ) (old new : Option (List ℕ
   pub answered : HasAnswered told result
   -- what is left of the input
   pub now : Option (List ℕ)
-  pub does : ViewAnswers view.command (view_limits view) (view_style view) (view_explained view) bytes now old
+  pub does : ViewAnswers view bytes now old
       (append_known new lost) answer

@@ -25,7 +25,7 @@ use Rattle.gob_filled.proofs.Strict.{filled_keeps}
 use Rattle.gob_go.proofs.ItemsLaws.{grown_keeps, items_grown}
 use Rattle.gob_go_json.specs.FilledJson.{FilledShows, filled_shows, FillingsShow, none_left, then_shown}
 use Rattle.gob_go_json.specs.Laws.{IsShown}
-use Rattle.gob_go_json.proofs.NullsLaws.{put_nulls}
+use Rattle.gob_json_writer.proofs.NilsLaws.{put_nulls}
 use Rattle.gob_go_json.proofs.OnceLaws.{same_nils}
 use Rattle.gob_go_json.proofs.PartOrder.{BeginsTop, partial_body, nil_begins_top, top_order}
 

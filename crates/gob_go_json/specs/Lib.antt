@@ -1,3 +1,4 @@
 pub mod FilledJson
+pub mod Gaps
 pub mod Laws
 pub mod Machine

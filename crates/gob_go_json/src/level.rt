@@ -1,16 +1,12 @@
 //! What is read anew of the skeleton of a value: its tape, and which of its nils are filled.
 
-ghost use Rattle.std.specs.Prelude.{◌≡◌, ℕ, List, IfOk};
-ghost use Rattle.serde_json.specs.Data.{Data};
+ghost use Rattle.std.specs.Prelude.{IfOk};
 ghost use Rattle.gob_types.specs.Defined.{types};
 ghost use Rattle.gob_types.specs.Ready.{IsReady};
 ghost use Rattle.gob_value.specs.Tree.{Tree};
 ghost use Rattle.gob_value.specs.Top.{SpellsTop};
 ghost use Rattle.gob_tape.specs.Meaning.{Means};
-ghost use Rattle.gob_filled.specs.Filled.{Fillings};
-ghost use Rattle.gob_go.specs.Meaning.{AreFillings};
-ghost use Rattle.gob_go_json.specs.FilledJson.{FillingsShow};
-ghost use Rattle.gob_go_json.specs.Machine.Holding.{GapsShow};
+ghost use Rattle.gob_go_json.specs.Gaps.{AreGaps};
 
 use gob_go::Filling;
 use gob_num::Memory;
@@ -22,13 +18,8 @@ use std::alloc::Global;
 // The depth of the deepest value that a reader takes.
 const DEEPEST: u64 = 65536;
 
-/// The tape of a value of the type, which this spells.
-pub(crate) fn tape_of(
-    alloc: Global,
-    table: &Table,
-    id: TypeId,
-    skeleton: &[u8],
-) -> Result<Tape, Memory>
+/// The tape of a value of the type, which this spells, with its tag. `Memory` also where it spells none.
+pub fn tape_of(alloc: Global, table: &Table, id: TypeId, skeleton: &[u8]) -> Result<Tape, Memory>
     requires { IsReady (types table.now) id }
     ensures { IfOk result (λ tape. (v : Tree) → SpellsTop (types table.now) id v skeleton.now → Means tape v) }
 {
@@ -39,8 +30,10 @@ pub(crate) fn tape_of(
     }
 }
 
-/// For each filling how many parts of the value begin before its nil, behind that of the filling before.
-pub(crate) fn gaps_of(
+/// For each filling how many parts of the value begin before its nil, behind that of the filling before. The value is
+/// one of the type, which this spells, with its tag. `Memory` also where the fillings don't stand in parts of it, in
+/// their order.
+pub fn gaps_of(
     alloc: Global,
     table: &Table,
     id: TypeId,
@@ -48,9 +41,7 @@ pub(crate) fn gaps_of(
     fillings: &[Filling],
 ) -> Result<Vec<u64>, Memory>
     requires { IsReady (types table.now) id }
-    ensures { IfOk result (λ gaps. (fs : Fillings) (N : ℕ → Data) → AreFillings (types table.now) fillings.now fs
-        → FillingsShow (types table.now) id skeleton.now 0 0 fs N
-        → GapsShow (types table.now) 0 fillings.now gaps.items N) }
+    ensures { IfOk result (λ gaps. AreGaps (types table.now) id skeleton.now 0 fillings.now gaps.items) }
 {
     let mut reader = BodyReader::<CheckBuilder>::new(alloc, id, skeleton.len() as u64, DEEPEST)?;
     let mut gaps = Vec::new(alloc);
@@ -66,7 +57,10 @@ pub(crate) fn gaps_of(
             _ => return Err(Memory),
         }
         let begun = reader.held();
-        gaps.push(begun.saturating_sub(number))?;
+        let Some(gap) = begun.checked_sub(number) else {
+            return Err(Memory);
+        };
+        gaps.push(gap)?;
         let Some(behind) = begun.checked_add(1) else {
             return Err(Memory);
         };

@@ -6,6 +6,7 @@
 //! ```
 //!
 //! - [`write_filled`] tells a writer of JSON a value with its type.
+//! - [`tape_of`] and [`gaps_of`] read a skeleton anew: its tape, and in which of its parts the fillings stand.
 //! - [`laws`] has what the definitions in `specs/` entail: each value of a stream shows one JSON.
 #![tactic(auto)]
 
@@ -16,3 +17,4 @@ pub mod laws;
 mod level;
 
 pub use filled_json::write_filled;
+pub use level::{gaps_of, tape_of};

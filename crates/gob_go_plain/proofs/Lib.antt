@@ -1,1 +1,4 @@
-mod HoldingLaws
+mod NilLaws
+mod PlacingLaws
+mod FilledLaws
+pub mod PublicLaws

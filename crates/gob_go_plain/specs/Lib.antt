@@ -1,1 +1,3 @@
-pub mod Holding
+pub mod Filled
+pub mod Laws
+pub mod Machine

@@ -1,87 +1,95 @@
 //! The text of a value that holds others.
 
-ghost use Rattle.std.specs.Prelude.{◌≡◌, ℕ, IfOk, Some, slice_get, string_bytes};
+ghost use Rattle.std.specs.Prelude.{◌≡◌, IfOk, string_bytes};
 ghost use Rattle.json.specs.Json.{Json};
 ghost use Rattle.json.specs.Lex.{tokens};
 ghost use Rattle.json.specs.Print.{print};
 ghost use Rattle.json.specs.Tree.{json_tokens};
 ghost use Rattle.gob_types.specs.Defined.{types};
-ghost use Rattle.gob_plain.specs.Fillers.{AreFillers, FillerSays, HasJson, SaysFiller};
-ghost use Rattle.gob_go_plain.specs.Holding as spec;
-ghost use Rattle.gob_go_plain.specs.Holding.{AreHeld, HeldSays, IsHeld, IsHolding, IsTag, OneSays, SaysHolding};
+ghost use Rattle.gob_filled.specs.Filled as spelled;
+ghost use Rattle.gob_go.specs.Meaning.{IsFilled};
+ghost use Rattle.gob_go.specs.declared.filled.Filled.{out-Filled};
+ghost use Rattle.gob_go_plain.specs.Filled.{SaysFilled};
+ghost use Rattle.gob_go_plain.specs.Machine.Placing.{FillersSay, FillerFits, IsTag};
 
-use crate::holding::{Held, Holding};
+use crate::nils::nils_of;
+use crate::placing::in_nils;
+use gob_go::{Filled, Filling};
+use gob_go_json::{gaps_of, tape_of};
+use gob_num::Memory;
 use gob_plain::{Filler, Fillers, Style, plain_text_with};
 use gob_types::{Table, TypeId};
-use std::alloc::{AllocError, Global};
+use std::alloc::Global;
 
-/// The plain JSON of a value of this type, compact, without a line feed, where each interface is shown as what it
-/// holds, and `null` where that is nothing. A held value is its plain JSON; where they are `tagged` it is
-/// `{"NAME":value}`, by the name of its type. What a reader of JSON reads there is that JSON.
+/// The plain JSON of a value of this type of the table, compact, without a line feed. Each interface is shown as what
+/// it holds, and as `null` where that is nothing. A held value is its plain JSON; where they are `tagged` it is
+/// `{"NAME":value}`, by the name of its type. What a reader of JSON reads there is that JSON. `Memory` also where it is
+/// no value of the type, or holds one that is none of its own. Recursion is as deep as values hold one another.
 #[cycle(text)]
-pub fn held_text(
+pub fn filled_text(
     alloc: Global,
     id: TypeId,
-    value: &Holding,
+    value: &Filled,
     table: &Table,
     style: Style,
     tagged: bool,
-) -> Result<String, AllocError>
-    ensures said { IfOk result (λ text. (w : spec.Holding) → IsHolding value.now w
-        → (j : Json) × SaysHolding tagged style (types table.now) id w j
+) -> Result<String, Memory>
+    ensures said { IfOk result (λ text. (w : spelled.Filled) → IsFilled (types table.now) id value.now w
+        → (j : Json) × SaysFilled tagged style (types table.now) id w j
         × (string_bytes text ≡ print (json_tokens j)) × (tokens (string_bytes text) ≡ json_tokens j)) }
     ensures json { IfOk result (λ text. (j : Json) × (tokens (string_bytes text) ≡ json_tokens j)) }
 {
-    let fillers = fillers_of(alloc, &value.held, table, style, tagged)?;
+    if !table.kept(id) {
+        return Err(Memory);
+    }
+    let fillers = fillers_of(alloc, value, table, style, tagged)?;
+    let tape = tape_of(alloc, table, id, &value.skeleton)?;
+    let gaps = gaps_of(alloc, table, id, &value.skeleton, &value.fillings)?;
+    let nils = nils_of(alloc, &tape)?;
+    let all = in_nils(alloc, &nils, &gaps, fillers)?;
     // a tape means a value
-    let _depth = value.tape.depth();
-    let mut nils = Fillers {
-        all: &fillers,
+    let _depth = tape.depth();
+    let mut fillers = Fillers {
+        all: &all,
         passed: 0,
     };
-    plain_text_with(alloc, id, &value.tape, table, style, &mut nils)
+    let text = plain_text_with(alloc, id, &tape, table, style, &mut fillers)?;
+    Ok(text)
 }
 
-/// What fills the nils that hold these.
+/// The JSON of what each filling has its interface hold.
 #[cycle(text)]
 fn fillers_of<'a>(
     alloc: Global,
-    held: &'a Vec<Option<Held>>,
+    value: &'a Filled,
     table: &Table,
     style: Style,
     tagged: bool,
-) -> Result<Vec<Option<Filler<'a>>>, AllocError>
-    ensures said { IfOk result (λ fillers. (h : spec.Held) → AreHeld held.now.items h
-        → (k : ℕ) (j : Json) → FillerSays (slice_get fillers.items k) j
-        → HeldSays tagged style (types table.now) h k j) }
-    ensures json { IfOk result (λ fillers. AreFillers fillers.items) }
+) -> Result<Vec<Filler<'a>>, Memory>
+    ensures { IfOk result (λ fillers. FillersSay tagged style (types table.now)
+        (out-Filled value.now).fillings.items fillers.items) }
 {
-    let mut fillers = Vec::with_capacity(alloc, held.len())?;
-    for one in held {
-        let filler = match one {
-            Some(held) => Some(filler_of(alloc, held, table, style, tagged)?),
-            None => None,
-        };
+    let mut fillers = Vec::with_capacity(alloc, value.fillings.len())?;
+    for filling in &value.fillings {
+        let filler = filler_of(alloc, filling, table, style, tagged)?;
         fillers.push(filler)?;
     }
     Ok(fillers)
 }
 
-/// What fills a nil that holds this.
+/// The JSON of what the filling has its interface hold.
 #[cycle(text)]
 fn filler_of<'a>(
     alloc: Global,
-    held: &'a Held,
+    filling: &'a Filling,
     table: &Table,
     style: Style,
     tagged: bool,
-) -> Result<Filler<'a>, AllocError>
-    ensures said { IfOk result (λ filler. (h : spec.One) → IsHeld (Some held.now) h
-        → (j : Json) → SaysFiller filler j → OneSays tagged style (types table.now) h j) }
-    ensures json { IfOk result HasJson }
+) -> Result<Filler<'a>, Memory>
+    ensures { IfOk result (λ filler. FillerFits tagged style (types table.now) filling.now filler) }
 {
-    let text = held_text(alloc, held.id, &held.value, table, style, tagged)?;
-    let name = tag_of(tagged, &held.name);
+    let text = filled_text(alloc, filling.id, &filling.value, table, style, tagged)?;
+    let name = tag_of(tagged, &filling.name);
     Ok(Filler { name, text })
 }
 

@@ -2,4 +2,4 @@
 #![tactic(auto)]
 
 #[cfg(test)]
-mod held_values;
+mod filled_values;

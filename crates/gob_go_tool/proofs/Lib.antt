@@ -1,4 +1,8 @@
 pub mod CountLaws
 pub mod CheckLaws
+mod FormLaws
+mod HoistedLineLaws
 pub mod LineLaws
-pub mod ShowLaws
+mod RewriteLaws
+pub mod TextLaws
+mod ShowLaws

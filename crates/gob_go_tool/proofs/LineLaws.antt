@@ -1,7 +1,6 @@
 -- The lines of the definitions that a value holds, filling by filling.
 use Rattle.std.proofs.Common.{◌≡◌, ℕ, ◌+◌, ◌<◌, List, [], ◌∷◌, ◌++◌, length, drop, get_or}
-use Rattle.std.proofs.Common.{◌∙◌, ap, sym, subst, refl, append_assoc, append-nil, Option, Some}
-use Rattle.std.proofs.lemmas.List.{drop_more}
+use Rattle.std.proofs.Common.{◌∙◌, ap, sym, subst, refl, append_assoc, append-nil}
 use Rattle.json.specs.Print.{print}
 use Rattle.json.specs.Token.{Token}
 use Rattle.json.specs.Tree.{json_tokens}
@@ -12,7 +11,7 @@ use Rattle.gob_types.specs.Table.{Table}
 use Rattle.gob_types.specs.declared.id.TypeId.{TypeId}
 use Rattle.gob_value.specs.Tree.{Tree}
 use Rattle.gob_value.specs.View.{view}
-use Rattle.gob_stream.specs.Item.{defines}
+use Rattle.gob_stream.specs.Item.{defines, puts}
 use Rattle.gob_filled.specs.Filled.{Definitions, Fillings, no_filling, filling}
 use Rattle.gob_filled.specs.Filled as spelled
 use Rattle.gob_value.specs.declared.value.Value.{Value}
@@ -25,12 +24,11 @@ use Rattle.gob_go.specs.declared.filled.Definition.{Definition}
 use Rattle.gob_go.specs.declared.filled.Filled.{Filled, out-Filled}
 use Rattle.gob_go.specs.declared.filled.Filling.{Filling, out-Filling}
 use Rattle.gob_tool.specs.Line.{line}
-use Rattle.gob_go_tool.specs.LineGo.{definition_lines, filling_lines, inner_lines}
+use Rattle.gob_go_json.specs.FilledJson.{FilledShows}
+use Rattle.gob_go_json.proofs.ShownLaws.{shows_as_ever}
+use Rattle.gob_go_writer.proofs.PartSteps.{item_left}
+use Rattle.gob_go_tool.specs.LineGo.{definition_lines, filling_lines, inner_lines, value_line}
 use Rattle.gob_go_tool.specs.Machine.Lines.{LinesGiven, ShowsInLines}
-
-item_left : {X : Type 0} (xs : List X) (i : ℕ) (x : X) → x ≡ get_or xs i x → i < length xs
-    → drop i xs ≡ x ∷ drop (i + 1) xs
-item_left xs i x is l = drop_more xs i x l ∙ ap (λ y. y ∷ drop (i + 1) xs) (sym is)
 
 -- ---- definitions
 pub definition_made : {new : List ℕ} (T : Table) (old mid : List ℕ) (ds : List Definition) (i : ℕ) (d : Definition)
@@ -119,11 +117,17 @@ line_printed {before = before} {tokens = tokens} d held {old = old} whole same w
     ∙ ap (λ (ts : List Token). old ++ print ts) written ∙ ap (λ (l : List ℕ). old ++ l) (print-outline d))
     ∙ append_assoc old (compact_text d) (10 ∷ [])
 
+-- the lines of a value in which nothing is held are the one that it has in the format
+pub line_unfilled : {T : Table} {t : TypeId} {v other : Tree} {N : ℕ → Data}
+    → FilledShows T t (spelled.filled v no_filling) other N
+    → inner_lines T (spelled.filled v no_filling) ++ value_line T t other N ≡ line T (puts t v)
+line_unfilled shows = ap (λ j. compact_text j ++ 10 ∷ []) (shows_as_ever shows).1
+
 -- ---- an item that was given
-pub definition_given : {old new : List ℕ} (T : Table) (o : Option GoItem) (id : TypeId) (described : Value)
-    → o ≡ Some (item.Define id described) → old ≡ [] → ((v : Tree) → new ≡ old ++ line T (defines id v))
-    → LinesGiven T o new
-definition_given {old = old} {new = new} T o id described e none made =
+pub definition_given : {old new : List ℕ} (T : Table) (given : GoItem) (id : TypeId) (described : Value)
+    → given ≡ item.Define id described → old ≡ [] → ((v : Tree) → new ≡ old ++ line T (defines id v))
+    → LinesGiven T given new
+definition_given {old = old} {new = new} T given id described e none made =
     subst (λ o. LinesGiven T o new) (sym e) (λ i m. by m)
   where
     by : {i : FilledItem} → ItemMeans T (item.Define id described) i → ShowsInLines T i new

@@ -24,10 +24,10 @@ use json::Writer;
 use std::alloc::Global;
 use std::mem;
 
-/// Makes the lines of an item, if there is one.
-pub(crate) fn given_lines(
+/// Makes the lines of an item in `lines`, which is empty.
+pub(crate) fn push_lines(
     alloc: Global,
-    item: &Option<GoItem>,
+    item: &GoItem,
     table: &Table,
     lines: &mut Vec<u8>,
 ) -> Result<(), Memory>
@@ -35,9 +35,8 @@ pub(crate) fn given_lines(
     ensures { OnOk result (LinesGiven (types table.now) item.now lines.new.items) }
 {
     match item {
-        None => Ok(()),
-        Some(GoItem::Define { id, .. }) => push_definition(alloc, *id, table, lines),
-        Some(GoItem::Put { id, value }) => {
+        GoItem::Define { id, .. } => push_definition(alloc, *id, table, lines),
+        GoItem::Put { id, value } => {
             push_inner(alloc, value, table, lines)?;
             push_value(alloc, *id, value, table, lines)
         }

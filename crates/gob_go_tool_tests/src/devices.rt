@@ -1,4 +1,4 @@
-//! Readers and writers that pass a byte a call, and fail in one of their calls.
+//! Readers and writers that pass a byte a call, and fail in one of their calls; and a reader that gives pieces.
 
 use std::alloc::Global;
 use std::io;
@@ -39,6 +39,28 @@ impl SlowReader {
             calls: 0,
             at: 0,
         }
+    }
+}
+
+/// A reader that gives so many bytes a call at most.
+#[derive(Drop)]
+pub(crate) struct PieceReader<'a> {
+    bytes: &'a [u8],
+    most: usize,
+}
+
+impl Read for PieceReader<'_> {
+    fn read(&mut self, buf: &mut [u8]) -> io::Result<usize> {
+        let count = self.most.min(self.bytes.len()).min(buf.len());
+        buf[..count].copy_from_slice(&self.bytes[..count]);
+        self.bytes = &self.bytes[count..];
+        Ok(count)
+    }
+}
+
+impl<'a> PieceReader<'a> {
+    pub(crate) fn new(bytes: &'a [u8], most: usize) -> PieceReader<'a> {
+        PieceReader { bytes, most }
     }
 }
 

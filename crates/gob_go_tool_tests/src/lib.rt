@@ -11,6 +11,8 @@ mod fault_tests;
 #[cfg(test)]
 mod memory_tests;
 #[cfg(test)]
+mod rewrites;
+#[cfg(test)]
 mod runs;
 #[cfg(test)]
 mod shows;

@@ -1,6 +1,6 @@
 //! Runs over devices, and how they end.
 
-use gob_go_tool::{run_check_go, run_show_go};
+use gob_go_tool::{run_check_go, run_rewrite_go, run_show_go};
 use gob_stream::{Input, Limits, Output};
 use gob_tool::ToolFault;
 use std::alloc::Global;
@@ -65,4 +65,16 @@ pub(crate) fn is_shown(
     let mut held = Vec::new(alloc);
     let ended = show(alloc, bytes, &mut held, limits);
     ends_so(alloc, &ended, due) && held.as_slice() == written
+}
+
+/// How a run that writes the tidy forms of what these devices give ends, hoisted or not.
+pub(crate) fn rewrite<R: Read + Drop, W: Write + Drop>(
+    alloc: Global,
+    reader: R,
+    writer: W,
+    hoist: bool,
+) -> Result<(), ToolFault> {
+    let mut input = Input::new(reader);
+    let mut output = Output::new(writer);
+    run_rewrite_go(alloc, &mut input, &mut output, Limits::standard(), hoist)
 }

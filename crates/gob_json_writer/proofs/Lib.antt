@@ -1,3 +1,3 @@
-mod NilsLaws
+pub mod NilsLaws
 pub mod WrittenLaws
 pub mod TapeLaws

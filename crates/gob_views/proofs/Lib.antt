@@ -1,6 +1,4 @@
-pub mod SaysStay
+pub mod IdLaws
 pub mod PlainLaws
-pub mod KeepLaws
-pub mod ValueRuns
 pub mod SendLaws
 pub mod TypeRuns

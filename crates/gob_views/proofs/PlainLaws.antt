@@ -1,81 +1,95 @@
--- The lines of values: how they go on, and that they stay when the table grows.
-use Rattle.std.proofs.Common.{ℕ, List, [], ◌∷◌, ◌++◌, Option, sym, subst, append_assoc}
-use Rattle.gob_types.specs.declared.id.TypeId.{TypeId}
-use Rattle.gob_types.specs.Ready.{IsReady}
+-- The lines of values.
+use Rattle.std.proofs.Common.{◌≡◌, ◌∙◌, ℕ, List, [], ◌∷◌, ◌++◌, Bool, arith, ap, min, sym, subst}
+use Rattle.json.specs.Json.{Json}
+use Rattle.json.specs.Lex.{tokens}
+use Rattle.json.specs.Print.{print}
+use Rattle.json.specs.Tree.{json_tokens}
+use Rattle.json_controls.specs.Controls.{shown_text}
 use Rattle.gob_types.specs.Table.{Table}
-use Rattle.gob_types.proofs.PublicLaws.{Keeps, ready_on}
-use Rattle.gob_tape.specs.Calls.Builder.{tape_building}
-use Rattle.gob_tape.specs.Flat.{Flat}
-use Rattle.gob_plain.specs.declared.style.Style.{Style}
-use Rattle.gob_stream.specs.Body.{Body}
-use Rattle.gob_stream.specs.Body as body
-use Rattle.gob_stream.specs.Bounds.{Bounds}
-use Rattle.gob_stream.specs.Calls.Reader.{GivesItems, gives_none, gives_one}
-use Rattle.gob_value.specs.Spelling.{Spells}
-use Rattle.gob_value.specs.Top.{at_once, tagged}
+use Rattle.gob_types.specs.declared.id.TypeId.{TypeId}
 use Rattle.gob_value.specs.Tree.{Tree}
-use Rattle.gob_value.specs.View.{view}
-use Rattle.gob_stream.specs.Item.{StreamItem, defines, puts, means_definition, means_value}
-use Rattle.gob_stream.specs.Stream.{AreItems, no_more, and_then, counted}
-use Rattle.gob_stream.specs.declared.item.Item as declared
-use Rattle.gob_value.proofs.PublicLaws.{spells_on}
-use Rattle.gob_tool.proofs.LinesStay.{stream_keeps}
-use Rattle.gob_views.specs.Machine.Lines.{GivesLine}
-use Rattle.gob_views.specs.Values.{ArePlain, no_item, definition, value}
-use Rattle.gob_views.proofs.SaysStay.{says_stay}
+use Rattle.gob_value.specs.declared.value.Value.{Value}
+use Rattle.gob_tape.specs.Flat.{Flat}
+use Rattle.gob_tape.specs.Meaning.{Means}
+use Rattle.gob_plain.specs.declared.style.Style.{Style}
+use Rattle.gob_plain.specs.Filled.{SaysIn}
+use Rattle.gob_stream.specs.Bounds.{deepest, greatest_depth}
+use Rattle.gob_filled.specs.Stream.{FilledItem}
+use Rattle.gob_go.specs.Calls.Reader.{session_of, waits_in}
+use Rattle.gob_go.specs.Calls.Session.{HasBodyNext, IsBetweenItems, limits_of, types_of}
+use Rattle.gob_go.specs.Meaning.{ItemMeans, means_definition, means_value}
+use Rattle.gob_go.specs.declared.filled.Filled.{Filled}
+use Rattle.gob_go.specs.declared.item.GoItem.{GoItem}
+use Rattle.gob_go.specs.declared.item.GoItem.TheVariants as item
+use Rattle.gob_go.specs.declared.reader.GoReader.{GoReader}
+use Rattle.gob_go_plain.proofs.PublicLaws.{ValueText, says_unfilled}
+use Rattle.gob_go_tool.specs.Texts.{IsWholeText}
+use Rattle.gob_views.specs.Machine.Tapes.{IsTapeOf}
+use Rattle.gob_views.specs.Values.{IsPlainLine}
 
-pub plain_append : {style : Style} {T : Table} {items others : List StreamItem} {lines more : List ℕ}
-    → ArePlain style T items lines
-    → ArePlain style T others more → ArePlain style T (items ++ others) (lines ++ more)
-plain_append no_item q = q
-plain_append (definition p) q = definition (plain_append p q)
-plain_append {style = style} {T = T} {others = others} {more = more}
-    (value {t = t} {v = v} {text = text} {items = items} {lines = lines} s p) q =
-    subst (λ (l : List ℕ). ArePlain style T (puts t v ∷ (items ++ others)) l)
-    (sym (append_assoc text (10 ∷ lines) more)) (value s (plain_append p q))
+-- a reader that reads JSON in its text reads it in the line
+abbrev pub ReadsInLine : List ℕ → Type 0
+ReadsInLine text = (j : Json) → text ≡ print (json_tokens j) → tokens text ≡ json_tokens j
+    → tokens (shown_text text) ≡ json_tokens j
 
--- ---- when the table grows
+-- ---- an item that was given
+pub definition_line : (tagged : Bool) (style : Style) {T : Table} {given : GoItem} {id : TypeId} {described : Value}
+    {line : List ℕ} → given ≡ item.Define id described → line ≡ [] → (i : FilledItem) → ItemMeans T given i
+    → IsPlainLine tagged style T i line
+definition_line tagged style {T = T} {id = id} {described = described} {line = line} e none =
+    subst (λ g. (i : FilledItem) → ItemMeans T g i → IsPlainLine tagged style T i line) (sym e) (λ i m. by m)
+  where
+    by : {i : FilledItem} → ItemMeans T (item.Define id described) i → IsPlainLine tagged style T i line
+    by means_definition = none
 
--- an item that is a value has a ready type in the table
-data IsReadyThere (T : Table) : StreamItem → Type 0 where
-  is_defined : {id : TypeId} {v : Tree} → IsReadyThere T (defines id v)
-  fits_there : {id : TypeId} {v : Tree} {b : List ℕ} → IsReady T id → Spells T id v b → IsReadyThere T (puts id v)
+pub value_line : {tagged : Bool} {style : Style} {T : Table} {given : GoItem} {id : TypeId} {kept : Filled}
+    {text old line : List ℕ} → given ≡ item.Put id kept → ValueText tagged style T id kept text → ReadsInLine text
+    → old ≡ [] → line ≡ old ++ (shown_text text ++ 10 ∷ []) → (i : FilledItem) → ItemMeans T given i
+    → IsPlainLine tagged style T i line
+value_line {tagged = tagged} {style = style} {T = T} {id = id} {kept = kept} {text = text} {line = line} e said reads
+    none made =
+    subst (λ g. (i : FilledItem) → ItemMeans T g i → IsPlainLine tagged style T i line) (sym e) (λ i m. by m)
+  where
+    by : {i : FilledItem} → ItemMeans T (item.Put id kept) i → IsPlainLine tagged style T i line
+    by (means_value {w = w} m) =
+        let s = said w m in (
+          shown_text text,
+          record { json = s.0; says = s.1; prints = ap shown_text s.2; reads = reads s.0 s.2 s.3 },
+          made ∙ ap (λ (l : List ℕ). l ++ (shown_text text ++ 10 ∷ [])) none,
+        )
 
-kept_ready : {T U : Table} {i : StreamItem} → Keeps T U → IsReadyThere T i → IsReadyThere U i
-kept_ready keeps is_defined = is_defined
-kept_ready keeps (fits_there r p) = fits_there (ready_on keeps r) (spells_on keeps p)
-
-body_ready : {base : Table} {L : Bounds} {T U : Table} {i : StreamItem} {d : List ℕ} → Body base L T i d U
-    → IsReadyThere U i
-body_ready (body.definition p l x n q k) = is_defined
-body_ready (body.value p l n (at_once e s q)) = fits_there p.ready q
-body_ready (body.value p l n (tagged e s q)) = fits_there p.ready q
-
-first_stays : {style : Style} {T U : Table} {i : StreamItem} {items : List StreamItem} {lines : List ℕ} → Keeps T U
-    → IsReadyThere T i → ((rest : List ℕ) → ArePlain style T items rest → ArePlain style U items rest)
-    → ArePlain style T (i ∷ items) lines → ArePlain style U (i ∷ items) lines
-first_stays keeps has f (definition p) = definition (f _ p)
-first_stays {style = style} keeps (fits_there r q) f (value s p) = value (record {
-  json = s.json;
-  says = says_stay style keeps r q s.json s.says;
-  prints = s.prints;
-  reads = s.reads;
-}) (f _ p)
-
--- the lines of the items of a stream, by the types behind them
-pub plain_stay : {style : Style} {base : Table} {L : Bounds} {T U V : Table} {offset : ℕ} {items : List StreamItem}
-    {b lines : List ℕ} → AreItems base L T offset items b U → Keeps U V → ArePlain style U items lines
-    → ArePlain style V items lines
-plain_stay no_more keeps no_item = no_item
-plain_stay (and_then (counted u l s p) e r) keeps h =
-    first_stays keeps (kept_ready (stream_keeps r) (body_ready p)) (λ rest q. plain_stay r keeps q) h
-
--- ---- what a step gave
-pub plain_given : {style : Style} {T : Table} {o : Option (declared.Item Flat)} {more : List StreamItem} {line : List ℕ}
-    → GivesItems tape_building.means o more → GivesLine style T o line → ArePlain style T more line
-plain_given {style = style} {T = T} gives_none h = subst (λ (l : List ℕ). ArePlain style T [] l) (sym h) no_item
-plain_given {style = style} {T = T} (gives_one (means_definition {id = id} {described = described})) h =
-    subst (λ (l : List ℕ). ArePlain style T (defines id (view described) ∷ []) l) (sym h) (definition no_item)
-plain_given {style = style} {T = T} (gives_one (means_value {id = id} {v = v} m)) h =
-    let said = h v m in
-    subst (λ (l : List ℕ). ArePlain style T (puts id v ∷ []) l) (sym said.2) (value said.1 no_item)
+-- ---- an item that waits as a whole
+pub whole_line : {tagged : Bool} {style : Style} {T U : Table} {r : GoReader} {id : TypeId} {body text line : List ℕ}
+    {used limit : ℕ} {tape : Flat} → IsBetweenItems (session_of r)
+    → HasBodyNext (session_of r) id body used (waits_in r)
+    → T ≡ types_of (session_of r) → U ≡ types_of (session_of r)
+    → limit ≡ min (limits_of (session_of r)).depth greatest_depth
+    → IsTapeOf T id (min limit deepest) body tape
+    → ((v : Tree) → Means tape v → (j : Json) × SaysIn style U id v j × (text ≡ print (json_tokens j))
+    × (tokens text ≡ json_tokens j)) → ReadsInLine text → line ≡ shown_text text ++ 10 ∷ []
+    → IsWholeText (IsPlainLine tagged style) r used line
+whole_line {tagged = tagged} {style = style} {r = r} {id = id} {body = body} {text = text} {limit = limit} {tape = tape}
+    between next same also deep t says reads made =
+    let S = types_of (session_of r) in
+    let by = subst (λ (T : Table). IsTapeOf T id (min limit deepest) body tape) same t in
+    let v = by.whole.value in
+    let s = says v by.means in
+    let within = by.whole.within in
+    let plain = subst (λ (T : Table). SaysIn style T id v s.0) also s.1 in
+    record {
+      id = id;
+      body = body;
+      between = between;
+      next = next;
+      whole = record { value = v; spelled = by.whole.spelled; within = omega (arith, within, deep) };
+      is = (
+        shown_text text,
+        record {
+          json = s.0;
+          says = says_unfilled tagged style S id v body s.0 by.whole.spelled plain;
+          prints = ap shown_text s.2;
+          reads = reads s.0 s.2 s.3;
+        },
+        made,
+      );
+    }

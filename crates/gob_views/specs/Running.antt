@@ -1,6 +1,7 @@
 -- What the run of a view answers. (docs/FORMAT.md, The program: this project's own.)
 use Rattle.std.specs.Prelude.{ℕ, Bool, true, false, List, [], ◌∷◌, ◌++◌, Option, None, Some, Result, codes}
 use Rattle.gob_go_tool.specs.CheckingGo.{CheckGoAnswers}
+use Rattle.gob_go_tool.specs.RewritingGo.{RewriteGoAnswers}
 use Rattle.gob_go_tool.specs.ShowingGo.{ShowGoAnswers}
 use Rattle.gob_plain.specs.declared.style.Style.{Style}
 use Rattle.gob_stream.specs.Bounds.{Bounds}
@@ -37,14 +38,23 @@ view_explained view = explained_by view.fault view.at
 abbrev pub version_line : List ℕ
 version_line = codes "gob 0.1.0" ++ 10 ∷ []
 
--- how it ends, over an input with these bytes left and an output with the old bytes
-abbrev pub ViewAnswers : ViewCommand → Bounds → Style → Explained → (bytes : List ℕ)
-    → (now old new : Option (List ℕ)) → Result (Unit {0}) ToolFault → Type 0
-ViewAnswers command.Values L style which bytes now old new result = ValuesAnswers style L bytes now old new result
-ViewAnswers command.Types L style which bytes now old new result = TypesAnswers L bytes now old new result
-ViewAnswers command.Why L style which bytes now old new result = WhyAnswers L bytes now old new result
-ViewAnswers command.Explain L style which bytes now old new result =
-    ExplainAnswers which L bytes now old new result
-ViewAnswers command.Version L style which bytes now old new result = SendsText old new version_line result
-ViewAnswers command.ShowGo L style which bytes now old new result = ShowGoAnswers L bytes now old new result
-ViewAnswers command.CheckGo L style which bytes now old new result = CheckGoAnswers L bytes now old new result
+-- how the run of this command ends, over an input with these bytes left and an output with the old bytes
+abbrev pub CommandAnswers : ViewCommand → View → (bytes : List ℕ) → (now old new : Option (List ℕ))
+    → Result (Unit {0}) ToolFault → Type 0
+CommandAnswers command.Values view bytes now old new result =
+    ValuesAnswers view.tagged (view_style view) (view_limits view) bytes now old new result
+CommandAnswers command.Types view bytes now old new result = TypesAnswers (view_limits view) bytes now old new result
+CommandAnswers command.Why view bytes now old new result = WhyAnswers (view_limits view) bytes now old new result
+CommandAnswers command.Explain view bytes now old new result =
+    ExplainAnswers (view_explained view) (view_limits view) bytes now old new result
+CommandAnswers command.Version view bytes now old new result = SendsText old new version_line result
+CommandAnswers command.ShowGo view bytes now old new result = ShowGoAnswers (view_limits view) bytes now old new result
+CommandAnswers command.CheckGo view bytes now old new result =
+    CheckGoAnswers (view_limits view) bytes now old new result
+CommandAnswers command.RewriteGo view bytes now old new result =
+    RewriteGoAnswers view.hoist (view_limits view) bytes now old new result
+
+-- how what the view asks for ends
+abbrev pub ViewAnswers : View → (bytes : List ℕ) → (now old new : Option (List ℕ)) → Result (Unit {0}) ToolFault
+    → Type 0
+ViewAnswers view bytes now old new result = CommandAnswers view.command view bytes now old new result

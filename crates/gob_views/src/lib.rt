@@ -13,6 +13,7 @@
 //! [`run_view`] is the run of any of these, and of `gob why` and `gob explain`, which are those of `gob_why`.
 #![tactic(auto)]
 
+mod ids;
 mod run;
 mod types;
 mod values;

@@ -9,7 +9,7 @@ ghost use Rattle.gob_views.specs.Sending.{SendsText};
 
 use crate::types::run_types;
 use crate::values::run_values;
-use gob_go_tool::{run_check_go, run_show_go};
+use gob_go_tool::{run_check_go, run_rewrite_go, run_show_go};
 use gob_plain::Style;
 use gob_stream::{Input, Limits, Output};
 use gob_tool::{ToolFault, end_run};
@@ -27,14 +27,22 @@ pub fn run_view<R: Read, W: Write>(
     output: &mut Output<W>,
 ) -> Result<(), ToolFault>
     ensures shows { (bytes : List ℕ) → R.remaining (reader_of input.old) ≡ Some bytes
-        → ViewAnswers view.now.command (view_limits view.now) (view_style view.now)
-        (view_explained view.now) bytes (R.remaining (reader_of input.new)) (W.contents (writer_of output.old))
+        → ViewAnswers view.now bytes (R.remaining (reader_of input.new)) (W.contents (writer_of output.old))
         (W.contents (writer_of output.new)) result }
     ensures reads { CountsReadFaults (failed_reads input.old) (failed_reads input.new) result }
     ensures writes { CountsWriteFaults (failed_writes output.old) (failed_writes output.new) result }
 {
     match view.command {
-        ViewCommand::Values => run_values(alloc, input, output, limits_of(view), style_of(view)),
+        ViewCommand::Values => {
+            run_values(
+                alloc,
+                input,
+                output,
+                limits_of(view),
+                style_of(view),
+                view.tagged,
+            )
+        }
         ViewCommand::Types => run_types(alloc, input, output, limits_of(view)),
         ViewCommand::Why => run_why(alloc, input, output, limits_of(view)),
         ViewCommand::Explain => {
@@ -43,6 +51,9 @@ pub fn run_view<R: Read, W: Write>(
         ViewCommand::Version => end_run(write_version(output), output),
         ViewCommand::ShowGo => run_show_go(alloc, input, output, limits_of(view)),
         ViewCommand::CheckGo => run_check_go(alloc, input, output, limits_of(view)),
+        ViewCommand::RewriteGo => {
+            run_rewrite_go(alloc, input, output, limits_of(view), view.hoist)
+        }
     }
 }
 

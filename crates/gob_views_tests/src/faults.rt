@@ -44,7 +44,14 @@ fn ends(
     let mut output = Output::new(&mut writer);
     let limits = Limits::standard();
     let ended = if of_values {
-        run_values(alloc, &mut input, &mut output, limits, Style::default())
+        run_values(
+            alloc,
+            &mut input,
+            &mut output,
+            limits,
+            Style::default(),
+            false,
+        )
     } else {
         run_types(alloc, &mut input, &mut output, limits)
     };

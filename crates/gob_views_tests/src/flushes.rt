@@ -20,7 +20,15 @@ fn a_line_is_out_before_more_is_read(rt: HostRuntime) -> Result<(), Fail> {
     let mut input = Input::new(reader);
     let mut output = Output::new(&mut writer);
     let style = Style::default();
-    let is_whole = run_values(alloc, &mut input, &mut output, Limits::standard(), style).is_ok();
+    let is_whole = run_values(
+        alloc,
+        &mut input,
+        &mut output,
+        Limits::standard(),
+        style,
+        false,
+    )
+    .is_ok();
     assert!(rt; is_whole, "the run");
     assert!(rt; writer.held.as_slice() == b"3\n4\n".as_slice(), "the lines");
     assert!(rt; writer.at_flushes.contains(&2), "the first line");

@@ -9,6 +9,8 @@ mod faults;
 #[cfg(test)]
 mod flushes;
 #[cfg(test)]
+mod held;
+#[cfg(test)]
 mod rows;
 #[cfg(test)]
 mod runs;

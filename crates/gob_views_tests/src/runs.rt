@@ -33,7 +33,14 @@ fn prints_values(alloc: Global, row: &Row) -> Result<bool, Memory> {
     let mut input = Input::new(bytes.as_slice());
     let mut output = Output::new(&mut written);
     let style = Style::default();
-    let ended = run_values(alloc, &mut input, &mut output, Limits::standard(), style);
+    let ended = run_values(
+        alloc,
+        &mut input,
+        &mut output,
+        Limits::standard(),
+        style,
+        false,
+    );
     is_so(alloc, ended, &written, row.values.as_bytes(), row.fault)
 }
 
@@ -103,6 +110,8 @@ fn usual(command: ViewCommand) -> View<'static> {
         item: 100,
         zeros: false,
         raw: false,
+        tagged: false,
+        hoist: false,
         fault: false,
         at: None,
     }
@@ -110,6 +119,16 @@ fn usual(command: ViewCommand) -> View<'static> {
 
 // A struct of which each field is there.
 const POINT: &str = "POINT 07 ff 82 01 2c 01 42 00";
+
+// The int 5 in an interface.
+const HELD: &str = "0a 10 00 03 69 6e 74 04 02 00 0a";
+
+// A big number in an interface, whose type is defined there, and the items that come of it.
+const DEFINED_INSIDE: &str =
+    "15 10 00 08 2a 62 69 67 2e 49 6e 74 ff 81 05 01 02 ff 84 00 00 00 07 ff 82 04 00 02 02 05";
+
+const HOISTED: &str =
+    "0a ff 81 05 01 02 ff 84 00 00 00 12 10 00 08 2a 62 69 67 2e 49 6e 74 ff 82 04 00 02 02 05";
 
 // A time in UTC.
 const TIME: &str = "TIME 13 ff 82 00 0f 01 00 00 00 0e c2 8b e7 70 00 00 00 00 ff ff";
@@ -144,6 +163,42 @@ fn views_are_run(rt: HostRuntime) -> Result<(), Fail> {
     let version = shown(alloc, &usual(ViewCommand::Version), POINT)?;
     assert!(rt; version.as_slice() == b"gob 0.1.0\n".as_slice(), "version");
     Ok(())
+}
+
+// Whether the value of the stream is printed so, with the names of held types or without.
+fn prints(alloc: Global, tagged: bool, stream: &str, due: &[u8]) -> Result<bool, AllocError> {
+    let mut view = usual(ViewCommand::Values);
+    view.tagged = tagged;
+    let printed = shown(alloc, &view, stream)?;
+    Ok(printed.as_slice() == due)
+}
+
+// Whether the stream is rewritten as the other one, with its definitions hoisted or not.
+fn rewrites(alloc: Global, hoist: bool, stream: &str, due: &str) -> Result<bool, AllocError> {
+    let mut view = usual(ViewCommand::RewriteGo);
+    view.hoist = hoist;
+    let due = bytes_of(alloc, due)?;
+    let rewritten = shown(alloc, &view, stream)?;
+    Ok(rewritten.as_slice() == due.as_slice())
+}
+
+#[test]
+fn what_interfaces_hold_is_viewed(rt: HostRuntime) {
+    let alloc = rt.alloc();
+    let held: [(&str, bool, &[u8]); 2] = [
+        ("plain", false, b"5\n"),
+        ("tagged", true, b"{\"int\":5}\n"),
+    ];
+    for (what, tagged, due) in held {
+        assert!(rt; prints(alloc, tagged, HELD, due) == Ok(true), "{}", what);
+    }
+    for (hoist, due) in [(false, DEFINED_INSIDE), (true, HOISTED)] {
+        assert!(rt;
+            rewrites(alloc, hoist, DEFINED_INSIDE, due) == Ok(true),
+            "hoisted: {}",
+            hoist
+        );
+    }
 }
 
 #[test]

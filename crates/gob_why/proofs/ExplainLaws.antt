@@ -2,41 +2,40 @@
 use Rattle.std.proofs.Common.{◌≡◌, ℕ, ◌+◌, ◌-◌, List, [], ◌++◌, take}
 use Rattle.std.proofs.Common.{Option, Some, Result, Ok, Err, ◌∙◌, ap, sym, subst, refl}
 use Rattle.std.proofs.Common.{append_assoc, append-nil, arith, length, length-append}
-use Rattle.std.proofs.lemmas.List.{take-append-le}
 use Rattle.std.specs.Io.KnownBytes.{Appends, Consumes, IsAtEnd, Keeps}
 use Rattle.std.proofs.KnownBytes.{Appends-kept, Appends-nil, Appends-trans, Consumes-kept, Consumes-nil, Consumes-trans}
 use Rattle.gob_types.specs.Base.{base_table}
 use Rattle.gob_types.specs.Table.{Table}
-use Rattle.gob_read.specs.Calls.Builders.{skip_building}
-use Rattle.gob_explain.specs.Items.{HasItemShown, ShowsItem}
-use Rattle.gob_stream.specs.Bounds.{Bounds, deepest, no_deeper}
-use Rattle.gob_stream.specs.Calls.Session.{FinishAnswers, HasRead, limits_of, types_of}
+use Rattle.gob_stream.specs.Bounds.{Bounds, within_trees}
 use Rattle.gob_stream.specs.Calls.Writing.{SentPrefix}
-use Rattle.gob_stream.specs.Item.{StreamItem}
-use Rattle.gob_stream.specs.Outcome.{EndsSo, Outcome, at_the_end, refused, the_end}
 use Rattle.gob_stream.specs.Reading.{SomeTaken, Taken}
-use Rattle.gob_stream.specs.Stream.{Stream, no_more}
 use Rattle.gob_stream.specs.declared.fault.Fault.{Fault}
 use Rattle.gob_stream.specs.declared.fault.Fault.TheVariants as reading
 use Rattle.gob_stream.specs.declared.fault.Refusal.{Refusal}
-use Rattle.gob_stream.proofs.PublicLaws.{after_gives, shown_refusal_stays, shown_there}
+use Rattle.gob_filled.specs.Outcome.{FilledOutcome, refused}
+use Rattle.gob_filled.specs.Stream.{FilledItem, FilledStream, no_more}
+use Rattle.gob_go.specs.Calls.Session.{FinishAnswers, HasRead, limits_of, types_of}
+use Rattle.gob_go.specs.Machine.SessionState.{SessionState}
+use Rattle.gob_go.specs.Reading.{RefusesBehind}
+use Rattle.gob_explain.specs.Items.{HasItemShown, ShowsItem}
 use Rattle.gob_tool.specs.Ending.{EndsRun, ends_so, flush_fails}
 use Rattle.gob_tool.specs.Fault.{reading_fault}
-use Rattle.gob_tool.specs.Showing.{AppendsPrefix, BeginsOutcome, EndsWhole, GivesOutcome, IsRefused}
+use Rattle.gob_tool.specs.Showing.{AppendsPrefix}
 use Rattle.gob_tool.specs.declared.fault.ToolFault.{ToolFault}
 use Rattle.gob_tool.specs.declared.fault.ToolFault.TheVariants as fault
 use Rattle.gob_tool.proofs.EndLaws.{all_kept, prefix_kept}
-use Rattle.gob_why.specs.Explain.{ExplainAnswers, HasExplained, HasRefused, IsCutOff, IsRefusedText}
+use Rattle.gob_go_tool.specs.RunningGo.{BeginsGo, EndsWholeGo, GivesLongestGo, IsRefusedGo}
+use Rattle.gob_why.specs.Explain.{ExplainAnswers, HasExplained, HasRefused, IsCutOff, IsRefusedText, ended_there}
 use Rattle.gob_why.specs.Explain.{IsRefusedChosen, explained_up_to, in_items, in_refused, no_item, refused_so}
+use Rattle.gob_why.specs.Explain.{shown_there}
 use Rattle.gob_why.specs.Machine.Keeping.{BeginsKept, ExplainsAll, ExplainsSo, HasKept, HasReadKept}
-use Rattle.gob_why.specs.Machine.Keeping.{KeepsAll, RefusesSo, ShowsRefused, Skipping, TellsRefused}
+use Rattle.gob_why.specs.Machine.Keeping.{KeepsAll, RefusesSo, ShowsRefused, TellsRefused}
 use Rattle.gob_why.specs.declared.explained.Explained.{Explained}
-use Rattle.gob_why.proofs.KeepingLaws.{kept_first}
-use Rattle.gob_why.proofs.ReadingLaws.{all_taken, taken_of}
+use Rattle.gob_why.proofs.ReadingLaws.{all_taken, gives_longest, refused_still, stream_read, taken_of}
 use Rattle.gob_why.proofs.RefusedLaws.{explained_there, refused_longer}
 
 -- ---- what is known of some text
-pub kept_begins : {which : Option Explained} {L : Bounds} {T : Table} {given : List StreamItem} {bytes item : List ℕ}
+pub kept_begins : {which : Option Explained} {L : Bounds} {T : Table} {given : List FilledItem} {bytes item : List ℕ}
     {begin : ℕ} {text : List ℕ} → HasKept which L T given bytes item begin text → BeginsKept which L bytes text
 kept_begins {T = T} {given = given} {item = item} k = record {
   given = given;
@@ -48,34 +47,34 @@ kept_begins {T = T} {given = given} {item = item} k = record {
   explained = k.explained;
 }
 
-pub all_begins : (which : Option Explained) (s : Skipping) (bytes item : List ℕ) (begin : ℕ) (text : List ℕ)
-    (r : Result (Unit {0}) Fault) → KeepsAll which s bytes item begin text r
-    → BeginsKept which (no_deeper deepest (limits_of s)) bytes text
-all_begins which s bytes item begin text (Ok u) h = kept_begins h.kept
-all_begins which s bytes item begin text (Err (reading.Refused R)) h = kept_begins h.kept
-all_begins which s bytes item begin text (Err reading.Read) h = absurd h
-all_begins which s bytes item begin text (Err reading.Memory) h = h
-all_begins which s bytes item begin text (Err reading.Failed) h = absurd h
+pub all_begins : (which : Option Explained) (s : SessionState) (items : ℕ) (bytes item : List ℕ) (begin : ℕ)
+    (text : List ℕ) (r : Result (Unit {0}) Fault) → KeepsAll which s items bytes item begin text r
+    → BeginsKept which (within_trees (limits_of s)) bytes text
+all_begins which s items bytes item begin text (Ok u) h = kept_begins h.kept
+all_begins which s items bytes item begin text (Err (reading.Refused R)) h = kept_begins h.kept
+all_begins which s items bytes item begin text (Err reading.Read) h = absurd h
+all_begins which s items bytes item begin text (Err reading.Memory) h = h
+all_begins which s items bytes item begin text (Err reading.Failed) h = absurd h
 
 -- under other limits that are the same, of what was asked for
 pub begins_as : (o : Option Explained) (which : Explained) (L M : Bounds) (bytes text : List ℕ) → o ≡ Some which → L ≡ M
-    → BeginsKept o (no_deeper deepest L) bytes text → BeginsKept (Some which) (no_deeper deepest M) bytes text
+    → BeginsKept o (within_trees L) bytes text → BeginsKept (Some which) (within_trees M) bytes text
 begins_as o which L M bytes text e f b =
-    subst (λ (M : Bounds). BeginsKept (Some which) (no_deeper deepest M) bytes text) f
-    (subst (λ (o : Option Explained). BeginsKept o (no_deeper deepest L) bytes text) e b)
+    subst (λ (M : Bounds). BeginsKept (Some which) (within_trees M) bytes text) f
+    (subst (λ (o : Option Explained). BeginsKept o (within_trees L) bytes text) e b)
 
-pub kept_for : (o : Option Explained) (which : Explained) (L M : Bounds) (T : Table) (given : List StreamItem)
+pub kept_for : (o : Option Explained) (which : Explained) (L M : Bounds) (T : Table) (given : List FilledItem)
     (bytes item : List ℕ) (begin : ℕ) (text : List ℕ) → o ≡ Some which → L ≡ M
-    → HasKept o (no_deeper deepest L) T given bytes item begin text
-    → HasKept (Some which) (no_deeper deepest M) T given bytes item begin text
+    → HasKept o (within_trees L) T given bytes item begin text
+    → HasKept (Some which) (within_trees M) T given bytes item begin text
 kept_for o which L M T given bytes item begin text e f k =
-    subst (λ (M : Bounds). HasKept (Some which) (no_deeper deepest M) T given bytes item begin text) f
-    (subst (λ (o : Option Explained). HasKept o (no_deeper deepest L) T given bytes item begin text) e k)
+    subst (λ (M : Bounds). HasKept (Some which) (within_trees M) T given bytes item begin text) f
+    (subst (λ (o : Option Explained). HasKept o (within_trees L) T given bytes item begin text) e k)
 
 -- the items of some stream that all the bytes begin with
 pub begun : (which : Explained) (L : Bounds) (P : List ℕ → Type 0) (bytes taken text : List ℕ) (now : Option (List ℕ))
     → BeginsKept (Some which) L taken text → Taken bytes now taken → P text
-    → BeginsOutcome L bytes (HasExplained (Some which) L P)
+    → BeginsGo L bytes (HasExplained (Some which) L P)
 begun which L P bytes taken text now b t p = record {
   items = b.given;
   begins = record {
@@ -89,52 +88,50 @@ begun which L P bytes taken text now b t p = record {
 }
 
 -- ---- from piece to piece
-pub explains_first : (o : Option Explained) (s : Skipping) (read out : Option (List ℕ)) (item : List ℕ) (begin : ℕ)
-    → HasRead skip_building s [] [] → item ≡ [] → begin ≡ 0 → ExplainsSo o s read read out out item begin
-explains_first o s read out item begin gave i b = record {
-  taken = [];
-  text = [];
-  input = Consumes-nil read;
-  kept = kept_first o s item begin [] gave i b refl;
-  out = Appends-nil out;
-}
+pub explains_first : (o : Option Explained) (s : SessionState) (items : ℕ) (read out : Option (List ℕ))
+    (item : List ℕ) (begin : ℕ) → HasReadKept o s items [] item begin []
+    → ExplainsSo o s items read read out out item begin
+explains_first o s items read out item begin h =
+    record { taken = []; text = []; input = Consumes-nil read; has = h; out = Appends-nil out }
 
 -- what was kept, with no line that waits
-pub no_lines : (o : Option Explained) (s : Skipping) (bytes item : List ℕ) (begin : ℕ) (text lines : List ℕ)
-    → lines ≡ [] → HasReadKept o s bytes item begin text → HasReadKept o s bytes item begin (text ++ lines)
-no_lines o s bytes item begin text lines e h =
-    subst (λ (t : List ℕ). HasReadKept o s bytes item begin t)
+pub no_lines : (o : Option Explained) (s : SessionState) (items : ℕ) (bytes item : List ℕ) (begin : ℕ)
+    (text lines : List ℕ) → lines ≡ [] → HasReadKept o s items bytes item begin text
+    → HasReadKept o s items bytes item begin (text ++ lines)
+no_lines o s items bytes item begin text lines e h =
+    subst (λ (t : List ℕ). HasReadKept o s items bytes item begin t)
     (sym (ap (λ (l : List ℕ). text ++ l) e ∙ append-nil text)) h
 
-pub explains_turn : (o : Option Explained) (s s' : Skipping) (read now next old mid new : Option (List ℕ))
-    (piece item item' lines : List ℕ) (begin begin' : ℕ) → (x : ExplainsSo o s read now old mid item begin)
-    → Consumes now next piece → HasReadKept o s' (x.taken ++ piece) item' begin' (x.text ++ lines)
-    → Appends mid new lines → ExplainsSo o s' read next old new item' begin'
-explains_turn o s s' read now next old mid new piece item item' lines begin begin' x c k a = record {
+pub explains_turn : (o : Option Explained) (s s' : SessionState) (items items' : ℕ)
+    (read now next old mid new : Option (List ℕ)) (piece item item' lines : List ℕ) (begin begin' : ℕ)
+    → (x : ExplainsSo o s items read now old mid item begin)
+    → Consumes now next piece → HasReadKept o s' items' (x.taken ++ piece) item' begin' (x.text ++ lines)
+    → Appends mid new lines → ExplainsSo o s' items' read next old new item' begin'
+explains_turn o s s' items items' read now next old mid new piece item item' lines begin begin' x c k a = record {
   taken = x.taken ++ piece;
   text = x.text ++ lines;
   input = Consumes-trans read now next x.taken piece x.input c;
-  kept = k;
+  has = k;
   out = Appends-trans old mid new x.text lines x.out a;
 }
 
 -- ---- the ends
 -- a read that failed
-pub read_stops : (o : Option Explained) (which : Explained) (s : Skipping) (M : Bounds)
+pub read_stops : (o : Option Explained) (which : Explained) (s : SessionState) (items : ℕ) (M : Bounds)
     (read now next old new : Option (List ℕ)) (item : List ℕ) (begin : ℕ) (bytes : List ℕ) → o ≡ Some which
-    → limits_of s ≡ M → ExplainsSo o s read now old new item begin → Keeps now next → read ≡ Some bytes
-    → SomeTaken bytes next (λ taken. GivesOutcome (no_deeper deepest M) taken
-    (HasExplained (Some which) (no_deeper deepest M) (Appends old new)))
-read_stops o which s M read now next old new item begin bytes e f x k known =
+    → limits_of s ≡ M → ExplainsSo o s items read now old new item begin → Keeps now next → read ≡ Some bytes
+    → SomeTaken bytes next (λ taken. GivesLongestGo (within_trees M) taken
+    (HasExplained (Some which) (within_trees M) (Appends old new)))
+read_stops o which s items M read now next old new item begin bytes e f x k known =
     let L = limits_of s in
-    let kept = kept_for o which L M (types_of s) x.kept.given x.taken item begin x.text e f x.kept.kept in
-    let outcome : GivesOutcome (no_deeper deepest L) x.taken
-    (HasExplained (Some which) (no_deeper deepest M) (Appends old new)) = record {
-      items = x.kept.given;
-      given = after_gives x.kept.gave;
+    let kept = kept_for o which L M x.has.gave.table x.has.given x.taken item begin x.text e f x.has.kept in
+    let outcome : GivesLongestGo (within_trees L) x.taken
+    (HasExplained (Some which) (within_trees M) (Appends old new)) = record {
+      items = x.has.given;
+      longest = gives_longest x.has.gave;
       holds = record {
         bytes = kept.prefix;
-        table = types_of s;
+        table = x.has.gave.table;
         text = x.text;
         explained = kept.explained;
         holds = x.out;
@@ -143,38 +140,29 @@ read_stops o which s M read now next old new item begin bytes e f x k known =
     record {
       bytes = x.taken;
       taken = taken_of next bytes x.taken known (Consumes-kept read now next x.taken x.input k);
-      holds = subst (λ (L : Bounds). GivesOutcome (no_deeper deepest L) x.taken
-          (HasExplained (Some which) (no_deeper deepest M) (Appends old new))) f outcome;
+      holds = subst (λ (L : Bounds). GivesLongestGo (within_trees L) x.taken
+          (HasExplained (Some which) (within_trees M) (Appends old new))) f outcome;
     }
 
 -- the end of the input between two items
-record HasTable (L : Bounds) (bytes : List ℕ) (items : List StreamItem) : Type 0 where
-  table : Table
-  stream : Stream base_table L items bytes table
-
-whole_stream : {L : Bounds} {bytes : List ℕ} {items : List StreamItem} → EndsSo base_table L bytes items the_end
-    → HasTable L bytes items
-whole_stream (at_the_end {T = T} p) = record { table = T; stream = p }
-
-pub end_explained : (o : Option Explained) (which : Explained) (s s' : Skipping) (M : Bounds)
+pub end_explained : (o : Option Explained) (which : Explained) (s s' : SessionState) (items : ℕ) (M : Bounds)
     (read now next old new : Option (List ℕ)) (item : List ℕ) (begin : ℕ) (bytes : List ℕ) (u : Unit {0})
-    → o ≡ Some which → limits_of s ≡ M → (x : ExplainsSo o s read now old new item begin) → Consumes now next []
-    → IsAtEnd next → FinishAnswers skip_building s s' x.kept.given x.taken (Ok u) → read ≡ Some bytes
-    → EndsWhole (no_deeper deepest M) bytes next (HasExplained (Some which) (no_deeper deepest M) (Appends old new))
-end_explained o which s s' M read now next old new item begin bytes u e f x c end g known =
+    → o ≡ Some which → limits_of s ≡ M → (x : ExplainsSo o s items read now old new item begin) → Consumes now next []
+    → IsAtEnd next → FinishAnswers s s' x.has.given x.taken (Ok u) → read ≡ Some bytes
+    → EndsWholeGo (within_trees M) bytes next (HasExplained (Some which) (within_trees M) (Appends old new))
+end_explained o which s s' items M read now next old new item begin bytes u e f x c end g known =
     let a = all_taken now next bytes x.taken known x.input c end in
-    let kept = kept_for o which (limits_of s) M (types_of s) x.kept.given x.taken item begin x.text e f x.kept.kept in
-    let w = whole_stream g.0.ends in
+    let kept = kept_for o which (limits_of s) M x.has.gave.table x.has.given x.taken item begin x.text e f x.has.kept in
     record {
-      items = x.kept.given;
-      table = w.table;
-      stream = subst (λ (L : Bounds). Stream base_table (no_deeper deepest L) x.kept.given bytes w.table) f
-          (subst (λ (b : List ℕ). Stream base_table (no_deeper deepest (limits_of s)) x.kept.given b w.table) a.all
-          w.stream);
+      items = x.has.given;
+      table = types_of s;
+      stream = subst (λ (L : Bounds). FilledStream base_table (within_trees L) x.has.given bytes (types_of s)) f
+          (subst (λ (b : List ℕ). FilledStream base_table (within_trees (limits_of s)) x.has.given b (types_of s)) a.all
+          (stream_read x.has.gave g.0.ends));
       end = a.end;
       holds = record {
         bytes = kept.prefix;
-        table = types_of s;
+        table = x.has.gave.table;
         text = x.text;
         explained = kept.explained;
         holds = x.out;
@@ -182,88 +170,93 @@ end_explained o which s s' M read now next old new item begin bytes u e f x c en
     }
 
 -- or within one
-pub end_refused : (o : Option Explained) (which : Explained) (s s' : Skipping) (M : Bounds)
+pub end_refused : (o : Option Explained) (which : Explained) (s s' : SessionState) (items : ℕ) (M : Bounds)
     (read now next old new : Option (List ℕ)) (item : List ℕ) (begin : ℕ) (bytes : List ℕ) (e : Fault)
-    → o ≡ Some which → limits_of s ≡ M → types_of s' ≡ types_of s → (x : ExplainsSo o s read now old new item begin)
-    → Consumes now next [] → IsAtEnd next → FinishAnswers skip_building s s' x.kept.given x.taken (Err e)
+    → o ≡ Some which → limits_of s ≡ M → types_of s' ≡ types_of s
+    → (x : ExplainsSo o s items read now old new item begin)
+    → Consumes now next [] → IsAtEnd next → FinishAnswers s s' x.has.given x.taken (Err e)
     → read ≡ Some bytes
-    → ExplainsAll which (no_deeper deepest M) (types_of s') bytes item begin next old new (Err (reading_fault e))
-end_refused o which s s' M read now next old new item begin bytes (reading.Refused R) e f t x c end g known =
+    → ExplainsAll which (within_trees M) (types_of s') bytes item begin next old new (Err (reading_fault e))
+end_refused o which s s' items M read now next old new item begin bytes (reading.Refused R) e f t x c end g known =
     let a = all_taken now next bytes x.taken known x.input c end in
-    let k = x.kept.kept in
+    let k = x.has.kept in
     let reached = explained_there k.prefix item g.0.ends k.stream k.whole in
-    let kept = kept_for o which (limits_of s) M (types_of s) x.kept.given x.taken item begin x.text e f x.kept.kept in
+    let kept = kept_for o which (limits_of s) M x.has.gave.table x.has.given x.taken item begin x.text e f x.has.kept in
     record {
-      given = x.kept.given;
-      outcome = subst (λ (L : Bounds). Outcome base_table (no_deeper deepest L) bytes x.kept.given (refused R)) f
-          (subst (λ (b : List ℕ). Outcome base_table (no_deeper deepest (limits_of s)) b x.kept.given (refused R)) a.all
+      given = x.has.given;
+      outcome = subst (λ (L : Bounds). FilledOutcome base_table (within_trees L) bytes x.has.given (refused R)) f
+          (subst (λ (b : List ℕ). FilledOutcome base_table (within_trees (limits_of s)) b x.has.given (refused R)) a.all
           g.0);
+      types = ended_there s (ap (λ (L : Bounds). within_trees L) f)
+          (subst (λ (b : List ℕ). HasRead s x.has.given b) a.all x.has.gave) g.1 (sym t);
       rest = [];
       read = x.taken;
       whole = sym a.all ∙ sym (append-nil x.taken);
       behind = omega (arith, reached.0, k.begins);
       there = reached.1;
       text = x.text;
-      kept = subst (λ (T : Table). HasKept (Some which) (no_deeper deepest M) T x.kept.given x.taken item begin x.text)
-          (sym t) kept;
+      table = x.has.gave.table;
+      kept = kept;
       out = x.out;
     }
-end_refused o which s s' M read now next old new item begin bytes reading.Read e f t x c end g known = absurd g
-end_refused o which s s' M read now next old new item begin bytes reading.Memory e f t x c end g known = absurd g
-end_refused o which s s' M read now next old new item begin bytes reading.Failed e f t x c end g known = absurd g
+end_refused o which s s' items M read now next old new item begin bytes reading.Read e f t x c end g known = absurd g
+end_refused o which s s' items M read now next old new item begin bytes reading.Memory e f t x c end g known = absurd g
+end_refused o which s s' items M read now next old new item begin bytes reading.Failed e f t x c end g known = absurd g
 
 -- a piece that couldn't all be taken, where the text of what was went out
-pub piece_refused : (o : Option Explained) (which : Explained) (s s' : Skipping) (M : Bounds)
+pub piece_refused : (o : Option Explained) (which : Explained) (s s' : SessionState) (items items' : ℕ) (M : Bounds)
     (read now next old mid new : Option (List ℕ)) (piece item item' lines : List ℕ) (begin begin' : ℕ)
     (bytes : List ℕ) (e : Fault) → o ≡ Some which → limits_of s' ≡ M
-    → (x : ExplainsSo o s read now old mid item begin) → Consumes now next piece
-    → KeepsAll o s' (x.taken ++ piece) item' begin' (x.text ++ lines) (Err e) → Appends mid new lines
+    → (x : ExplainsSo o s items read now old mid item begin) → Consumes now next piece
+    → KeepsAll o s' items' (x.taken ++ piece) item' begin' (x.text ++ lines) (Err e) → Appends mid new lines
     → read ≡ Some bytes
-    → ExplainsAll which (no_deeper deepest M) (types_of s') bytes item' begin' next old new (Err (reading_fault e))
-piece_refused o which s s' M read now next old mid new piece item item' lines begin begin' bytes (reading.Refused R) e f
-    x c k a known =
+    → ExplainsAll which (within_trees M) (types_of s') bytes item' begin' next old new (Err (reading_fault e))
+piece_refused o which s s' items items' M read now next old mid new piece item item' lines begin begin' bytes
+    (reading.Refused R) e f x c k a known =
     let L = limits_of s' in
     let t = taken_of next bytes (x.taken ++ piece) known (Consumes-trans read now next x.taken piece x.input c) in
-    let front = ap (λ b. take R.seen b) t.whole ∙ take-append-le R.seen (x.taken ++ piece) t.left (shown_there k.shown)
-    in
-    let stays = shown_refusal_stays (no_deeper deepest L) (x.taken ++ piece) bytes k.given R k.shown front in
     let reached = explained_there k.kept.prefix item' k.shown.outcome.ends k.kept.stream k.kept.whole in
     record {
       given = k.given;
-      outcome = subst (λ (L : Bounds). Outcome base_table (no_deeper deepest L) bytes k.given (refused R)) f
-          stays.1.outcome;
+      outcome = subst (λ (L : Bounds). FilledOutcome base_table (within_trees L) bytes k.given (refused R)) f
+          (subst (λ (b : List ℕ). FilledOutcome base_table (within_trees L) b k.given (refused R)) (sym t.whole)
+          (refused_still t.left k.shown));
+      types = shown_there (x.taken ++ piece) t.left t.whole
+          (subst (λ (L : Bounds). RefusesBehind (within_trees L) (x.taken ++ piece) k.given R (types_of s')) f k.types);
       rest = t.left;
       read = x.taken ++ piece;
       whole = t.whole;
       behind = omega (arith, reached.0, k.kept.begins);
       there = reached.1;
       text = x.text ++ lines;
-      kept = kept_for o which L M (types_of s') k.given (x.taken ++ piece) item' begin' (x.text ++ lines) e f k.kept;
+      table = k.table;
+      kept = kept_for o which L M k.table k.given (x.taken ++ piece) item' begin' (x.text ++ lines) e f k.kept;
       out = Appends-trans old mid new x.text lines x.out a;
     }
-piece_refused o which s s' M read now next old mid new piece item item' lines begin begin' bytes reading.Read e f x c k
-    a known = absurd k
-piece_refused o which s s' M read now next old mid new piece item item' lines begin begin' bytes reading.Memory e f x c
-    k a known =
+piece_refused o which s s' items items' M read now next old mid new piece item item' lines begin begin' bytes
+    reading.Read e f x c k a known = absurd k
+piece_refused o which s s' items items' M read now next old mid new piece item item' lines begin begin' bytes
+    reading.Memory e f x c k a known =
     let t = taken_of next bytes (x.taken ++ piece) known (Consumes-trans read now next x.taken piece x.input c) in
-    begun which (no_deeper deepest M) (Appends old new) bytes (x.taken ++ piece) (x.text ++ lines) next
+    begun which (within_trees M) (Appends old new) bytes (x.taken ++ piece) (x.text ++ lines) next
     (begins_as o which (limits_of s') M (x.taken ++ piece) (x.text ++ lines) e f k) t
     (Appends-trans old mid new x.text lines x.out a)
-piece_refused o which s s' M read now next old mid new piece item item' lines begin begin' bytes reading.Failed e f x c
-    k a known = absurd k
+piece_refused o which s s' items items' M read now next old mid new piece item item' lines begin begin' bytes
+    reading.Failed e f x c k a known = absurd k
 
 -- a write that failed
-pub piece_cut : (o : Option Explained) (which : Explained) (s s' : Skipping) (M : Bounds)
+pub piece_cut : (o : Option Explained) (which : Explained) (s s' : SessionState) (items items' : ℕ) (M : Bounds)
     (read now next old mid new : Option (List ℕ)) (piece item item' lines : List ℕ) (begin begin' : ℕ)
     (bytes : List ℕ) (r : Result (Unit {0}) Fault) → o ≡ Some which → limits_of s' ≡ M
-    → (x : ExplainsSo o s read now old mid item begin) → Consumes now next piece
-    → KeepsAll o s' (x.taken ++ piece) item' begin' (x.text ++ lines) r → SentPrefix lines mid new
-    → read ≡ Some bytes → IsCutOff which (no_deeper deepest M) bytes old new
-piece_cut o which s s' M read now next old mid new piece item item' lines begin begin' bytes r e f x c k cut known =
+    → (x : ExplainsSo o s items read now old mid item begin) → Consumes now next piece
+    → KeepsAll o s' items' (x.taken ++ piece) item' begin' (x.text ++ lines) r → SentPrefix lines mid new
+    → read ≡ Some bytes → IsCutOff which (within_trees M) bytes old new
+piece_cut o which s s' items items' M read now next old mid new piece item item' lines begin begin' bytes r e f x c
+    k cut known =
     let t = taken_of next bytes (x.taken ++ piece) known (Consumes-trans read now next x.taken piece x.input c) in
     let b = begins_as o which (limits_of s') M (x.taken ++ piece) (x.text ++ lines) e f
-    (all_begins o s' (x.taken ++ piece) item' begin' (x.text ++ lines) r k) in
-    in_items (begun which (no_deeper deepest M) (AppendsPrefix old new) bytes (x.taken ++ piece) (x.text ++ lines)
+    (all_begins o s' items' (x.taken ++ piece) item' begin' (x.text ++ lines) r k) in
+    in_items (begun which (within_trees M) (AppendsPrefix old new) bytes (x.taken ++ piece) (x.text ++ lines)
     next b
     t (record {
       prefix = x.text ++ cut.prefix;
@@ -276,7 +269,7 @@ piece_cut o which s s' M read now next old mid new piece item item' lines begin 
 pub refused_whole : (which : Explained) (L : Bounds) (T : Table) (bytes item : List ℕ) (begin : ℕ)
     (old mid new : Option (List ℕ)) (R : Refusal) (P : List ℕ → Type 0) (last : List ℕ)
     → (x : RefusesSo which L T bytes item begin old mid R) → IsRefusedText which T begin R item last
-    → P (x.text ++ last) → IsRefused L bytes R (HasRefused which L bytes R P)
+    → P (x.text ++ last) → IsRefusedGo L bytes R (HasRefused which L bytes R P)
 refused_whole which L T bytes item begin old mid new R P last x t p =
     let k = x.kept in
     let read : length x.read ≡ length k.prefix + length item = ap length k.whole ∙ length-append k.prefix item in
@@ -290,9 +283,11 @@ refused_whole which L T bytes item begin old mid new R P last x t p =
         whole = x.whole ∙ ap (λ (l : List ℕ). l ++ x.rest) k.whole ∙ append_assoc k.prefix item x.rest;
         behind = omega (arith, x.behind, k.begins);
         there = omega (arith, x.there, ap length x.whole, length-append x.read x.rest);
-        table = T;
+        table = x.table;
         text = x.text;
         explained = k.explained;
+        types = T;
+        types_are = x.types;
         last = last;
         refused = subst (λ (n : ℕ). IsRefusedText which T n R (item ++ x.rest) last) k.begins longer;
         holds = p;
@@ -301,28 +296,28 @@ refused_whole which L T bytes item begin old mid new R P last x t p =
 
 pub refused_told : (which : Explained) (L M : Bounds) (T : Table) (bytes item : List ℕ) (begin : ℕ)
     (now old mid new : Option (List ℕ)) (R : Refusal) (f : ToolFault) (u : Unit {0}) → f ≡ fault.Refused R → L ≡ M
-    → ExplainsAll which (no_deeper deepest L) T bytes item begin now old mid (Err f)
+    → ExplainsAll which (within_trees L) T bytes item begin now old mid (Err f)
     → TellsRefused which T begin R item mid new (Ok u)
-    → ExplainAnswers which (no_deeper deepest M) bytes now old new (Err (fault.Refused R))
+    → ExplainAnswers which (within_trees M) bytes now old new (Err (fault.Refused R))
 refused_told which L M T bytes item begin now old mid new R f u is same x t =
-    let y : RefusesSo which (no_deeper deepest L) T bytes item begin old mid R =
-    subst (λ f. ExplainsAll which (no_deeper deepest L) T bytes item begin now old mid (Err f)) is x in
-    subst (λ (L : Bounds). IsRefused (no_deeper deepest L) bytes R
-    (HasRefused which (no_deeper deepest L) bytes R (Appends old new))) same
-    (refused_whole which (no_deeper deepest L) T bytes item begin old mid new R (Appends old new) t.0 y t.1
+    let y : RefusesSo which (within_trees L) T bytes item begin old mid R =
+    subst (λ f. ExplainsAll which (within_trees L) T bytes item begin now old mid (Err f)) is x in
+    subst (λ (L : Bounds). IsRefusedGo (within_trees L) bytes R
+    (HasRefused which (within_trees L) bytes R (Appends old new))) same
+    (refused_whole which (within_trees L) T bytes item begin old mid new R (Appends old new) t.0 y t.1
     (Appends-trans old mid new y.text t.0 y.out t.2))
 
 -- whose text didn't all go out
 pub refused_untold : (which : Explained) (L M : Bounds) (T : Table) (bytes item : List ℕ) (begin : ℕ)
     (now old mid new : Option (List ℕ)) (R : Refusal) (f e : ToolFault) → f ≡ fault.Refused R → L ≡ M
-    → ExplainsAll which (no_deeper deepest L) T bytes item begin now old mid (Err f)
+    → ExplainsAll which (within_trees L) T bytes item begin now old mid (Err f)
     → TellsRefused which T begin R item mid new (Err e)
-    → ExplainAnswers which (no_deeper deepest M) bytes now old new (Err e)
+    → ExplainAnswers which (within_trees M) bytes now old new (Err e)
 refused_untold which L M T bytes item begin now old mid new R f fault.Write is same x t =
-    let y : RefusesSo which (no_deeper deepest L) T bytes item begin old mid R =
-    subst (λ f. ExplainsAll which (no_deeper deepest L) T bytes item begin now old mid (Err f)) is x in
-    subst (λ (L : Bounds). IsCutOff which (no_deeper deepest L) bytes old new) same
-    (in_refused (refused_whole which (no_deeper deepest L) T bytes item begin old mid new R (AppendsPrefix old new)
+    let y : RefusesSo which (within_trees L) T bytes item begin old mid R =
+    subst (λ f. ExplainsAll which (within_trees L) T bytes item begin now old mid (Err f)) is x in
+    subst (λ (L : Bounds). IsCutOff which (within_trees L) bytes old new) same
+    (in_refused (refused_whole which (within_trees L) T bytes item begin old mid new R (AppendsPrefix old new)
     t.0 y
     t.1 (record {
       prefix = y.text ++ t.2.prefix;
@@ -331,23 +326,23 @@ refused_untold which L M T bytes item begin now old mid new R f fault.Write is s
       out = Appends-trans old mid new y.text t.2.prefix y.out t.2.out;
     })))
 refused_untold which L M T bytes item begin now old mid new R f fault.Memory is same x t =
-    let y : RefusesSo which (no_deeper deepest L) T bytes item begin old mid R =
-    subst (λ f. ExplainsAll which (no_deeper deepest L) T bytes item begin now old mid (Err f)) is x in
+    let y : RefusesSo which (within_trees L) T bytes item begin old mid R =
+    subst (λ f. ExplainsAll which (within_trees L) T bytes item begin now old mid (Err f)) is x in
     let out : Appends old new y.text =
     subst (λ (l : List ℕ). Appends old new l) (append-nil y.text) (Appends-trans old mid new y.text [] y.out t) in
-    subst (λ (L : Bounds). BeginsOutcome (no_deeper deepest L) bytes
-    (HasExplained (Some which) (no_deeper deepest L) (Appends old new))) same (record {
+    subst (λ (L : Bounds). BeginsGo (within_trees L) bytes
+    (HasExplained (Some which) (within_trees L) (Appends old new))) same (record {
       items = y.given;
       begins = record {
         prefix = y.kept.prefix;
         rest = item ++ y.rest;
-        table = T;
+        table = y.table;
         stream = y.kept.stream;
         whole = y.whole ∙ ap (λ (l : List ℕ). l ++ y.rest) y.kept.whole ∙ append_assoc y.kept.prefix item y.rest;
       };
       holds = record {
         bytes = y.kept.prefix;
-        table = T;
+        table = y.table;
         text = y.text;
         explained = y.kept.explained;
         holds = out;
@@ -362,29 +357,29 @@ refused_untold which L M T bytes item begin now old mid new R f fault.Read is sa
 -- where no refusal is known
 pub other_told : (which : Explained) (L M : Bounds) (T : Table) (bytes item : List ℕ) (begin : ℕ)
     (now old new : Option (List ℕ)) (f : ToolFault) → ((R : Refusal) → f ≡ fault.Refused R → ⊥) → L ≡ M
-    → ExplainsAll which (no_deeper deepest L) T bytes item begin now old new (Err f)
-    → ExplainAnswers which (no_deeper deepest M) bytes now old new (Err f)
+    → ExplainsAll which (within_trees L) T bytes item begin now old new (Err f)
+    → ExplainAnswers which (within_trees M) bytes now old new (Err f)
 other_told which L M T bytes item begin now old new (fault.Refused R) other same x = absurd (other R refl)
 other_told which L M T bytes item begin now old new fault.Read other same x =
-    subst (λ (L : Bounds). ExplainAnswers which (no_deeper deepest L) bytes now old new (Err fault.Read)) same x
+    subst (λ (L : Bounds). ExplainAnswers which (within_trees L) bytes now old new (Err fault.Read)) same x
 other_told which L M T bytes item begin now old new fault.Write other same x =
-    subst (λ (L : Bounds). ExplainAnswers which (no_deeper deepest L) bytes now old new (Err fault.Write)) same x
+    subst (λ (L : Bounds). ExplainAnswers which (within_trees L) bytes now old new (Err fault.Write)) same x
 other_told which L M T bytes item begin now old new fault.Memory other same x =
-    subst (λ (L : Bounds). ExplainAnswers which (no_deeper deepest L) bytes now old new (Err fault.Memory)) same x
+    subst (λ (L : Bounds). ExplainAnswers which (within_trees L) bytes now old new (Err fault.Memory)) same x
 other_told which L M T bytes item begin now old new (fault.Wanted R) other same x = absurd x
 other_told which L M T bytes item begin now old new fault.NoWantedType other same x = absurd x
 other_told which L M T bytes item begin now old new (fault.Clash path reason) other same x = absurd x
 
 pub whole_told : (which : Explained) (L M : Bounds) (T : Table) (bytes item : List ℕ) (begin : ℕ)
     (now old new : Option (List ℕ)) (u : Unit {0}) → L ≡ M
-    → ExplainsAll which (no_deeper deepest L) T bytes item begin now old new (Ok u)
-    → ExplainAnswers which (no_deeper deepest M) bytes now old new (Ok u)
+    → ExplainsAll which (within_trees L) T bytes item begin now old new (Ok u)
+    → ExplainAnswers which (within_trees M) bytes now old new (Ok u)
 whole_told which L M T bytes item begin now old new u same x =
-    subst (λ (L : Bounds). ExplainAnswers which (no_deeper deepest L) bytes now old new (Ok u)) same x
+    subst (λ (L : Bounds). ExplainAnswers which (within_trees L) bytes now old new (Ok u)) same x
 
 -- ---- behind the flush
-explained_as : {o : Option Explained} {L : Bounds} {P Q : List ℕ → Type 0} {T : Table} {items : List StreamItem}
-    → HasExplained o L P T items → ((text : List ℕ) → P text → Q text) → HasExplained o L Q T items
+explained_as : {o : Option Explained} {L : Bounds} {P Q : List ℕ → Type 0} {items : List FilledItem}
+    → HasExplained o L P items → ((text : List ℕ) → P text → Q text) → HasExplained o L Q items
 explained_as h f = record {
   bytes = h.bytes;
   table = h.table;
@@ -393,9 +388,9 @@ explained_as h f = record {
   holds = f h.text h.holds;
 }
 
-refused_as : {which : Explained} {L : Bounds} {bytes : List ℕ} {R : Refusal} {P Q : List ℕ → Type 0} {T : Table}
-    {items : List StreamItem} → HasRefused which L bytes R P T items → ((text : List ℕ) → P text → Q text)
-    → HasRefused which L bytes R Q T items
+refused_as : {which : Explained} {L : Bounds} {bytes : List ℕ} {R : Refusal} {P Q : List ℕ → Type 0}
+    {items : List FilledItem} → HasRefused which L bytes R P items → ((text : List ℕ) → P text → Q text)
+    → HasRefused which L bytes R Q items
 refused_as h f = record {
   before = h.before;
   rest = h.rest;
@@ -405,6 +400,8 @@ refused_as h f = record {
   table = h.table;
   text = h.text;
   explained = h.explained;
+  types = h.types;
+  types_are = h.types_are;
   last = h.last;
   refused = h.refused;
   holds = f (h.text ++ h.last) h.holds;
@@ -430,7 +427,7 @@ explain_kept which L bytes now old mid new (Err fault.Read) k h = record {
   taken = h.taken;
   holds = record {
     items = h.holds.items;
-    given = h.holds.given;
+    longest = h.holds.longest;
     holds = explained_as h.holds.holds (λ text a. Appends-kept old mid new text a k);
   };
 }
@@ -463,7 +460,7 @@ explain_ended which L bytes now old mid new answer result k (flush_fails o e) h 
     subst (λ r. ExplainAnswers which L bytes now old new r) (sym e)
     (cut (subst (λ r. ExplainAnswers which L bytes now old mid r) o h))
   where
-    cut : EndsWhole L bytes now (HasExplained (Some which) L (Appends old mid)) → IsCutOff which L bytes old new
+    cut : EndsWholeGo L bytes now (HasExplained (Some which) L (Appends old mid)) → IsCutOff which L bytes old new
     cut w = in_items (record {
       items = w.items;
       begins = record { prefix = bytes; rest = []; table = w.table; stream = w.stream; whole = sym (append-nil bytes) };
@@ -472,7 +469,7 @@ explain_ended which L bytes now old mid new answer result k (flush_fails o e) h 
 
 -- without memory for a session
 pub none_explained : (which : Explained) (L : Bounds) (bytes : List ℕ) (out : Option (List ℕ))
-    → BeginsOutcome L bytes (HasExplained (Some which) L (Appends out out))
+    → BeginsGo L bytes (HasExplained (Some which) L (Appends out out))
 none_explained which L bytes out = record {
   items = [];
   begins = record { prefix = []; rest = bytes; table = base_table; stream = no_more; whole = refl };

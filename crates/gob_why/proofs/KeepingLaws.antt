@@ -1,63 +1,87 @@
 -- What is kept of a stream goes on from item to item.
-use Rattle.std.proofs.Common.{◌≡◌, ℕ, ◌+◌, ◌-◌, ◌<◌, ◌^◌, arith, List, [], ◌∷◌, ◌++◌, length, take, drop}
-use Rattle.std.proofs.Common.{Option, Some, None, Result, Ok, Err, ◌∙◌, ap, sym, subst, refl, length-append}
+use Rattle.std.proofs.Common.{◌≡◌, ◌≢◌, ℕ, ◌+◌, ◌-◌, ◌<◌, ◌≤◌, ◌^◌, arith, List, [], ◌∷◌, ◌++◌, length, take, drop}
+use Rattle.std.proofs.Common.{Option, None, Result, Ok, Err, ◌∙◌, ap, sym, subst, refl, length-append}
 use Rattle.std.proofs.Common.{append_assoc, append-nil, take-append-drop, IfSome, OnOk}
-use Rattle.std.proofs.lemmas.List.{length-take-le}
 use Rattle.std.specs.Result.{IsErrAnd}
 use Rattle.gob_types.specs.Base.{base_table}
 use Rattle.gob_types.specs.Table.{Table}
-use Rattle.gob_read.specs.Calls.Builders.{skip_building}
-use Rattle.gob_stream.specs.Bounds.{Bounds, AreLimits, deepest, no_deeper}
-use Rattle.gob_stream.specs.Calls.Session.{HasRead, IsBetweenItems, ReadsOn, StepAnswers, limits_of, types_of}
-use Rattle.gob_stream.specs.Item.{StreamItem, puts}
-use Rattle.gob_stream.specs.Machine.ReadParts.{AdvancesOver, over_some, over_item}
-use Rattle.gob_stream.specs.Reading.{ShowsRefusal}
-use Rattle.gob_stream.specs.Stream.{AreItems, Stream, no_more}
+use Rattle.gob_stream.specs.Bounds.{Bounds, AreLimits, deepest, greatest_depth, within_trees}
+use Rattle.gob_stream.specs.Item.{puts}
 use Rattle.gob_stream.specs.declared.fault.Fault.{Fault}
 use Rattle.gob_stream.specs.declared.fault.Fault.TheVariants as reading
-use Rattle.gob_stream.specs.declared.item.Item as declared
-use Rattle.gob_stream.proofs.PublicLaws.{one_prefix, stands_within, whole_item}
-use Rattle.gob_stream.proofs.Reader.UnderWayLaws.{count_begins_here}
+use Rattle.gob_stream.proofs.PublicLaws.{whole_item}
+use Rattle.gob_filled.specs.OutcomeLaws.{unfilled_item}
+use Rattle.gob_filled.specs.Stream.{FilledItem, AreFilledItems, FilledStream, no_more}
+use Rattle.gob_go.specs.Calls.Session.{HasItemNext, HasRead, IsBetweenItems, ReadsOn, StepAnswers, limits_of, types_of}
+use Rattle.gob_go.specs.Machine.SessionState.{SessionState}
+use Rattle.gob_go.specs.Machine.Stages.{AdvancesOver, over_some, over_item}
+use Rattle.gob_go.specs.Reading.{RefusesBehind, ShowsRefusal}
+use Rattle.gob_go.specs.declared.item.GoItem.{GoItem}
+use Rattle.gob_go.proofs.FinishSteps.{count_begins_here}
+use Rattle.gob_go.proofs.GoReaderLaws.{table_between}
+use Rattle.gob_go.proofs.ItemsLaws.{one_reading}
+use Rattle.gob_tool.specs.Machine.Counting.{given_count}
+use Rattle.gob_go_tool.proofs.CountLaws.{items_few, read_within}
 use Rattle.gob_explain.specs.Items.{ShowsItem}
 use Rattle.gob_why.specs.Explain.{AreExplained, IsChosen, IsItemText, no_item, item_behind, explained_so, left_out}
 use Rattle.gob_why.specs.Machine.Keeping.{BeginsKept, EndsItem, ExplainsNext, HasKept}
-use Rattle.gob_why.specs.Machine.Keeping.{HasReadKept, KeepsAll, KeepsNext}
-use Rattle.gob_why.specs.Machine.Keeping.{ShowsNext, KeepsUpTo, Skipping}
+use Rattle.gob_why.specs.Machine.Keeping.{HasReadKept, HasReadSome, KeepsAll, KeepsNext, KeepsOn}
+use Rattle.gob_why.specs.Machine.Keeping.{ShowsNext, KeepsUpTo}
 use Rattle.gob_why.specs.Machine.Reading.{HasValueNext}
 use Rattle.gob_why.specs.declared.explained.Explained.{Explained}
 
 -- ---- the first bytes
-pub record IsStart (T U : Table) (b : List ℕ) : Type 0 where
-  pub table : U ≡ T
-  pub none : b ≡ []
+record IsStart (T U : Table) (b : List ℕ) : Type 0 where
+  table : U ≡ T
+  none : b ≡ []
 
-starts_so : {base : Table} {L : Bounds} {T U : Table} {offset : ℕ} {b : List ℕ} → AreItems base L T offset [] b U
-    → IsStart T U b
+starts_so : {base : Table} {L : Bounds} {T U : Table} {offset : ℕ} {b : List ℕ}
+    → AreFilledItems base L T offset [] b U → IsStart T U b
 starts_so no_more = record { table = refl; none = refl }
 
-pub kept_first : (which : Option Explained) (s : Skipping) (item : List ℕ) (begin : ℕ) (lines : List ℕ)
-    → HasRead skip_building s [] [] → item ≡ [] → begin ≡ 0 → lines ≡ []
-    → HasReadKept which s [] item begin ([] ++ lines)
-kept_first which s item begin lines gave i b l =
+pub kept_first : (which : Option Explained) (s : SessionState) (items : ℕ) (item : List ℕ) (begin : ℕ)
+    (lines : List ℕ) → HasRead s [] [] → items ≡ 0 → item ≡ [] → begin ≡ 0 → lines ≡ []
+    → HasReadKept which s items [] item begin lines
+kept_first which s items item begin lines gave n i b l =
     let start = starts_so gave.stream in
-    let L = no_deeper deepest (limits_of s) in
-    let first : AreExplained which L [] [] (types_of s) lines =
-    subst (λ (t : List ℕ). AreExplained which L [] [] (types_of s) t) (sym l)
+    let L = within_trees (limits_of s) in
+    let first : AreExplained which L [] [] gave.table lines =
+    subst (λ (t : List ℕ). AreExplained which L [] [] gave.table t) (sym l)
     (subst (λ (T : Table). AreExplained which L [] [] T []) (sym start.table) no_item) in
     record {
       given = [];
+      items_are = n;
       gave = gave;
       kept = record {
         prefix = [];
         whole = sym i;
         begins = b;
-        stream = subst (λ (p : List ℕ). Stream base_table L [] p (types_of s)) start.none gave.stream;
+        stream = subst (λ (p : List ℕ). FilledStream base_table L [] p gave.table) start.none gave.stream;
         explained = first;
       };
     }
 
+-- ---- how many items there are at most
+pub items_end : {which : Option Explained} {s : SessionState} {items : ℕ} {bytes item : List ℕ} {begin : ℕ}
+    {text : List ℕ} → HasReadKept which s items bytes item begin text → items ≤ (limits_of s).stream + 9
+items_end {bytes = bytes} {item = item} h =
+    let k = h.kept in
+    let few = items_few k.stream in
+    let bound = read_within h.gave in
+    omega (arith, h.items_are, ap length k.whole, length-append k.prefix item)
+
+pub items_fit : {which : Option Explained} {s : SessionState} {items : ℕ} {bytes item : List ℕ} {begin : ℕ}
+    {text : List ℕ} → HasReadKept which s items bytes item begin text → AreLimits deepest (limits_of s)
+    → items < 2 ^ 64
+items_fit h l = let end = items_end h in omega (arith, l.stream)
+
+pub some_fit : {which : Option Explained} {s : SessionState} {items items' : ℕ} {bytes piece item : List ℕ} {begin : ℕ}
+    {text : List ℕ} {used : ℕ} → KeepsOn which s items items' bytes piece item begin text used
+    → AreLimits deepest (limits_of s) → items' < 2 ^ 64
+some_fit on l = items_fit on.has l
+
 -- ---- under other limits and types that are the same
-pub kept_as : {which : Option Explained} {L M : Bounds} {T U : Table} {given : List StreamItem} {bytes item : List ℕ}
+pub kept_as : {which : Option Explained} {L M : Bounds} {T U : Table} {given : List FilledItem} {bytes item : List ℕ}
     {begin : ℕ} {text : List ℕ} → L ≡ M → T ≡ U → HasKept which L T given bytes item begin text
     → HasKept which M U given bytes item begin text
 kept_as {which = which} {L = L} {M = M} {T = T} {given = given} {bytes = bytes} {item = item} {begin = begin}
@@ -65,26 +89,26 @@ kept_as {which = which} {L = L} {M = M} {T = T} {given = given} {bytes = bytes} 
     subst (λ (U : Table). HasKept which M U given bytes item begin text) f
     (subst (λ (M : Bounds). HasKept which M T given bytes item begin text) e h)
 
-bounds_as : (s s' : Skipping) → limits_of s' ≡ limits_of s → no_deeper deepest (limits_of s) ≡ no_deeper deepest
-    (limits_of s')
-bounds_as s s' same = ap (λ (L : Bounds). no_deeper deepest L) (sym same)
+bounds_as : (s s' : SessionState) → limits_of s' ≡ limits_of s
+    → within_trees (limits_of s) ≡ within_trees (limits_of s')
+bounds_as s s' same = ap (λ (L : Bounds). within_trees L) (sym same)
 
 -- ---- bytes of the item under way
-pub kept_more : (which : Option Explained) (s s' : Skipping) (bytes more item : List ℕ) (begin : ℕ) (text : List ℕ)
-    → limits_of s' ≡ limits_of s → (h : HasReadKept which s bytes item begin text)
-    → HasRead skip_building s' h.given (bytes ++ more)
-    → HasReadKept which s' (bytes ++ more) (item ++ more) begin text
-kept_more which s s' bytes more item begin text same h gave =
+kept_more : (which : Option Explained) (s s' : SessionState) (items : ℕ) (bytes more item : List ℕ) (begin : ℕ)
+    (text : List ℕ) → limits_of s' ≡ limits_of s → (h : HasReadKept which s items bytes item begin text)
+    → HasRead s' h.given (bytes ++ more)
+    → HasReadKept which s' items (bytes ++ more) (item ++ more) begin text
+kept_more which s s' items bytes more item begin text same h gave =
     let k = h.kept in
-    let L = no_deeper deepest (limits_of s) in
-    let M = no_deeper deepest (limits_of s') in
-    let at = subst (λ (N : Bounds). Stream base_table N h.given k.prefix (types_of s)) (bounds_as s s' same) k.stream in
+    let at = subst (λ (N : Bounds). FilledStream base_table N h.given k.prefix h.gave.table) (bounds_as s s' same)
+    k.stream in
     let whole : bytes ++ more ≡ k.prefix ++ (item ++ more) =
     ap (λ (l : List ℕ). l ++ more) k.whole ∙ append_assoc k.prefix item more in
-    let one = one_prefix (item ++ more) gave.under_way at gave.stream (sym whole ∙ gave.whole) in
+    let one = one_reading (item ++ more) gave.under_way at gave.stream (sym whole ∙ gave.whole) in
     let moved = kept_as (bounds_as s s' same) one.table k in
     record {
       given = h.given;
+      items_are = h.items_are;
       gave = gave;
       kept = record {
         prefix = moved.prefix;
@@ -96,35 +120,39 @@ kept_more which s s' bytes more item begin text same h gave =
     }
 
 -- ---- the end of an item
-pub kept_item : (which : Option Explained) (s s' : Skipping) (i : StreamItem) (bytes more item : List ℕ) (begin : ℕ)
-    (text lines item' : List ℕ) (begin' : ℕ) (lines' : List ℕ)
-    → limits_of s' ≡ limits_of s → AreLimits deepest (limits_of s)
-    → (h : HasReadKept which s bytes item begin (text ++ lines))
-    → HasRead skip_building s' (h.given ++ i ∷ []) (bytes ++ more) → IsBetweenItems s'
+kept_item : (which : Option Explained) (s s' : SessionState) (items items' : ℕ) (i : FilledItem)
+    (bytes more item : List ℕ) (begin : ℕ) (text lines item' : List ℕ) (begin' : ℕ) (lines' : List ℕ)
+    → limits_of s' ≡ limits_of s → AreLimits deepest (limits_of s) → items' ≡ items + 1
+    → (h : HasReadKept which s items bytes item begin (text ++ lines))
+    → HasRead s' (h.given ++ i ∷ []) (bytes ++ more) → IsBetweenItems s'
     → (length (item ++ more) < 2 ^ 64 → EndsItem which (types_of s') item begin lines more item' begin' lines')
-    → HasReadKept which s' (bytes ++ more) item' begin' (text ++ lines')
-kept_item which s s' i bytes more item begin text lines item' begin' lines' same limits h gave between f =
+    → HasReadKept which s' items' (bytes ++ more) item' begin' (text ++ lines')
+kept_item which s s' items items' i bytes more item begin text lines item' begin' lines' same limits n h gave between f
+    =
     let k = h.kept in
-    let M = no_deeper deepest (limits_of s') in
-    let none : gave.under_way ≡ [] = count_begins_here gave between.stage refl in
+    let M = within_trees (limits_of s') in
+    let none : gave.under_way ≡ [] = count_begins_here gave between refl in
+    let table : gave.table ≡ types_of s' = table_between gave between in
     let whole : bytes ++ more ≡ k.prefix ++ (item ++ more) =
     ap (λ (l : List ℕ). l ++ more) k.whole ∙ append_assoc k.prefix item more in
     let all : gave.prefix ≡ k.prefix ++ (item ++ more) =
     sym (append-nil gave.prefix) ∙ ap (λ (l : List ℕ). gave.prefix ++ l) (sym none) ∙ sym gave.whole ∙ whole in
-    let stream = subst (λ (p : List ℕ). Stream base_table M (h.given ++ i ∷ []) p (types_of s')) all gave.stream in
-    let before = subst (λ (N : Bounds). AreExplained which N h.given k.prefix (types_of s) (text ++ lines))
+    let stream = subst (λ (p : List ℕ). FilledStream base_table M (h.given ++ i ∷ []) p gave.table) all gave.stream in
+    let before = subst (λ (N : Bounds). AreExplained which N h.given k.prefix h.gave.table (text ++ lines))
     (bounds_as s s' same) k.explained in
-    let bound = stands_within gave in
+    let bound = read_within gave in
     let stream_is = ap (λ (L : Bounds). L.stream) same in
     let limit = limits.stream in
     let size = length-append k.prefix (item ++ more) in
     let length_is : length (bytes ++ more) ≡ length (k.prefix ++ (item ++ more)) = ap length whole in
     let e = f (omega (arith, bound, limit, stream_is, length_is, size)) in
-    let line = subst (λ (n : ℕ). IsItemText which (types_of s') n (item ++ more) e.2.0) k.begins e.2.1 in
+    let there = subst (λ (n : ℕ). IsItemText which (types_of s') n (item ++ more) e.2.0) k.begins e.2.1 in
+    let line = subst (λ (T : Table). IsItemText which T (length k.prefix) (item ++ more) e.2.0) (sym table) there in
     let both : (text ++ lines) ++ e.2.0 ≡ text ++ lines' =
     append_assoc text lines e.2.0 ∙ ap (λ (l : List ℕ). text ++ l) (sym e.2.2) in
     record {
       given = h.given ++ i ∷ [];
+      items_are = omega (arith, n, h.items_are, length-append h.given (i ∷ []));
       gave = gave;
       kept = record {
         prefix = k.prefix ++ (item ++ more);
@@ -133,7 +161,7 @@ kept_item which s s' i bytes more item begin text lines item' begin' lines' same
         begins = omega (arith, e.1, k.begins, bound, limit, stream_is, length_is, size);
         stream = stream;
         explained = subst (λ (t : List ℕ). AreExplained which M (h.given ++ i ∷ []) (k.prefix ++ (item ++ more))
-            (types_of s') t) both (item_behind i before stream line);
+            gave.table t) both (item_behind i before stream line);
       };
     }
 
@@ -163,72 +191,117 @@ explains_none which T begin bytes lines size is_size other = (
 )
 
 -- ---- a step
-pub kept_step_none : (which : Option Explained) (s s' : Skipping) (bytes piece item : List ℕ) (begin : ℕ)
-    (text item' : List ℕ) (used : ℕ) (o : Option (declared.Item (Unit {0}))) → o ≡ None
-    → limits_of s' ≡ limits_of s → (h : HasReadKept which s bytes item begin text) → item' ≡ item ++ take used piece
-    → AdvancesOver skip_building s' h.given bytes piece used o
-    → KeepsNext which s' bytes piece item' begin text (Ok used)
-kept_step_none which s s' bytes piece item begin text item' used o f same h e (over_some l w a) = (
-  w,
-  subst (λ (z : List ℕ). HasReadKept which s' (bytes ++ take used piece) z begin text) (sym e)
-      (kept_more which s s' bytes (take used piece) item begin text same h a),
-)
-kept_step_none which s s' bytes piece item begin text item' used o f same h e (over_item l w m a) = cc
-
--- as it is kept then
-pub kept_step_more : (which : Option Explained) (s s' : Skipping) (bytes piece item : List ℕ) (begin : ℕ)
-    (text lines item' : List ℕ) (begin' : ℕ) (lines' : List ℕ) (used : ℕ) (o : Option (declared.Item (Unit {0})))
-    → o ≡ None → limits_of s' ≡ limits_of s → (h : HasReadKept which s bytes item begin (text ++ lines))
-    → item' ≡ item ++ take used piece → begin' ≡ begin → lines' ≡ lines
-    → AdvancesOver skip_building s' h.given bytes piece used o
-    → KeepsNext which s' bytes piece item' begin' (text ++ lines') (Ok used)
-kept_step_more which s s' bytes piece item begin text lines item' begin' lines' used o f same h e is_begin is_lines a =
-    let k = kept_step_none which s s' bytes piece item begin (text ++ lines) item' used o f same h e a in
-    subst (λ (l : List ℕ). KeepsNext which s' bytes piece item' begin' (text ++ l) (Ok used)) (sym is_lines)
-    (subst (λ (n : ℕ). KeepsNext which s' bytes piece item' n (text ++ lines) (Ok used)) (sym is_begin) k)
-
-pub kept_step_item : (which : Option Explained) (s s' : Skipping) (bytes piece item : List ℕ) (begin : ℕ)
-    (text lines item' : List ℕ) (begin' : ℕ) (lines' : List ℕ) (used : ℕ) (o : Option (declared.Item (Unit {0})))
-    (given : declared.Item (Unit {0})) → o ≡ Some given → limits_of s' ≡ limits_of s
-    → AreLimits deepest (limits_of s) → (h : HasReadKept which s bytes item begin (text ++ lines))
+-- more of the item under way, as it is kept then, or the end of one
+pub kept_step : (which : Option Explained) (s s' : SessionState) (items items' : ℕ) (bytes piece item : List ℕ)
+    (begin : ℕ) (text lines item' : List ℕ) (begin' : ℕ) (lines' : List ℕ) (used : ℕ) (o : Option GoItem)
+    → limits_of s' ≡ limits_of s → AreLimits deepest (limits_of s) → 0 < length piece → items' ≡ items + given_count o
+    → (h : HasReadKept which s items bytes item begin (text ++ lines))
     → IfSome o (λ _. IsBetweenItems s')
-    → (length (item ++ take used piece) < 2 ^ 64
+    → (o ≡ None → (item' ≡ item ++ take used piece) × (begin' ≡ begin) × (lines' ≡ lines))
+    → (o ≢ None → length (item ++ take used piece) < 2 ^ 64
     → EndsItem which (types_of s') item begin lines (take used piece) item' begin' lines')
-    → AdvancesOver skip_building s' h.given bytes piece used o
-    → KeepsNext which s' bytes piece item' begin' (text ++ lines') (Ok used)
-kept_step_item which s s' bytes piece item begin text lines item' begin' lines' used o given f same limits h b e
-    (over_some l w a) = cc
-kept_step_item which s s' bytes piece item begin text lines item' begin' lines' used o given f same limits h b e
-    (over_item {i = i} l w m a) = (
-      w,
-      kept_item which s s' i bytes (take used piece) item begin text lines item' begin' lines' same limits h a b e,
+    → AdvancesOver s' h.given bytes piece used o
+    → KeepsNext which s' items items' bytes piece item' begin' (text ++ lines') (Ok used)
+kept_step which s s' items items' bytes piece item begin text lines item' begin' lines' used o same limits some n h b
+    more ends (over_some l w a) =
+    let on = more refl in
+    let still : items' ≡ items = omega arith in
+    let k = kept_more which s s' items bytes (take used piece) item begin (text ++ lines) same h a in
+    record {
+      within = w;
+      nearer = omega (arith, l some);
+      has = subst (λ (m : ℕ). HasReadKept which s' m (bytes ++ take used piece) item' begin' (text ++ lines'))
+          (sym still)
+          (subst (λ (t : List ℕ). HasReadKept which s' items (bytes ++ take used piece) item' begin' (text ++ t))
+          (sym on.2)
+          (subst (λ (m : ℕ). HasReadKept which s' items (bytes ++ take used piece) item' m (text ++ lines)) (sym on.1)
+          (subst (λ (z : List ℕ). HasReadKept which s' items (bytes ++ take used piece) z begin (text ++ lines))
+          (sym on.0) k)));
+    }
+kept_step which s s' items items' bytes piece item begin text lines item' begin' lines' used o same limits some n h b
+    more ends (over_item {i = i} l w m a) = record {
+      within = w;
+      nearer = omega arith;
+      has = kept_item which s s' items items' i bytes (take used piece) item begin text lines item' begin' lines' same
+          limits n h a b (ends (λ none. cc));
+    }
+
+-- as many items are whole with it as were given
+pub step_fits : {which : Option Explained} {s s' : SessionState} {items items' : ℕ} {bytes piece item : List ℕ}
+    {begin : ℕ} {text : List ℕ} {used : ℕ} {o : Option GoItem} → limits_of s' ≡ limits_of s
+    → AreLimits deepest (limits_of s) → items' ≡ items + given_count o
+    → (h : HasReadKept which s items bytes item begin text) → AdvancesOver s' h.given bytes piece used o
+    → items' < 2 ^ 64
+step_fits same limits n h (over_some l w a) = let fit = items_fit h limits in omega arith
+step_fits {bytes = bytes} {piece = piece} {used = used} same limits n h (over_item {i = i} l w m a) =
+    let few = items_few a.stream in
+    let bound = read_within a in
+    let stream_is = ap (λ (L : Bounds). L.stream) same in
+    omega (
+      arith,
+      n,
+      limits.stream,
+      stream_is,
+      h.items_are,
+      length-append h.given (i ∷ []),
+      ap length a.whole,
+      length-append a.prefix a.under_way,
     )
 
 -- ---- a value that stands whole
-pub passes_kept : (which : Option Explained) (s s' : Skipping) (bytes piece item : List ℕ) (begin : ℕ)
-    (text lines item' : List ℕ) (begin' : ℕ) (lines' : List ℕ) {used : ℕ} → HasValueNext s used piece
-    → limits_of s' ≡ limits_of s → AreLimits deepest (limits_of s)
-    → HasReadKept which s bytes item begin (text ++ lines) → ReadsOn skip_building s s' used → IsBetweenItems s'
+pub item_next : {s : SessionState} {used : ℕ} {piece : List ℕ} → HasValueNext s used piece
+    → HasItemNext s (take used piece)
+item_next v = (puts v.id v.whole.value, whole_item greatest_depth refl v.next v.whole)
+
+pub passes_kept : (which : Option Explained) (s s' : SessionState) (items items' : ℕ) (bytes piece item : List ℕ)
+    (begin : ℕ) (text lines item' : List ℕ) (begin' : ℕ) (lines' : List ℕ) {used : ℕ} → HasValueNext s used piece
+    → limits_of s' ≡ limits_of s → AreLimits deepest (limits_of s) → items' ≡ items + 1
+    → HasReadKept which s items bytes item begin (text ++ lines) → ReadsOn s s' (take used piece) → IsBetweenItems s'
     → (length (item ++ take used piece) < 2 ^ 64
     → EndsItem which (types_of s') item begin lines (take used piece) item' begin' lines')
-    → KeepsNext which s' bytes piece item' begin' (text ++ lines') (Ok used)
-passes_kept which s s' bytes piece item begin text lines item' begin' lines' {used = used} v same limits h on b e =
+    → KeepsNext which s' items items' bytes piece item' begin' (text ++ lines') (Ok used)
+passes_kept which s s' items items' bytes piece item begin text lines item' begin' lines' {used = used} v same limits n
+    h on b e =
     let i = puts v.id v.whole.value in
-    let gave = on h.given bytes i (take used piece) h.gave (whole_item deepest refl v.next v.whole)
-    (length-take-le used piece v.next.within) in (
-      v.next.within,
-      kept_item which s s' i bytes (take used piece) item begin text lines item' begin' lines' same limits h gave b e,
+    let gave = on h.given bytes i h.gave (whole_item greatest_depth refl v.next v.whole) in
+    record {
+      within = v.next.within;
+      nearer = omega (arith, n);
+      has = kept_item which s s' items items' (unfilled_item i) bytes (take used piece) item begin text lines item'
+          begin' lines' same limits n h gave b e;
+    }
+
+-- one item more
+pub value_fits : {which : Option Explained} {s s' : SessionState} {items : ℕ} {bytes piece item : List ℕ} {begin : ℕ}
+    {text : List ℕ} {used : ℕ} → HasValueNext s used piece → limits_of s' ≡ limits_of s
+    → AreLimits deepest (limits_of s) → HasReadKept which s items bytes item begin text
+    → ReadsOn s s' (take used piece) → items + 1 < 2 ^ 64
+value_fits {bytes = bytes} {piece = piece} {used = used} v same limits h on =
+    let i = puts v.id v.whole.value in
+    let a = on h.given bytes i h.gave (whole_item greatest_depth refl v.next v.whole) in
+    let few = items_few a.stream in
+    let bound = read_within a in
+    let stream_is = ap (λ (L : Bounds). L.stream) same in
+    omega (
+      arith,
+      limits.stream,
+      stream_is,
+      h.items_are,
+      length-append h.given (unfilled_item i ∷ []),
+      ap length a.whole,
+      length-append a.prefix a.under_way,
     )
 
 -- ---- what stops it
-pub keeps_at : (which : Option Explained) (s : Skipping) (bytes piece item : List ℕ) (begin : ℕ) (text : List ℕ)
-    (r : Result ℕ Fault) (e : Fault) → IsErrAnd r (λ x. x ≡ e)
-    → KeepsNext which s bytes piece item begin text (Err e) → KeepsNext which s bytes piece item begin text r
-keeps_at which s bytes piece item begin text (Ok n) e is h = absurd is
-keeps_at which s bytes piece item begin text (Err f) e is h =
-    subst (λ e. KeepsNext which s bytes piece item begin text (Err e)) (sym is) h
+pub keeps_at : (which : Option Explained) (s : SessionState) (items items' : ℕ) (bytes piece item : List ℕ) (begin : ℕ)
+    (text : List ℕ) (r : Result ℕ Fault) (e : Fault) → IsErrAnd r (λ x. x ≡ e)
+    → KeepsNext which s items items' bytes piece item begin text (Err e)
+    → KeepsNext which s items items' bytes piece item begin text r
+keeps_at which s items items' bytes piece item begin text (Ok n) e is h = absurd is
+keeps_at which s items items' bytes piece item begin text (Err f) e is h =
+    subst (λ e. KeepsNext which s items items' bytes piece item begin text (Err e)) (sym is) h
 
-pub begins_kept : (which : Option Explained) (L M : Bounds) (T : Table) (given : List StreamItem)
+begins_kept : (which : Option Explained) (L M : Bounds) (T : Table) (given : List FilledItem)
     (bytes more item : List ℕ) (begin : ℕ) (text text' : List ℕ) → L ≡ M → text' ≡ text
     → HasKept which L T given bytes item begin text → BeginsKept which M (bytes ++ more) text'
 begins_kept which L M T given bytes more item begin text text' e f h =
@@ -243,90 +316,119 @@ begins_kept which L M T given bytes more item begin text text' e f h =
       explained = subst (λ (t : List ℕ). AreExplained which M given k.prefix T t) (sym f) k.explained;
     }
 
-pub no_memory_next : (which : Option Explained) (s s' : Skipping) (bytes piece item item' : List ℕ) (begin begin' : ℕ)
-    (text lines lines' : List ℕ) → limits_of s' ≡ limits_of s → lines' ≡ lines
-    → HasReadKept which s bytes item begin (text ++ lines)
-    → KeepsNext which s' bytes piece item' begin' (text ++ lines') (Err reading.Memory)
-no_memory_next which s s' bytes piece item item' begin begin' text lines lines' same l h =
-    let b = begins_kept which (no_deeper deepest (limits_of s)) (no_deeper deepest (limits_of s')) (types_of s) h.given
+pub no_memory_next : (which : Option Explained) (s s' : SessionState) (items items' : ℕ)
+    (bytes piece item item' : List ℕ) (begin begin' : ℕ) (text lines lines' : List ℕ) → limits_of s' ≡ limits_of s
+    → lines' ≡ lines → HasReadKept which s items bytes item begin (text ++ lines)
+    → KeepsNext which s' items items' bytes piece item' begin' (text ++ lines') (Err reading.Memory)
+no_memory_next which s s' items items' bytes piece item item' begin begin' text lines lines' same l h =
+    let b = begins_kept which (within_trees (limits_of s)) (within_trees (limits_of s')) h.gave.table h.given
     bytes [] item begin (text ++ lines) (text ++ lines') (bounds_as s s' same) (ap (λ (t : List ℕ). text ++ t) l)
     h.kept in
-    subst (λ (z : List ℕ). BeginsKept which (no_deeper deepest (limits_of s')) z (text ++ lines')) (append-nil bytes) b
+    subst (λ (z : List ℕ). BeginsKept which (within_trees (limits_of s')) z (text ++ lines')) (append-nil bytes) b
 
-pub step_stops_kept : (which : Option Explained) (s s' : Skipping) (bytes piece item : List ℕ) (begin : ℕ)
-    (text : List ℕ) (e : Fault) → limits_of s' ≡ limits_of s → types_of s' ≡ types_of s
-    → (h : HasReadKept which s bytes item begin text)
-    → StepAnswers skip_building s s' h.given bytes piece (Err e)
-    → KeepsNext which s' bytes piece item begin text (Err e)
-step_stops_kept which s s' bytes piece item begin text (reading.Refused R) same types h f = record {
+pub step_stops_kept : (which : Option Explained) (s s' : SessionState) (items items' : ℕ) (bytes piece item : List ℕ)
+    (begin : ℕ) (text : List ℕ) (e : Fault) → limits_of s' ≡ limits_of s
+    → (h : HasReadKept which s items bytes item begin text) → StepAnswers s s' h.given bytes piece (Err e)
+    → KeepsNext which s' items items' bytes piece item begin text (Err e)
+step_stops_kept which s s' items items' bytes piece item begin text (reading.Refused R) same h f = record {
   given = h.given;
   shown = subst (λ (L : Bounds). ShowsRefusal L (bytes ++ piece) h.given R) (bounds_as s s' same) f.0;
-  kept = kept_as (bounds_as s s' same) (sym types) h.kept;
+  types = subst (λ (L : Bounds). RefusesBehind L (bytes ++ piece) h.given R (types_of s')) (bounds_as s s' same) f.1;
+  table = h.gave.table;
+  kept = kept_as (bounds_as s s' same) refl h.kept;
 }
-step_stops_kept which s s' bytes piece item begin text reading.Read same types h f = absurd f
-step_stops_kept which s s' bytes piece item begin text reading.Memory same types h f =
-    subst (λ (z : List ℕ). BeginsKept which (no_deeper deepest (limits_of s')) z text) (append-nil bytes)
-    (begins_kept which (no_deeper deepest (limits_of s)) (no_deeper deepest (limits_of s')) (types_of s) h.given
+step_stops_kept which s s' items items' bytes piece item begin text reading.Read same h f = absurd f
+step_stops_kept which s s' items items' bytes piece item begin text reading.Memory same h f =
+    subst (λ (z : List ℕ). BeginsKept which (within_trees (limits_of s')) z text) (append-nil bytes)
+    (begins_kept which (within_trees (limits_of s)) (within_trees (limits_of s')) h.gave.table h.given
     bytes [] item begin text text (bounds_as s s' same) refl h.kept)
-step_stops_kept which s s' bytes piece item begin text reading.Failed same types h f = absurd f
+step_stops_kept which s s' items items' bytes piece item begin text reading.Failed same h f = absurd f
 
 -- ---- from item to item of a piece
-pub keeps_none_yet : (which : Option Explained) (s : Skipping) (bytes piece item : List ℕ) (begin : ℕ) (text : List ℕ)
-    → HasReadKept which s bytes item begin text → KeepsUpTo which s bytes piece piece item begin text
-keeps_none_yet which s bytes piece item begin text h = record {
+pub keeps_none_yet : (which : Option Explained) (s : SessionState) (items : ℕ) (bytes piece item : List ℕ) (begin : ℕ)
+    (text : List ℕ) → HasReadKept which s items bytes item begin text
+    → KeepsUpTo which s items bytes piece piece item begin text
+keeps_none_yet which s items bytes piece item begin text h = record {
   prefix = [];
   whole = refl;
-  kept = subst (λ (z : List ℕ). HasReadKept which s z item begin text) (sym (append-nil bytes)) h;
+  has = subst (λ (z : List ℕ). HasReadKept which s items z item begin text) (sym (append-nil bytes)) h;
 }
 
-pub keeps_up_to : (which : Option Explained) (s s' : Skipping) (bytes piece rest later item item' : List ℕ)
-    (begin begin' : ℕ) (text text' : List ℕ) (used : ℕ) → later ≡ drop used rest
-    → (u : KeepsUpTo which s bytes piece rest item begin text)
-    → KeepsNext which s' (bytes ++ u.prefix) rest item' begin' text' (Ok used)
-    → KeepsUpTo which s' bytes piece later item' begin' text'
-keeps_up_to which s s' bytes piece rest later item item' begin begin' text text' used so u k = record {
+keeps_up_to : (which : Option Explained) (s s' : SessionState) (items items' : ℕ)
+    (bytes piece rest later item item' : List ℕ) (begin begin' : ℕ) (text text' : List ℕ) (used : ℕ)
+    → later ≡ drop used rest → (u : KeepsUpTo which s items bytes piece rest item begin text)
+    → KeepsNext which s' items items' (bytes ++ u.prefix) rest item' begin' text' (Ok used)
+    → KeepsUpTo which s' items' bytes piece later item' begin' text'
+keeps_up_to which s s' items items' bytes piece rest later item item' begin begin' text text' used so u k = record {
   prefix = u.prefix ++ take used rest;
   whole = u.whole ∙ ap (λ (l : List ℕ). u.prefix ++ l)
       (sym (take-append-drop used rest) ∙ ap (λ (l : List ℕ). take used rest ++ l) (sym so))
       ∙ sym (append_assoc u.prefix (take used rest) later);
-  kept = subst (λ (z : List ℕ). HasReadKept which s' z item' begin' text')
-      (append_assoc bytes u.prefix (take used rest)) k.1;
+  has = subst (λ (z : List ℕ). HasReadKept which s' items' z item' begin' text')
+      (append_assoc bytes u.prefix (take used rest)) k.has;
 }
 
 -- where it is known what is asked for
-pub keeps_turn : (o which : Option Explained) (s s' : Skipping) (bytes piece rest later item item' : List ℕ)
-    (begin begin' : ℕ) (text lines lines' : List ℕ) (used : ℕ) → o ≡ which → later ≡ drop used rest
-    → KeepsUpTo which s bytes piece rest item begin (text ++ lines)
-    → ((bytes text : List ℕ) → HasReadKept o s bytes item begin (text ++ lines)
-    → KeepsNext o s' bytes rest item' begin' (text ++ lines') (Ok used))
-    → KeepsUpTo which s' bytes piece later item' begin' (text ++ lines')
-keeps_turn o which s s' bytes piece rest later item item' begin begin' text lines lines' used same so u f =
-    let v = subst (λ (o : Option Explained). KeepsUpTo o s bytes piece rest item begin (text ++ lines)) (sym same) u in
-    subst (λ (o : Option Explained). KeepsUpTo o s' bytes piece later item' begin' (text ++ lines')) same
-    (keeps_up_to o s s' bytes piece rest later item item' begin begin' (text ++ lines) (text ++ lines') used so v
-    (f (bytes ++ v.prefix) text v.kept))
+pub keeps_turn : (o which : Option Explained) (s s' : SessionState) (items items' : ℕ)
+    (bytes piece rest later item item' : List ℕ) (begin begin' : ℕ) (text lines lines' : List ℕ) (used : ℕ)
+    → o ≡ which → later ≡ drop used rest → KeepsUpTo which s items bytes piece rest item begin (text ++ lines)
+    → ((bytes text : List ℕ) → HasReadKept o s items bytes item begin (text ++ lines)
+    → KeepsNext o s' items items' bytes rest item' begin' (text ++ lines') (Ok used))
+    → KeepsUpTo which s' items' bytes piece later item' begin' (text ++ lines')
+keeps_turn o which s s' items items' bytes piece rest later item item' begin begin' text lines lines' used same so u f =
+    let v = subst (λ (o : Option Explained). KeepsUpTo o s items bytes piece rest item begin (text ++ lines)) (sym same)
+    u in
+    subst (λ (o : Option Explained). KeepsUpTo o s' items' bytes piece later item' begin' (text ++ lines')) same
+    (keeps_up_to o s s' items items' bytes piece rest later item item' begin begin' (text ++ lines) (text ++ lines')
+    used so v (f (bytes ++ v.prefix) text v.has))
 
-pub keeps_piece : (which : Option Explained) (s : Skipping) (bytes piece rest item : List ℕ) (begin : ℕ)
-    (text : List ℕ) → length rest ≡ 0 → KeepsUpTo which s bytes piece rest item begin text
-    → HasReadKept which s (bytes ++ piece) item begin text
-keeps_piece which s bytes piece [] item begin text none u =
-    subst (λ (l : List ℕ). HasReadKept which s (bytes ++ l) item begin text) (sym (u.whole ∙ append-nil u.prefix))
-    u.kept
-keeps_piece which s bytes piece (b ∷ rest) item begin text none u = absurd (omega (arith, none))
+-- what was read of the piece so far
+pub some_so_far : (o which : Option Explained) (s : SessionState) (items : ℕ) (bytes piece rest item : List ℕ)
+    (begin : ℕ) (text lines : List ℕ) → o ≡ which
+    → KeepsUpTo which s items bytes piece rest item begin (text ++ lines) → HasReadSome o s items item begin lines
+some_so_far o which s items bytes piece rest item begin text lines same u =
+    let v = subst (λ (o : Option Explained). KeepsUpTo o s items bytes piece rest item begin (text ++ lines)) (sym same)
+    u in
+    record { bytes = bytes ++ v.prefix; text = text; has = v.has }
+
+-- each turn takes a byte or counts an item, and there are no more than so many
+pub keeps_falls : (o : Option Explained) (s s' : SessionState) (items items' : ℕ) (rest item item' : List ℕ)
+    (begin begin' : ℕ) (lines lines' : List ℕ) (used : ℕ) → limits_of s' ≡ limits_of s
+    → (h : HasReadSome o s items item begin lines)
+    → ((bytes text : List ℕ) → HasReadKept o s items bytes item begin (text ++ lines)
+    → KeepsNext o s' items items' bytes rest item' begin' (text ++ lines') (Ok used))
+    → length rest - used + ((limits_of s').stream + 9 - items') < length rest + ((limits_of s).stream + 9 - items)
+keeps_falls o s s' items items' rest item item' begin begin' lines lines' used same h f =
+    let on = f h.bytes h.text h.has in
+    let stream = ap (λ (L : Bounds). L.stream) same in
+    let now = items_end h.has in
+    let then = items_end on.has in
+    omega (arith, on.within, on.nearer)
+
+pub keeps_piece : (which : Option Explained) (s : SessionState) (items : ℕ) (bytes piece rest item : List ℕ)
+    (begin : ℕ) (text : List ℕ) → length rest ≡ 0 → KeepsUpTo which s items bytes piece rest item begin text
+    → HasReadKept which s items (bytes ++ piece) item begin text
+keeps_piece which s items bytes piece [] item begin text none u =
+    subst (λ (l : List ℕ). HasReadKept which s items (bytes ++ l) item begin text)
+    (sym (u.whole ∙ append-nil u.prefix)) u.has
+keeps_piece which s items bytes piece (b ∷ rest) item begin text none u = absurd (omega (arith, none))
 
 -- what stops it, with the rest of the piece kept
-pub stops_kept : (which : Option Explained) (s s' : Skipping) (bytes piece rest item item' item'' : List ℕ)
-    (begin begin' : ℕ) (text text' : List ℕ) (e : Fault)
-    → (u : KeepsUpTo which s bytes piece rest item begin text) → item'' ≡ item' ++ rest
-    → KeepsNext which s' (bytes ++ u.prefix) rest item' begin' text' (Err e)
-    → KeepsAll which s' (bytes ++ piece) item'' begin' text' (Err e)
-stops_kept which s s' bytes piece rest item item' item'' begin begin' text text' (reading.Refused R) u k n =
-    let L = no_deeper deepest (limits_of s') in
+stops_kept : (which : Option Explained) (s s' : SessionState) (items items' : ℕ)
+    (bytes piece rest item item' item'' : List ℕ) (begin begin' : ℕ) (text text' : List ℕ) (e : Fault)
+    → (u : KeepsUpTo which s items bytes piece rest item begin text) → item'' ≡ item' ++ rest
+    → KeepsNext which s' items items' (bytes ++ u.prefix) rest item' begin' text' (Err e)
+    → KeepsAll which s' items' (bytes ++ piece) item'' begin' text' (Err e)
+stops_kept which s s' items items' bytes piece rest item item' item'' begin begin' text text' (reading.Refused R) u k
+    n =
+    let L = within_trees (limits_of s') in
     let all : (bytes ++ u.prefix) ++ rest ≡ bytes ++ piece =
     append_assoc bytes u.prefix rest ∙ ap (λ (l : List ℕ). bytes ++ l) (sym u.whole) in
     record {
       given = n.given;
       shown = subst (λ (z : List ℕ). ShowsRefusal L z n.given R) all n.shown;
+      types = subst (λ (z : List ℕ). RefusesBehind L z n.given R (types_of s')) all n.types;
+      table = n.table;
       kept = record {
         prefix = n.kept.prefix;
         whole = sym all ∙ ap (λ (l : List ℕ). l ++ rest) n.kept.whole ∙ append_assoc n.kept.prefix item' rest
@@ -336,76 +438,84 @@ stops_kept which s s' bytes piece rest item item' item'' begin begin' text text'
         explained = n.kept.explained;
       };
     }
-stops_kept which s s' bytes piece rest item item' item'' begin begin' text text' reading.Read u k n = absurd n
-stops_kept which s s' bytes piece rest item item' item'' begin begin' text text' reading.Memory u k n = record {
-  given = n.given;
-  prefix = n.prefix;
-  rest = n.rest ++ rest;
-  table = n.table;
-  whole = ap (λ (l : List ℕ). bytes ++ l) u.whole ∙ sym (append_assoc bytes u.prefix rest)
-      ∙ ap (λ (l : List ℕ). l ++ rest) n.whole ∙ append_assoc n.prefix n.rest rest;
-  stream = n.stream;
-  explained = n.explained;
-}
-stops_kept which s s' bytes piece rest item item' item'' begin begin' text text' reading.Failed u k n = absurd n
+stops_kept which s s' items items' bytes piece rest item item' item'' begin begin' text text' reading.Read u k n =
+    absurd n
+stops_kept which s s' items items' bytes piece rest item item' item'' begin begin' text text' reading.Memory u k n =
+    record {
+      given = n.given;
+      prefix = n.prefix;
+      rest = n.rest ++ rest;
+      table = n.table;
+      whole = ap (λ (l : List ℕ). bytes ++ l) u.whole ∙ sym (append_assoc bytes u.prefix rest)
+          ∙ ap (λ (l : List ℕ). l ++ rest) n.whole ∙ append_assoc n.prefix n.rest rest;
+      stream = n.stream;
+      explained = n.explained;
+    }
+stops_kept which s s' items items' bytes piece rest item item' item'' begin begin' text text' reading.Failed u k n =
+    absurd n
 
 -- or without memory for it
-pub lost_kept : (which : Option Explained) (s s' : Skipping) (bytes piece rest item item' item'' : List ℕ)
-    (begin begin' begin'' : ℕ) (text text' text'' : List ℕ) (e : Fault)
-    → (u : KeepsUpTo which s bytes piece rest item begin text) → text'' ≡ text'
-    → KeepsNext which s' (bytes ++ u.prefix) rest item' begin' text' (Err e)
-    → KeepsAll which s' (bytes ++ piece) item'' begin'' text'' (Err reading.Memory)
-lost_kept which s s' bytes piece rest item item' item'' begin begin' begin'' text text' text'' (reading.Refused R) u k
-    n =
-    let L = no_deeper deepest (limits_of s') in
+lost_kept : (which : Option Explained) (s s' : SessionState) (items items' : ℕ)
+    (bytes piece rest item item' item'' : List ℕ) (begin begin' begin'' : ℕ) (text text' text'' : List ℕ) (e : Fault)
+    → (u : KeepsUpTo which s items bytes piece rest item begin text) → text'' ≡ text'
+    → KeepsNext which s' items items' (bytes ++ u.prefix) rest item' begin' text' (Err e)
+    → KeepsAll which s' items' (bytes ++ piece) item'' begin'' text'' (Err reading.Memory)
+lost_kept which s s' items items' bytes piece rest item item' item'' begin begin' begin'' text text' text''
+    (reading.Refused R) u k n =
+    let L = within_trees (limits_of s') in
     let all : (bytes ++ u.prefix) ++ rest ≡ bytes ++ piece =
     append_assoc bytes u.prefix rest ∙ ap (λ (l : List ℕ). bytes ++ l) (sym u.whole) in
     subst (λ (z : List ℕ). BeginsKept which L z text'') all
-    (begins_kept which L L (types_of s') n.given (bytes ++ u.prefix) rest item' begin' text' text'' refl k n.kept)
-lost_kept which s s' bytes piece rest item item' item'' begin begin' begin'' text text' text'' reading.Read u k n =
-    absurd n
-lost_kept which s s' bytes piece rest item item' item'' begin begin' begin'' text text' text'' reading.Memory u k n =
-    let L = no_deeper deepest (limits_of s') in
+    (begins_kept which L L n.table n.given (bytes ++ u.prefix) rest item' begin' text' text'' refl k n.kept)
+lost_kept which s s' items items' bytes piece rest item item' item'' begin begin' begin'' text text' text''
+    reading.Read u k n = absurd n
+lost_kept which s s' items items' bytes piece rest item item' item'' begin begin' begin'' text text' text''
+    reading.Memory u k n =
+    let L = within_trees (limits_of s') in
     subst (λ (t : List ℕ). BeginsKept which L (bytes ++ piece) t) (sym k)
-    (stops_kept which s s' bytes piece rest item item' (item' ++ rest) begin begin' text text' reading.Memory u refl n)
-lost_kept which s s' bytes piece rest item item' item'' begin begin' begin'' text text' text'' reading.Failed u k n =
-    absurd n
+    (stops_kept which s s' items items' bytes piece rest item item' (item' ++ rest) begin begin' text text'
+    reading.Memory u refl n)
+lost_kept which s s' items items' bytes piece rest item item' item'' begin begin' begin'' text text' text''
+    reading.Failed u k n = absurd n
 
-pub keeps_all_at : (which : Option Explained) (s : Skipping) (bytes item : List ℕ) (begin : ℕ) (text : List ℕ)
-    (r : Result (Unit {0}) Fault) (e : Fault) → IsErrAnd r (λ x. x ≡ e)
-    → KeepsAll which s bytes item begin text (Err e) → KeepsAll which s bytes item begin text r
-keeps_all_at which s bytes item begin text (Ok u) e is h = absurd is
-keeps_all_at which s bytes item begin text (Err f) e is h =
-    subst (λ e. KeepsAll which s bytes item begin text (Err e)) (sym is) h
+pub keeps_all_at : (which : Option Explained) (s : SessionState) (items : ℕ) (bytes item : List ℕ) (begin : ℕ)
+    (text : List ℕ) (r : Result (Unit {0}) Fault) (e : Fault) → IsErrAnd r (λ x. x ≡ e)
+    → KeepsAll which s items bytes item begin text (Err e) → KeepsAll which s items bytes item begin text r
+keeps_all_at which s items bytes item begin text (Ok u) e is h = absurd is
+keeps_all_at which s items bytes item begin text (Err f) e is h =
+    subst (λ e. KeepsAll which s items bytes item begin text (Err e)) (sym is) h
 
 -- where it is known what is asked for
-pub turn_stops : (o which : Option Explained) (s s' : Skipping) (bytes piece rest item item' item'' : List ℕ)
-    (begin begin' begin'' : ℕ) (text lines lines' lines'' : List ℕ) (e : Fault) → o ≡ which
-    → KeepsUpTo which s bytes piece rest item begin (text ++ lines) → item'' ≡ item' ++ rest → begin'' ≡ begin'
-    → lines'' ≡ lines'
-    → ((bytes text : List ℕ) → HasReadKept o s bytes item begin (text ++ lines)
-    → KeepsNext o s' bytes rest item' begin' (text ++ lines') (Err e))
-    → KeepsAll which s' (bytes ++ piece) item'' begin'' (text ++ lines'') (Err e)
-turn_stops o which s s' bytes piece rest item item' item'' begin begin' begin'' text lines lines' lines'' e same u k b
-    l f
-    =
-    let v = subst (λ (o : Option Explained). KeepsUpTo o s bytes piece rest item begin (text ++ lines)) (sym same) u in
-    let all = stops_kept o s s' bytes piece rest item item' item'' begin begin' (text ++ lines) (text ++ lines') e v k
-    (f (bytes ++ v.prefix) text v.kept) in
-    subst (λ (o : Option Explained). KeepsAll o s' (bytes ++ piece) item'' begin'' (text ++ lines'') (Err e)) same
-    (subst (λ (t : List ℕ). KeepsAll o s' (bytes ++ piece) item'' begin'' (text ++ t) (Err e)) (sym l)
-    (subst (λ (n : ℕ). KeepsAll o s' (bytes ++ piece) item'' n (text ++ lines') (Err e)) (sym b) all))
+pub turn_stops : (o which : Option Explained) (s s' : SessionState) (items items' : ℕ)
+    (bytes piece rest item item' item'' : List ℕ) (begin begin' begin'' : ℕ) (text lines lines' lines'' : List ℕ)
+    (e : Fault) → o ≡ which → KeepsUpTo which s items bytes piece rest item begin (text ++ lines)
+    → item'' ≡ item' ++ rest → begin'' ≡ begin' → lines'' ≡ lines'
+    → ((bytes text : List ℕ) → HasReadKept o s items bytes item begin (text ++ lines)
+    → KeepsNext o s' items items' bytes rest item' begin' (text ++ lines') (Err e))
+    → KeepsAll which s' items' (bytes ++ piece) item'' begin'' (text ++ lines'') (Err e)
+turn_stops o which s s' items items' bytes piece rest item item' item'' begin begin' begin'' text lines lines' lines'' e
+    same u k b l f =
+    let v = subst (λ (o : Option Explained). KeepsUpTo o s items bytes piece rest item begin (text ++ lines)) (sym same)
+    u in
+    let all = stops_kept o s s' items items' bytes piece rest item item' item'' begin begin' (text ++ lines)
+    (text ++ lines') e v k (f (bytes ++ v.prefix) text v.has) in
+    subst (λ (o : Option Explained). KeepsAll o s' items' (bytes ++ piece) item'' begin'' (text ++ lines'') (Err e))
+    same
+    (subst (λ (t : List ℕ). KeepsAll o s' items' (bytes ++ piece) item'' begin'' (text ++ t) (Err e)) (sym l)
+    (subst (λ (n : ℕ). KeepsAll o s' items' (bytes ++ piece) item'' n (text ++ lines') (Err e)) (sym b) all))
 
-pub turn_lost : (o which : Option Explained) (s s' : Skipping) (bytes piece rest item item' item'' : List ℕ)
-    (begin begin' begin'' : ℕ) (text lines lines' lines'' : List ℕ) (e : Fault) → o ≡ which
-    → KeepsUpTo which s bytes piece rest item begin (text ++ lines) → lines'' ≡ lines'
-    → ((bytes text : List ℕ) → HasReadKept o s bytes item begin (text ++ lines)
-    → KeepsNext o s' bytes rest item' begin' (text ++ lines') (Err e))
-    → KeepsAll which s' (bytes ++ piece) item'' begin'' (text ++ lines'') (Err reading.Memory)
-turn_lost o which s s' bytes piece rest item item' item'' begin begin' begin'' text lines lines' lines'' e same u l f =
-    let v = subst (λ (o : Option Explained). KeepsUpTo o s bytes piece rest item begin (text ++ lines)) (sym same) u in
-    subst (λ (o : Option Explained). KeepsAll o s' (bytes ++ piece) item'' begin'' (text ++ lines'') (Err
+pub turn_lost : (o which : Option Explained) (s s' : SessionState) (items items' : ℕ)
+    (bytes piece rest item item' item'' : List ℕ) (begin begin' begin'' : ℕ) (text lines lines' lines'' : List ℕ)
+    (e : Fault) → o ≡ which → KeepsUpTo which s items bytes piece rest item begin (text ++ lines) → lines'' ≡ lines'
+    → ((bytes text : List ℕ) → HasReadKept o s items bytes item begin (text ++ lines)
+    → KeepsNext o s' items items' bytes rest item' begin' (text ++ lines') (Err e))
+    → KeepsAll which s' items' (bytes ++ piece) item'' begin'' (text ++ lines'') (Err reading.Memory)
+turn_lost o which s s' items items' bytes piece rest item item' item'' begin begin' begin'' text lines lines' lines'' e
+    same u l f =
+    let v = subst (λ (o : Option Explained). KeepsUpTo o s items bytes piece rest item begin (text ++ lines)) (sym same)
+    u in
+    subst (λ (o : Option Explained). KeepsAll o s' items' (bytes ++ piece) item'' begin'' (text ++ lines'') (Err
     reading.Memory))
     same
-    (lost_kept o s s' bytes piece rest item item' item'' begin begin' begin'' (text ++ lines) (text ++ lines')
-    (text ++ lines'') e v (ap (λ (t : List ℕ). text ++ t) l) (f (bytes ++ v.prefix) text v.kept))
+    (lost_kept o s s' items items' bytes piece rest item item' item'' begin begin' begin'' (text ++ lines)
+    (text ++ lines') (text ++ lines'') e v (ap (λ (t : List ℕ). text ++ t) l) (f (bytes ++ v.prefix) text v.has))

@@ -1,37 +1,38 @@
 -- How the reading of all of an input goes on, and how it ends.
-use Rattle.std.proofs.Common.{◌≡◌, ℕ, ◌+◌, ◌-◌, ◌≤◌, arith, List, [], ◌∷◌, ◌++◌, length, take}
+use Rattle.std.proofs.Common.{◌≡◌, ℕ, ◌+◌, ◌≤◌, arith, List, [], ◌++◌, length, take}
 use Rattle.std.proofs.Common.{Option, Some, None}
-use Rattle.std.proofs.Common.{Ok, Err, ◌∙◌, ap, sym, subst, refl, length-append, append-nil}
-use Rattle.std.proofs.lemmas.List.{length-take-le, take-append-le}
+use Rattle.std.proofs.Common.{Ok, Err, ◌∙◌, ap, sym, subst, refl, append_assoc, length-append, append-nil}
 use Rattle.std.specs.Io.KnownBytes.{Consumes, IsAtEnd, Keeps}
 use Rattle.std.proofs.KnownBytes.{Consumes-kept, Consumes-nil, Consumes-trans}
 use Rattle.gob_types.specs.Base.{base_table}
-use Rattle.gob_types.specs.Defined.{types, definition_count}
-use Rattle.gob_read.specs.Calls.Builders.{skip_building}
-use Rattle.gob_read.specs.declared.skip_builder.SkipBuilder.{SkipBuilder}
-use Rattle.gob_stream.specs.Bounds.{Bounds, deepest, no_deeper}
-use Rattle.gob_stream.specs.Calls.Session.{FinishAnswers, ReadsOn}
-use Rattle.gob_stream.specs.Item.{puts}
-use Rattle.gob_stream.specs.Machine.SessionState.{SessionState}
-use Rattle.gob_stream.specs.Outcome.{Outcome, refused}
+use Rattle.gob_types.specs.Defined.{definition_count}
+use Rattle.gob_types.specs.Table.{Table}
+use Rattle.gob_stream.specs.Bounds.{Bounds, within_trees}
 use Rattle.gob_stream.specs.Reading.{Taken}
-use Rattle.gob_stream.specs.Stream.{Stream}
 use Rattle.gob_stream.specs.declared.fault.Fault.{Fault}
 use Rattle.gob_stream.specs.declared.fault.Fault.TheVariants as reading
-use Rattle.gob_stream.proofs.PublicLaws.{after_gives, shown_refusal_stays, shown_there, stands_within}
-use Rattle.gob_stream.proofs.PublicLaws.{whole_item}
-use Rattle.gob_tool.specs.Checking.{IsCountedStream, IsNoStream, IsTallied, counts_line, definitions_in}
+use Rattle.gob_stream.specs.declared.fault.Refusal.{Refusal}
+use Rattle.gob_filled.specs.Outcome.{EndsFilled, FilledOutcome, RefusesFilled, at_the_end, next_refused, refused}
+use Rattle.gob_filled.specs.Outcome.{the_end}
+use Rattle.gob_filled.specs.Outcome.{within_an_item}
+use Rattle.gob_filled.specs.Stream.{FilledItem, FilledStream}
+use Rattle.gob_filled.proofs.Outcomes.{no_item}
+use Rattle.gob_filled.proofs.Shown.{filled_shown, filled_there}
+use Rattle.gob_go.specs.Calls.Session.{FinishAnswers, HasRead, limits_of, types_of}
+use Rattle.gob_go.specs.Machine.SessionState.{SessionState}
+use Rattle.gob_go.specs.Reading.{ShowsRefusal}
+use Rattle.gob_go.proofs.ItemsLaws.{items_grown, longest, one_reading, wire_of}
+use Rattle.gob_go.proofs.UnderWayLaws.{no_item_yet}
+use Rattle.gob_go.proofs.WholeSteps.{types_between}
 use Rattle.gob_tool.specs.Fault.{reading_fault}
-use Rattle.gob_tool.specs.Machine.Counting.{tally_line}
-use Rattle.gob_tool.specs.Machine.Tallying.{HasTallied, StopsTallying, TalliesOn}
 use Rattle.gob_tool.specs.declared.in_memory.Tally.{Tally}
 use Rattle.gob_tool.specs.declared.fault.ToolFault.TheVariants as fault
-use Rattle.gob_tool.proofs.CheckLaws.{no_stream_under}
-use Rattle.gob_tool.proofs.TallyLaws.{tallied_whole}
-use Rattle.gob_why.specs.Machine.Reading.{HasTaken, HasValueNext}
-
-abbrev pub Skips : Type 0
-Skips = SessionState SkipBuilder (Unit {0})
+use Rattle.gob_go_tool.specs.CheckingGo.{IsNoGoStream, LongestGoStream}
+use Rattle.gob_go_tool.specs.Machine.Counting.{EndsCountingGo}
+use Rattle.gob_go_tool.proofs.CountLaws.{counted_whole, no_stream_under, read_within}
+use Rattle.gob_why.specs.Machine.Keeping.{HasReadKept, KeepsAll}
+use Rattle.gob_why.specs.Machine.Reading.{HasTaken}
+use Rattle.gob_why.specs.declared.explained.Explained.{Explained}
 
 -- ---- known bytes
 taken_known : (now : Option (List ℕ)) {bytes taken : List ℕ} → Consumes (Some bytes) now taken → Taken bytes now taken
@@ -61,36 +62,56 @@ pub all_taken : {read : Option (List ℕ)} (now next : Option (List ℕ)) (bytes
 all_taken now next bytes taken known c d e = all_known now next bytes taken (subst (λ r. Consumes r now taken) known c)
     d e
 
--- ---- from piece to piece
-pub taken_none : (s : Skips) (n : ℕ) (read : Option (List ℕ)) → HasTallied s n [] → HasTaken s n 0 read read
-taken_none s n read h = record { taken = []; input = Consumes-nil read; counted = h; bytes_are = refl }
-
-pub piece_taken : {s s' : Skips} {n n' m count : ℕ} {read now next : Option (List ℕ)} (piece : List ℕ)
-    → (h : HasTaken s n m read now) → Consumes now next piece → length piece ≡ count
-    → HasTallied s' n' (h.taken ++ piece) → HasTaken s' n' (m + count) read next
-piece_taken {read = read} {now = now} {next = next} piece h c size t = record {
-  taken = h.taken ++ piece;
-  input = Consumes-trans read now next h.taken piece h.input c;
-  counted = t;
-  bytes_are = omega (arith, h.bytes_are, size, length-append h.taken piece);
+-- ---- what was read gives
+-- the longest stream that it begins with
+pub gives_longest : {s : SessionState} {items : List FilledItem} {bytes : List ℕ} → HasRead s items bytes
+    → LongestGoStream (within_trees (limits_of s)) bytes items
+gives_longest a = record {
+  begins = record
+      { prefix = a.prefix; rest = a.under_way; table = a.table; stream = a.stream; whole = a.whole };
+  longest = longest a.under_way a.stream a.whole (λ i U b x h e. no_item_yet x a.stage h e);
 }
 
--- a value that stands whole
-pub counts_value : {s s' : Skips} {n used : ℕ} {bytes piece : List ℕ} → HasValueNext s used piece
-    → ReadsOn skip_building s s' used → HasTallied s n bytes → TalliesOn s' n (n + 1) bytes piece used
-counts_value {used = used} {bytes = bytes} {piece = piece} v on h =
-    let item = puts v.id v.whole.value in
+-- a refusal that some bytes show is that of all bytes that begin with them
+still_refused : {L : Bounds} {bytes : List ℕ} {items : List FilledItem} {R : Refusal} (later : List ℕ)
+    → EndsFilled base_table L bytes items (refused R) → ShowsRefusal L bytes items R
+    → FilledOutcome base_table L (bytes ++ later) items (refused R)
+still_refused {L = L} {R = R} later (next_refused {f = f} {T = T} z s w r) h =
+    let all = ap (λ (l : List ℕ). l ++ later) w ∙ append_assoc f z later in
+    let still : RefusesFilled base_table L T (length f) (z ++ later) R =
+    filled_shown z [] later (wire_of (items_grown s))
+    (subst (λ y. RefusesFilled base_table L T (length f) y R) (sym (append-nil z)) r) (filled_there r) in
     record {
-      within = v.next.within;
-      nearer = omega arith;
-      counted = record {
-        given = h.given ++ item ∷ [];
-        gave = on h.given bytes item (take used piece) h.gave (whole_item deepest refl v.next v.whole)
-            (length-take-le used piece v.next.within);
-        items_are = omega (arith, h.items_are, length-append h.given (item ∷ []));
-      };
+      begins = record { prefix = f; rest = z ++ later; table = T; stream = s; whole = all };
+      longest = longest (z ++ later) s all (λ i U b x h k. no_item x h
+          (subst (λ y. RefusesFilled base_table L T (length f) y R) k still));
+      ends = next_refused (z ++ later) s all still;
     }
+still_refused later (within_an_item z s w some other) h = absurd (h.shown refl)
 
+pub refused_still : {L : Bounds} {bytes : List ℕ} {items : List FilledItem} {R : Refusal} (later : List ℕ)
+    → ShowsRefusal L bytes items R → FilledOutcome base_table L (bytes ++ later) items (refused R)
+refused_still later h = still_refused later h.outcome.ends h
+
+-- the stream of all of it
+record HasTable (L : Bounds) (bytes : List ℕ) (items : List FilledItem) : Type 0 where
+  table : Table
+  stream : FilledStream base_table L items bytes table
+
+whole_stream : {L : Bounds} {bytes : List ℕ} {items : List FilledItem} → EndsFilled base_table L bytes items the_end
+    → HasTable L bytes items
+whole_stream (at_the_end {T = T} s) = record { table = T; stream = s }
+
+pub stream_read : {s : SessionState} {items : List FilledItem} {bytes : List ℕ} → HasRead s items bytes
+    → EndsFilled base_table (within_trees (limits_of s)) bytes items the_end
+    → FilledStream base_table (within_trees (limits_of s)) items bytes (types_of s)
+stream_read {s = s} {items = items} {bytes = bytes} a ends =
+    let w = whole_stream ends in
+    let one = one_reading a.under_way [] a.stream w.stream (sym a.whole ∙ sym (append-nil bytes)) in
+    subst (λ (T : Table). FilledStream base_table (within_trees (limits_of s)) items bytes T)
+    (sym (types_between a.stage one.rest ∙ one.table)) w.stream
+
+-- ---- from piece to piece
 -- a piece that came, in a buffer
 pub piece_came : (now next : Option (List ℕ)) {buf piece : List ℕ} (count : ℕ) → piece ≡ buf
     → Consumes now next (take count buf) → Consumes now next (take count piece)
@@ -101,74 +122,85 @@ pub none_came : (now next : Option (List ℕ)) (buf : List ℕ) (count : ℕ) �
     → Consumes now next (take count buf) → Consumes now next []
 none_came now next buf count zero c = subst (λ n. Consumes now next (take n buf)) zero c
 
--- no more bytes than the limit for the stream, and a count
-pub bytes_within : {s : Skips} {n m : ℕ} {read now : Option (List ℕ)} → HasTaken s n m read now
-    → m ≤ s.limits.stream + 9
-bytes_within h = omega (arith, h.bytes_are, stands_within h.counted.gave)
+pub taken_none : (which : Option Explained) (s : SessionState) (items : ℕ) (item : List ℕ) (begin : ℕ)
+    (text : List ℕ) (read : Option (List ℕ)) → HasReadKept which s items [] item begin text
+    → HasTaken which s items 0 read read item begin text
+taken_none which s items item begin text read h =
+    record { taken = []; input = Consumes-nil read; has = h; bytes_are = refl }
 
--- ---- what ends it
--- a read that failed
-pub read_failed : {s : Skips} {n m : ℕ} {read now : Option (List ℕ)} (M : Bounds) (next : Option (List ℕ))
-    → s.limits ≡ M → HasTaken s n m read now → Keeps now next → (bytes : List ℕ) → read ≡ Some bytes
-    → IsNoStream (no_deeper deepest M) bytes next (reading_fault reading.Read)
-read_failed {s = s} {read = read} {now = now} M next same h k bytes known =
-    no_stream_under s.limits M bytes next fault.Read same (record {
-      bytes = h.taken;
-      taken = taken_of next bytes h.taken known (Consumes-kept read now next h.taken h.input k);
-      holds = (h.counted.given, after_gives h.counted.gave);
-    })
+module _ {which : Option Explained} {s : SessionState} {n m : ℕ} {read now : Option (List ℕ)} {item : List ℕ}
+    {begin : ℕ} {text : List ℕ} (h : HasTaken which s n m read now item begin text) where
+  pub piece_taken : (s' : SessionState) (n' count : ℕ) (next : Option (List ℕ)) (piece item' : List ℕ) (begin' : ℕ)
+      (text' : List ℕ) → Consumes now next piece → length piece ≡ count
+      → HasReadKept which s' n' (h.taken ++ piece) item' begin' text'
+      → HasTaken which s' n' (m + count) read next item' begin' text'
+  piece_taken s' n' count next piece item' begin' text' c size t = record {
+    taken = h.taken ++ piece;
+    input = Consumes-trans read now next h.taken piece h.input c;
+    has = t;
+    bytes_are = omega (arith, h.bytes_are, size, length-append h.taken piece);
+  }
 
--- bytes of a piece that are refused
-pub piece_stops : {s : Skips} {n m : ℕ} {read now : Option (List ℕ)} (M : Bounds) (next : Option (List ℕ))
-    (piece : List ℕ) (e : Fault) → s.limits ≡ M → (h : HasTaken s n m read now) → Consumes now next piece
-    → StopsTallying (no_deeper deepest s.limits) (h.taken ++ piece) e → (bytes : List ℕ) → read ≡ Some bytes
-    → IsNoStream (no_deeper deepest M) bytes next (reading_fault e)
-piece_stops {s = s} {read = read} {now = now} M next piece (reading.Refused R) same h c f bytes known =
-    let t = taken_of next bytes (h.taken ++ piece) known (Consumes-trans read now next h.taken piece h.input c) in
-    let front = ap (λ b. take R.seen b) t.whole ∙ take-append-le R.seen (h.taken ++ piece) t.left (shown_there f.1) in
-    no_stream_under s.limits M bytes next (fault.Refused R) same
-    (f.0, (shown_refusal_stays (no_deeper deepest s.limits) (h.taken ++ piece) bytes f.0 R f.1 front).1.outcome)
-piece_stops M next piece reading.Read same h c f bytes known = absurd f
-piece_stops M next piece reading.Memory same h c f bytes known = tt
-piece_stops M next piece reading.Failed same h c f bytes known = absurd f
+  -- no more bytes than the limit for the stream, and a count
+  pub bytes_within : m ≤ (limits_of s).stream + 9
+  bytes_within = omega (arith, h.bytes_are, read_within h.has.gave)
 
--- the end of the input within an item
-pub end_stops : {s : Skips} {n m : ℕ} {read now : Option (List ℕ)} (s' : Skips) (M : Bounds)
-    (next : Option (List ℕ)) (e : Fault) → s.limits ≡ M → (h : HasTaken s n m read now)
-    → Consumes now next [] → IsAtEnd next
-    → FinishAnswers skip_building s s' h.counted.given h.taken (Err e) → (bytes : List ℕ) → read ≡ Some bytes
-    → IsNoStream (no_deeper deepest M) bytes next (reading_fault e)
-end_stops {s = s} {now = now} s' M next (reading.Refused R) same h c end f bytes known =
-    let a = all_taken now next bytes h.taken known h.input c end in
-    no_stream_under s.limits M bytes next (fault.Refused R) same (
-      h.counted.given,
-      subst (λ b. Outcome base_table (no_deeper deepest s.limits) b h.counted.given (refused R)) a.all
-          f.0,
-    )
-end_stops s' M next reading.Read same h c end f bytes known = absurd f
-end_stops s' M next reading.Memory same h c end f bytes known = absurd f
-end_stops s' M next reading.Failed same h c end f bytes known = absurd f
+  -- ---- what ends it
+  -- a read that failed
+  pub read_failed : (M : Bounds) (next : Option (List ℕ)) → limits_of s ≡ M → Keeps now next → (bytes : List ℕ)
+      → read ≡ Some bytes → IsNoGoStream (within_trees M) bytes next (reading_fault reading.Read)
+  read_failed M next same k bytes known =
+      no_stream_under (limits_of s) M bytes next fault.Read same (record {
+        bytes = h.taken;
+        taken = taken_of next bytes h.taken known (Consumes-kept read now next h.taken h.input k);
+        holds = (h.has.given, gives_longest h.has.gave);
+      })
 
--- or between two items
-counted_of : {L : Bounds} {taken bytes : List ℕ} {next : Option (List ℕ)} (tally : Tally) → IsTallied L taken tally
-    → AreAll bytes taken next → IsCountedStream L bytes next (λ line. tally_line tally ≡ line)
-counted_of {L = L} {taken = taken} {bytes = bytes} tally t a =
-    let size : tally.bytes ≡ length bytes = t.bytes_are ∙ ap length a.all in
-    record {
-      items = t.items;
-      table = t.table;
-      stream = subst (λ b. Stream base_table L t.items b t.table) a.all t.stream;
-      end = a.end;
-      holds = ap (λ (k : ℕ). counts_line k tally.types tally.bytes) t.items_are
-          ∙ ap (λ (k : ℕ). counts_line (length t.items) k tally.bytes) t.types_are
-          ∙ ap (λ (k : ℕ). counts_line (length t.items) (definitions_in t.items) k) size;
-    }
+  -- bytes of a piece that are refused
+  pub piece_stops : (s' : SessionState) (n' : ℕ) (item' : List ℕ) (begin' : ℕ) (text' : List ℕ) (M : Bounds)
+      (next : Option (List ℕ)) (piece : List ℕ) (e : Fault) → limits_of s' ≡ M → Consumes now next piece
+      → KeepsAll which s' n' (h.taken ++ piece) item' begin' text' (Err e) → (bytes : List ℕ) → read ≡ Some bytes
+      → IsNoGoStream (within_trees M) bytes next (reading_fault e)
+  piece_stops s' n' item' begin' text' M next piece (reading.Refused R) same c f bytes known =
+      let L = within_trees (limits_of s') in
+      let t = taken_of next bytes (h.taken ++ piece) known (Consumes-trans read now next h.taken piece h.input c) in
+      no_stream_under (limits_of s') M bytes next (fault.Refused R) same (
+        f.given,
+        subst (λ (b : List ℕ). FilledOutcome base_table L b f.given (refused R)) (sym t.whole)
+            (refused_still t.left f.shown),
+      )
+  piece_stops s' n' item' begin' text' M next piece reading.Read same c f bytes known = absurd f
+  piece_stops s' n' item' begin' text' M next piece reading.Memory same c f bytes known = tt
+  piece_stops s' n' item' begin' text' M next piece reading.Failed same c f bytes known = absurd f
 
-pub end_counts : {s s' : Skips} {n m : ℕ} {read now : Option (List ℕ)} (M : Bounds) (next : Option (List ℕ))
-    (u : Unit {0}) (tally : Tally) → s.limits ≡ M → (h : HasTaken s n m read now) → Consumes now next []
-    → IsAtEnd next → tally.items ≡ n → tally.types ≡ definition_count (types s.types) → tally.bytes ≡ m
-    → FinishAnswers skip_building s s' h.counted.given h.taken (Ok u) → (bytes : List ℕ) → read ≡ Some bytes
-    → IsCountedStream (no_deeper deepest M) bytes next (λ line. tally_line tally ≡ line)
-end_counts {s' = s'} {now = now} M next u tally same h c end items types_are bytes_are f bytes known =
-    counted_of tally (tallied_whole h.counted M s' u tally same f items types_are (bytes_are ∙ h.bytes_are))
-    (all_taken now next bytes h.taken known h.input c end)
+  -- the end of the input within an item
+  pub end_stops : (s' : SessionState) (M : Bounds) (next : Option (List ℕ)) (e : Fault) → limits_of s ≡ M
+      → Consumes now next [] → IsAtEnd next → FinishAnswers s s' h.has.given h.taken (Err e) → (bytes : List ℕ)
+      → read ≡ Some bytes → IsNoGoStream (within_trees M) bytes next (reading_fault e)
+  end_stops s' M next (reading.Refused R) same c end f bytes known =
+      let a = all_taken now next bytes h.taken known h.input c end in
+      let L = within_trees (limits_of s) in
+      no_stream_under (limits_of s) M bytes next (fault.Refused R) same (
+        h.has.given,
+        subst (λ (b : List ℕ). FilledOutcome base_table L b h.has.given (refused R)) a.all f.0,
+      )
+  end_stops s' M next reading.Read same c end f bytes known = absurd f
+  end_stops s' M next reading.Memory same c end f bytes known = absurd f
+  end_stops s' M next reading.Failed same c end f bytes known = absurd f
+
+  -- or between two items
+  pub end_counts : (s' : SessionState) (M : Bounds) (next : Option (List ℕ)) (u : Unit {0}) (tally : Tally)
+      → limits_of s ≡ M → Consumes now next [] → IsAtEnd next → tally.items ≡ n
+      → tally.types ≡ definition_count (types_of s) → tally.bytes ≡ m
+      → FinishAnswers s s' h.has.given h.taken (Ok u) → (bytes : List ℕ) → read ≡ Some bytes
+      → EndsCountingGo (within_trees M) bytes next (Ok tally)
+  end_counts s' M next u tally same c end items types_are bytes_are f bytes known =
+      let a = all_taken now next bytes h.taken known h.input c end in
+      let L = within_trees (limits_of s) in
+      subst (λ (L : Bounds). EndsCountingGo (within_trees L) bytes next (Ok tally)) same
+      (counted_whole tally (items ∙ h.has.items_are) types_are (bytes_are ∙ h.bytes_are) (record {
+        stream = subst (λ (b : List ℕ). FilledStream base_table L h.has.given b (types_of s)) a.all
+            (stream_read h.has.gave f.0.ends);
+        count = ap length a.all;
+        end = a.end;
+      }))

@@ -2,16 +2,16 @@
 use Rattle.std.proofs.Common.{◌≡◌, ℕ, List, [], ◌++◌, Option, Result, Ok, Err, sym, subst, refl}
 use Rattle.std.specs.Io.KnownBytes.{Appends, Keeps}
 use Rattle.std.proofs.KnownBytes.{Appends-kept, Appends-nil}
-use Rattle.gob_stream.specs.Bounds.{Bounds, deepest, no_deeper}
+use Rattle.gob_stream.specs.Bounds.{Bounds, within_trees}
 use Rattle.gob_stream.specs.Calls.Writing.{SentPrefix}
 use Rattle.gob_stream.specs.declared.fault.Refusal.{Refusal}
 use Rattle.gob_tool.specs.declared.fault.ToolFault.{ToolFault}
 use Rattle.gob_tool.specs.declared.fault.ToolFault.TheVariants as fault
-use Rattle.gob_tool.specs.Checking.{IsCountedStream, IsNoStream}
 use Rattle.gob_tool.specs.Ending.{EndsRun, ends_so, flush_fails}
 use Rattle.gob_tool.specs.Showing.{AppendsPrefix}
-use Rattle.gob_tool.proofs.CheckLaws.{counted_as, no_stream_under}
 use Rattle.gob_tool.proofs.EndLaws.{all_kept, prefix_kept, sent_prefix}
+use Rattle.gob_go_tool.specs.CheckingGo.{IsCountedGoStream, IsNoGoStream}
+use Rattle.gob_go_tool.proofs.CountLaws.{no_stream_under}
 use Rattle.gob_why.specs.Why.{Heads, IsHeaded, IsRefusedSo, Says, Tells, WhyAnswers, of_refused, of_whole}
 use Rattle.gob_why.specs.Why.{refusal_line}
 
@@ -23,16 +23,20 @@ heads_as h f = record { text = h.text; headed = h.headed; holds = f h.text h.hol
 pub heads : {P : List ℕ → Type 0} {line : List ℕ} (text : List ℕ) → IsHeaded line text → P text → Heads P line
 heads text headed holds = record { text = text; headed = headed; holds = holds }
 
+counted_as : {L : Bounds} {bytes : List ℕ} {now : Option (List ℕ)} {P Q : List ℕ → Type 0}
+    → IsCountedGoStream L bytes now P → ((line : List ℕ) → P line → Q line) → IsCountedGoStream L bytes now Q
+counted_as c f = record { items = c.items; table = c.table; stream = c.stream; end = c.end; holds = f _ c.holds }
+
 -- ---- what is said, behind the reading
 -- of a whole stream
 pub whole_told : (L M : Bounds) (bytes line : List ℕ) (now old new : Option (List ℕ)) (r : Result (Unit {0}) ToolFault)
-    → L ≡ M → IsCountedStream (no_deeper deepest L) bytes now (λ l. line ≡ l) → Tells line old new r
-    → WhyAnswers (no_deeper deepest M) bytes now old new r
+    → L ≡ M → IsCountedGoStream (within_trees L) bytes now (λ l. line ≡ l) → Tells line old new r
+    → WhyAnswers (within_trees M) bytes now old new r
 whole_told L M bytes line now old new (Ok u) same c t =
-    subst (λ (L : Bounds). IsCountedStream (no_deeper deepest L) bytes now (Heads (Appends old new))) same
+    subst (λ (L : Bounds). IsCountedGoStream (within_trees L) bytes now (Heads (Appends old new))) same
     (counted_as c (λ l e. subst (Heads (Appends old new)) e t))
 whole_told L M bytes line now old new (Err fault.Write) same c t =
-    subst (λ (L : Bounds). Says (no_deeper deepest L) bytes now (AppendsPrefix old new)) same
+    subst (λ (L : Bounds). Says (within_trees L) bytes now (AppendsPrefix old new)) same
     (of_whole (counted_as c (λ l e. subst (Heads (AppendsPrefix old new)) e t)))
 whole_told L M bytes line now old new (Err fault.Memory) same c t = t
 whole_told L M bytes line now old new (Err (fault.Refused R)) same c t = absurd t
@@ -43,21 +47,21 @@ whole_told L M bytes line now old new (Err fault.Read) same c t = absurd t
 
 -- of a refused one
 pub refusal_told : (L M : Bounds) (bytes : List ℕ) (now old new : Option (List ℕ)) (R : Refusal) (f : ToolFault)
-    → f ≡ fault.Refused R → L ≡ M → IsNoStream (no_deeper deepest L) bytes now f → Heads (Appends old new)
-    (refusal_line R) → WhyAnswers (no_deeper deepest M) bytes now old new (Err (fault.Refused R))
+    → f ≡ fault.Refused R → L ≡ M → IsNoGoStream (within_trees L) bytes now f → Heads (Appends old new)
+    (refusal_line R) → WhyAnswers (within_trees M) bytes now old new (Err (fault.Refused R))
 refusal_told L M bytes now old new R f is same n t = (
-  subst (λ (L : Bounds). IsRefusedSo (no_deeper deepest L) bytes R) same
-      (subst (λ f. IsNoStream (no_deeper deepest L) bytes now f) is n),
+  subst (λ (L : Bounds). IsRefusedSo (within_trees L) bytes R) same
+      (subst (λ f. IsNoGoStream (within_trees L) bytes now f) is n),
   t,
 )
 
 -- which a write or want of memory stopped
 pub refusal_untold : (L M : Bounds) (bytes : List ℕ) (now old new : Option (List ℕ)) (R : Refusal) (f e : ToolFault)
-    → f ≡ fault.Refused R → L ≡ M → IsNoStream (no_deeper deepest L) bytes now f
-    → Tells (refusal_line R) old new (Err e) → WhyAnswers (no_deeper deepest M) bytes now old new (Err e)
+    → f ≡ fault.Refused R → L ≡ M → IsNoGoStream (within_trees L) bytes now f
+    → Tells (refusal_line R) old new (Err e) → WhyAnswers (within_trees M) bytes now old new (Err e)
 refusal_untold L M bytes now old new R f fault.Write is same n t =
-    of_refused (subst (λ (L : Bounds). IsRefusedSo (no_deeper deepest L) bytes R) same
-    (subst (λ f. IsNoStream (no_deeper deepest L) bytes now f) is n)) t
+    of_refused (subst (λ (L : Bounds). IsRefusedSo (within_trees L) bytes R) same
+    (subst (λ f. IsNoGoStream (within_trees L) bytes now f) is n)) t
 refusal_untold L M bytes now old new R f fault.Memory is same n t = t
 refusal_untold L M bytes now old new R f (fault.Refused Q) is same n t = absurd t
 refusal_untold L M bytes now old new R f (fault.Wanted Q) is same n t = absurd t
@@ -67,8 +71,8 @@ refusal_untold L M bytes now old new R f fault.Read is same n t = absurd t
 
 -- or nothing, where no refusal is known
 pub nothing_told : (L M : Bounds) (bytes : List ℕ) (now out : Option (List ℕ)) (f : ToolFault)
-    → ((R : Refusal) → f ≡ fault.Refused R → ⊥) → L ≡ M → IsNoStream (no_deeper deepest L) bytes now f
-    → WhyAnswers (no_deeper deepest M) bytes now out out (Err f)
+    → ((R : Refusal) → f ≡ fault.Refused R → ⊥) → L ≡ M → IsNoGoStream (within_trees L) bytes now f
+    → WhyAnswers (within_trees M) bytes now out out (Err f)
 nothing_told L M bytes now out (fault.Refused R) other same n = absurd (other R refl)
 nothing_told L M bytes now out fault.Read other same n =
     (no_stream_under L M bytes now fault.Read same n, Appends-nil out)
@@ -121,5 +125,5 @@ why_ended L bytes now old mid new answer result k (flush_fails o e) h =
     subst (λ r. WhyAnswers L bytes now old new r) (sym e)
     (cut (subst (λ r. WhyAnswers L bytes now old mid r) o h))
   where
-    cut : IsCountedStream L bytes now (Heads (Appends old mid)) → Says L bytes now (AppendsPrefix old new)
+    cut : IsCountedGoStream L bytes now (Heads (Appends old mid)) → Says L bytes now (AppendsPrefix old new)
     cut c = of_whole (counted_as c (λ line h. heads_as h (λ text a. all_kept old mid new text a k)))

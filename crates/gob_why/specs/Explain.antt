@@ -8,14 +8,17 @@ use Rattle.gob_types.specs.Table.{Table}
 use Rattle.gob_types.specs.declared.reason.Reason.{Reason}
 use Rattle.gob_types.specs.declared.reason.Reason.TheVariants as reason
 use Rattle.gob_explain.specs.Items.{ShowsItem}
-use Rattle.gob_stream.specs.Bounds.{Bounds}
-use Rattle.gob_stream.specs.Item.{StreamItem}
+use Rattle.gob_stream.specs.Bounds.{Bounds, within_trees}
 use Rattle.gob_stream.specs.Reading.{SomeTaken}
-use Rattle.gob_stream.specs.Stream.{Stream}
 use Rattle.gob_stream.specs.declared.fault.Refusal.{Refusal}
-use Rattle.gob_tool.specs.Showing.{AppendsPrefix, BeginsOutcome, EndsWhole, GivesOutcome, IsRefused}
+use Rattle.gob_filled.specs.Stream.{FilledItem, FilledStream}
+use Rattle.gob_go.specs.Calls.Session.{HasRead, limits_of, types_of}
+use Rattle.gob_go.specs.Machine.SessionState.{SessionState}
+use Rattle.gob_go.specs.Reading.{RefusesBehind}
+use Rattle.gob_tool.specs.Showing.{AppendsPrefix}
 use Rattle.gob_tool.specs.declared.fault.ToolFault.{ToolFault}
 use Rattle.gob_tool.specs.declared.fault.ToolFault.TheVariants as fault
+use Rattle.gob_go_tool.specs.RunningGo.{BeginsGo, EndsWholeGo, GivesLongestGo, IsRefusedGo}
 use Rattle.gob_why.specs.declared.explained.Explained.{Explained}
 use Rattle.gob_why.specs.declared.explained.Explained.TheVariants as explained
 
@@ -41,17 +44,17 @@ pub data IsItemText (which : Option Explained) (T : Table) (offset : ℕ) (bytes
   left_out : ¬ IsChosen which offset (length bytes) → IsItemText which T offset bytes []
 
 -- the bytes are the stream of the items, with this table behind it, and the text is that of each item by the types
--- behind it
-pub data AreExplained (which : Option Explained) (L : Bounds) : List StreamItem → List ℕ → Table → List ℕ → Type 0 where
+-- behind it, those among them that are defined within its value
+pub data AreExplained (which : Option Explained) (L : Bounds) : List FilledItem → List ℕ → Table → List ℕ → Type 0 where
   no_item : AreExplained which L [] [] base_table []
-  item_behind : {items : List StreamItem} {bytes more text line : List ℕ} {T U : Table} (i : StreamItem)
+  item_behind : {items : List FilledItem} {bytes more text line : List ℕ} {T U : Table} (i : FilledItem)
       → AreExplained which L items bytes T text
-      → Stream base_table L (items ++ i ∷ []) (bytes ++ more) U → IsItemText which U (length bytes) more line
+      → FilledStream base_table L (items ++ i ∷ []) (bytes ++ more) U → IsItemText which U (length bytes) more line
       → AreExplained which L (items ++ i ∷ []) (bytes ++ more) U (text ++ line)
 
 -- this holds of the text of the items
-pub record HasExplained (which : Option Explained) (L : Bounds) (P : List ℕ → Type 0) (T : Table)
-    (items : List StreamItem) : Type 0 where
+pub record HasExplained (which : Option Explained) (L : Bounds) (P : List ℕ → Type 0) (items : List FilledItem) : Type
+    0 where
   pub bytes : List ℕ
   pub table : Table
   pub text : List ℕ
@@ -78,10 +81,19 @@ pub data IsRefusedText (which : Explained) (T : Table) (offset : ℕ) (R : Refus
       → IsRefusedText which T offset R bytes (text ++ words)
   not_chosen : ¬ IsRefusedChosen which offset → IsRefusedText which T offset R bytes []
 
+-- the bytes are refused so behind the items, and these are the types there: those with which some of the bytes show the
+-- refusal, and where they end within an item those of a session that has read them
+pub data AreTypesRefused (L : Bounds) (bytes : List ℕ) (items : List FilledItem) (R : Refusal) (U : Table) : Type
+    0 where
+  shown_there : (read left : List ℕ) → bytes ≡ read ++ left → RefusesBehind L read items R U
+      → AreTypesRefused L bytes items R U
+  ended_there : (s : SessionState) → within_trees (limits_of s) ≡ L → HasRead s items bytes → R.reason ≡ reason.Ended
+      → types_of s ≡ U → AreTypesRefused L bytes items R U
+
 -- this holds of the text of the items and of the refused bytes behind them, which are there up to where they are
--- explained
-pub record HasRefused (which : Explained) (L : Bounds) (bytes : List ℕ) (R : Refusal) (P : List ℕ → Type 0) (T : Table)
-    (items : List StreamItem) : Type 0 where
+-- explained, by the types there
+pub record HasRefused (which : Explained) (L : Bounds) (bytes : List ℕ) (R : Refusal) (P : List ℕ → Type 0)
+    (items : List FilledItem) : Type 0 where
   pub before : List ℕ
   pub rest : List ℕ
   pub whole : bytes ≡ before ++ rest
@@ -90,16 +102,18 @@ pub record HasRefused (which : Explained) (L : Bounds) (bytes : List ℕ) (R : R
   pub table : Table
   pub text : List ℕ
   pub explained : AreExplained (Some which) L items before table text
+  pub types : Table
+  pub types_are : AreTypesRefused L bytes items R types
   pub last : List ℕ
-  pub refused : IsRefusedText which table (length before) R rest last
+  pub refused : IsRefusedText which types (length before) R rest last
   pub holds : P (text ++ last)
 
 -- ---- the run
 -- after a failed write a prefix of the text is out, of some items, or of all and the refused bytes
 pub data IsCutOff (which : Explained) (L : Bounds) (bytes : List ℕ) (old new : Option (List ℕ)) : Type 0 where
-  in_items : BeginsOutcome L bytes (HasExplained (Some which) L (AppendsPrefix old new))
+  in_items : BeginsGo L bytes (HasExplained (Some which) L (AppendsPrefix old new))
       → IsCutOff which L bytes old new
-  in_refused : {R : Refusal} → IsRefused L bytes R (HasRefused which L bytes R (AppendsPrefix old new))
+  in_refused : {R : Refusal} → IsRefusedGo L bytes R (HasRefused which L bytes R (AppendsPrefix old new))
       → IsCutOff which L bytes old new
 
 -- how it ends, over an input with these bytes left and an output with the old bytes: the text of the items went out,
@@ -107,14 +121,15 @@ pub data IsCutOff (which : Explained) (L : Bounds) (bytes : List ℕ) (old new :
 abbrev pub ExplainAnswers : Explained → Bounds → (bytes : List ℕ) → (now old new : Option (List ℕ)) → Result (Unit
     {0}) ToolFault
     → Type 0
-ExplainAnswers which L bytes now old new (Ok _) = EndsWhole L bytes now (HasExplained (Some which) L (Appends old new))
+ExplainAnswers which L bytes now old new (Ok _) =
+    EndsWholeGo L bytes now (HasExplained (Some which) L (Appends old new))
 ExplainAnswers which L bytes now old new (Err (fault.Refused R)) =
-    IsRefused L bytes R (HasRefused which L bytes R (Appends old new))
+    IsRefusedGo L bytes R (HasRefused which L bytes R (Appends old new))
 ExplainAnswers which L bytes now old new (Err fault.Read) =
-    SomeTaken bytes now (λ taken. GivesOutcome L taken (HasExplained (Some which) L (Appends old new)))
+    SomeTaken bytes now (λ taken. GivesLongestGo L taken (HasExplained (Some which) L (Appends old new)))
 ExplainAnswers which L bytes now old new (Err fault.Write) = IsCutOff which L bytes old new
 ExplainAnswers which L bytes now old new (Err fault.Memory) =
-    BeginsOutcome L bytes (HasExplained (Some which) L (Appends old new))
+    BeginsGo L bytes (HasExplained (Some which) L (Appends old new))
 ExplainAnswers which L bytes now old new (Err (fault.Wanted R)) = ⊥
 ExplainAnswers which L bytes now old new (Err fault.NoWantedType) = ⊥
 ExplainAnswers which L bytes now old new (Err (fault.Clash path reason)) = ⊥

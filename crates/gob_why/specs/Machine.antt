@@ -1,3 +1,3 @@
 -- Where the reading of a stream stands. No clause of a public call names these.
-pub mod Reading
 pub mod Keeping
+pub mod Reading

@@ -4,14 +4,14 @@ use Rattle.std.specs.Prelude.{◌≡◌, ℕ, List, [], ◌∷◌, ◌++◌, Opt
 use Rattle.std.specs.Io.KnownBytes.{Appends}
 use Rattle.gob_types.specs.Base.{base_table}
 use Rattle.gob_stream.specs.Bounds.{Bounds}
-use Rattle.gob_stream.specs.Item.{StreamItem}
-use Rattle.gob_stream.specs.Outcome.{Outcome, refused}
 use Rattle.gob_stream.specs.RefusalText.{refusal_text}
 use Rattle.gob_stream.specs.declared.fault.Refusal.{Refusal}
+use Rattle.gob_filled.specs.Outcome.{FilledOutcome, refused}
+use Rattle.gob_filled.specs.Stream.{FilledItem}
 use Rattle.gob_tool.specs.declared.fault.ToolFault.{ToolFault}
 use Rattle.gob_tool.specs.declared.fault.ToolFault.TheVariants as fault
-use Rattle.gob_tool.specs.Checking.{IsCountedStream, IsNoStream}
 use Rattle.gob_tool.specs.Showing.{AppendsPrefix}
+use Rattle.gob_go_tool.specs.CheckingGo.{IsCountedGoStream, IsNoGoStream}
 
 -- the line that names a refusal
 abbrev pub refusal_line : Refusal → List ℕ
@@ -37,23 +37,23 @@ Tells line old new (Err _) = ⊥
 
 -- the bytes give this refusal
 abbrev pub IsRefusedSo : Bounds → (bytes : List ℕ) → Refusal → Type 0
-IsRefusedSo L bytes R = (items : List StreamItem) × Outcome base_table L bytes items (refused R)
+IsRefusedSo L bytes R = (items : List FilledItem) × FilledOutcome base_table L bytes items (refused R)
 
 -- this holds of what is said of the bytes: of a whole stream it begins with the line that says how many items, types
 -- and bytes it has, and else with the line that names their refusal
 pub data Says (L : Bounds) (bytes : List ℕ) (now : Option (List ℕ)) (P : List ℕ → Type 0) : Type 0 where
-  of_whole : IsCountedStream L bytes now (Heads P) → Says L bytes now P
+  of_whole : IsCountedGoStream L bytes now (Heads P) → Says L bytes now P
   of_refused : {R : Refusal} → IsRefusedSo L bytes R → Heads P (refusal_line R) → Says L bytes now P
 
 -- how the run ends, over an input with these bytes left and an output with the old bytes: what is said went out, or
 -- after a failed write a prefix of it, and after a failed read or without memory nothing
 abbrev pub WhyAnswers : Bounds → (bytes : List ℕ) → (now old new : Option (List ℕ)) → Result (Unit {0}) ToolFault
     → Type 0
-WhyAnswers L bytes now old new (Ok _) = IsCountedStream L bytes now (Heads (Appends old new))
+WhyAnswers L bytes now old new (Ok _) = IsCountedGoStream L bytes now (Heads (Appends old new))
 WhyAnswers L bytes now old new (Err (fault.Refused R)) =
     IsRefusedSo L bytes R × Heads (Appends old new) (refusal_line R)
 WhyAnswers L bytes now old new (Err fault.Write) = Says L bytes now (AppendsPrefix old new)
-WhyAnswers L bytes now old new (Err fault.Read) = IsNoStream L bytes now fault.Read × Appends old new []
+WhyAnswers L bytes now old new (Err fault.Read) = IsNoGoStream L bytes now fault.Read × Appends old new []
 WhyAnswers L bytes now old new (Err fault.Memory) = Appends old new []
 WhyAnswers L bytes now old new (Err (fault.Wanted R)) = ⊥
 WhyAnswers L bytes now old new (Err fault.NoWantedType) = ⊥

@@ -1,14 +1,13 @@
 //! What is behind a refusal, in sentences.
 
 use crate::form::Form;
-use crate::words::name_text;
 use gob_num::Memory;
 use gob_types::TypeId;
 use std::alloc::Global;
 
 /// What is behind a refusal, as the bytes show it.
 #[derive(Clone, Copy, Debug, PartialEq, Eq)]
-pub(crate) enum Cause<'a> {
+pub(crate) enum Cause {
     /// The first bytes are those of something else.
     Form(Form),
     /// The input begins as JSON does.
@@ -62,18 +61,12 @@ pub(crate) enum Cause<'a> {
         limit: u64,
         needed: u64,
     },
-    /// An interface holds a value of the Go type of this name.
-    Held {
-        name: &'a [u8],
-    },
-    /// A type that encodes itself was sent by a pointer.
-    SentByPointer,
     /// The first item is a value of a type that isn't defined.
     NoBeginning,
 }
 
 /// What is behind it.
-pub(crate) fn cause_text(alloc: Global, cause: Cause<'_>) -> Result<String, Memory> {
+pub(crate) fn cause_text(alloc: Global, cause: Cause) -> Result<String, Memory> {
     match cause {
         Cause::Form(form) => form_text(alloc, form),
         Cause::Length {
@@ -89,16 +82,12 @@ pub(crate) fn cause_text(alloc: Global, cause: Cause<'_>) -> Result<String, Memo
         Cause::DepthLimit { limit, needed } => {
             Ok(format!(in alloc; "The value has the depth {needed}, and the limit is {limit}.")?)
         }
-        Cause::Held { name } => {
-            let name = name_text(alloc, name)?;
-            Ok(format!(in alloc; "The interface holds a value of the Go type {name}.")?)
-        }
         _ => Ok(String::from_str(alloc, plain_cause(cause))?),
     }
 }
 
 // What is behind it, where neither a number nor a name tells more.
-fn plain_cause(cause: Cause<'_>) -> &'static str {
+fn plain_cause(cause: Cause) -> &'static str {
     match cause {
         Cause::Json => "The file begins as JSON does: it is text, and no gob stream.",
         Cause::Text => "The file is text, and no gob stream.",
@@ -115,9 +104,6 @@ fn plain_cause(cause: Cause<'_>) -> &'static str {
         }
         Cause::Torn => {
             "The file was cut off, or isn't all written yet. What stands before this item is whole."
-        }
-        Cause::SentByPointer => {
-            "A type that encodes itself, as big.Int, was first sent by a pointer, and Go described it twice."
         }
         Cause::NoBeginning => {
             "The beginning of the stream is missing: the first item is a value, and nothing defines its type."
@@ -164,7 +150,7 @@ fn hole_text(alloc: Global, zeros: usize) -> Result<String, Memory> {
 }
 
 /// What to do then; IN is the file.
-pub(crate) fn step_text(alloc: Global, cause: Cause<'_>) -> Result<String, Memory> {
+pub(crate) fn step_text(alloc: Global, cause: Cause) -> Result<String, Memory> {
     match cause {
         Cause::Form(form) => Ok(String::from_str(alloc, form.command())?),
         Cause::Length { bytes, .. } | Cause::Prefix { bytes } => tail_text(alloc, bytes),
@@ -179,7 +165,7 @@ pub(crate) fn step_text(alloc: Global, cause: Cause<'_>) -> Result<String, Memor
 }
 
 // What to do, where no number tells more.
-fn plain_step(cause: Cause<'_>) -> &'static str {
+fn plain_step(cause: Cause) -> &'static str {
     match cause {
         Cause::Json => "jq . IN",
         Cause::Text => "head IN",
@@ -195,7 +181,6 @@ fn plain_step(cause: Cause<'_>) -> &'static str {
             "Get the file once more from where it comes from, and compare its checksum."
         }
         Cause::Torn => "Get the whole file.",
-        Cause::Held { .. } | Cause::SentByPointer => "gob show --go IN",
         Cause::NoBeginning => "Get the file from its first byte on.",
         _ => "",
     }

@@ -41,7 +41,9 @@ fn due_of_basic(basic: Basic) -> &'static str {
         Basic::Bytes => "bytes: how many, and then these",
         Basic::Str => "a text: how many bytes it has, and then these",
         Basic::Complex => "the two parts of a complex number",
-        Basic::Interface => "the byte 0, for an interface that holds nothing",
+        Basic::Interface => {
+            "0 for an interface that holds nothing, or how many bytes the name has of what it holds"
+        }
     }
 }
 

@@ -2,16 +2,14 @@
 
 ghost use Rattle.std.specs.Prelude.{◌≡◌, ℕ, List, Some, [], OnErr, OnOk, IfErr, string_bytes};
 ghost use Rattle.std.specs.Io.KnownBytes.{Appends};
-ghost use Rattle.gob_stream.specs.Bounds.{AreLimits, deepest, no_deeper};
+ghost use Rattle.gob_stream.specs.Bounds.{AreLimits, deepest, within_trees};
 ghost use Rattle.gob_stream.specs.Calls.Ends.{failed_reads, failed_writes, reader_of, writer_of};
-ghost use Rattle.gob_read.specs.Calls.Builders.{skip_building};
-ghost use Rattle.gob_stream.specs.Calls.Session.{HasRead, limits_of, types_of};
 ghost use Rattle.gob_stream.specs.Calls.Writing.{CountsWriterFaults, SentPrefix};
+ghost use Rattle.gob_go.specs.Calls.Session.{limits_of, types_of};
 ghost use Rattle.gob_tool.specs.Ending.{CountsOnlyReads, CountsOnlyWrites};
-ghost use Rattle.gob_tool.specs.Machine.Tallying.{HasTallied};
 ghost use Rattle.gob_tool.specs.Showing.{CountsReadFaults, CountsWriteFaults, IsFlushedSince};
 ghost use Rattle.gob_why.specs.Explain.{ExplainAnswers};
-ghost use Rattle.gob_why.specs.Machine.Keeping.{ExplainsAll, TellsRefused};
+ghost use Rattle.gob_why.specs.Machine.Keeping.{ExplainsAll, HasReadKept, TellsRefused};
 ghost use Rattle.gob_why.specs.declared.explained.Explained.{Explained};
 ghost use Rattle.gob_types.specs.Defined.{types};
 
@@ -20,19 +18,19 @@ use crate::kept::Kept;
 use crate::reading::take_piece;
 use crate::refused::refused_text;
 use crate::scene::Scene;
-use gob_read::SkipBuilder;
-use gob_stream::{Input, Limits, Output, Session, WriteFault};
+use gob_go::GoSession;
+use gob_stream::{Input, Limits, Output, WriteFault};
 use gob_tool::{ToolFault, end_run, read_piece, room_for_piece};
 use std::alloc::Global;
 use std::io::{Read, Write};
 
-/// Writes the rows of a stream: the bytes of each number and of each run of raw bytes at their offset, with what they
-/// are, and ends with a flush. Ok exactly at the end of a whole stream. Where the stream is refused, the rows of what
-/// stands before the refused bytes are written, then these, and what is expected there, before the fault is answered.
-/// Where a read fails, what was written are the rows of the items before it; where memory is wanting, those of some
-/// items; at `ToolFault::Write` a prefix of that. What it takes in memory grows with the types, the largest item and
-/// the rows of those that end in 64 KiB. No value may be deeper than `limits.depth()`, and what lies deeper than 1000
-/// is shown in one row.
+/// Writes the rows of a stream of Go's encoder: the bytes of each number and of each run of raw bytes at their offset,
+/// with what they are, and ends with a flush. Ok exactly at the end of a whole stream. Where the stream is refused, the
+/// rows of what stands before the refused bytes are written, then these, and what is expected there, before the fault
+/// is answered. Where a read fails, what was written are the rows of the items before it; where memory is wanting,
+/// those of some items; at `ToolFault::Write` a prefix of that. What it takes in memory grows with the types, the
+/// largest item and the rows of those that end in 64 KiB. No value may be deeper than `limits.depth()` or than 1000;
+/// what an interface holds is one deeper than the interface.
 pub fn run_explain<R: Read, W: Write>(
     alloc: Global,
     input: &mut Input<R>,
@@ -41,7 +39,7 @@ pub fn run_explain<R: Read, W: Write>(
     which: Explained,
 ) -> Result<(), ToolFault>
     ensures explained { (bytes : List ℕ) → R.remaining (reader_of input.old) ≡ Some bytes
-        → ExplainAnswers which (no_deeper deepest limits) bytes (R.remaining (reader_of input.new))
+        → ExplainAnswers which (within_trees limits) bytes (R.remaining (reader_of input.new))
         (W.contents (writer_of output.old)) (W.contents (writer_of output.new)) result }
     ensures reads { CountsReadFaults (failed_reads input.old) (failed_reads input.new) result }
     ensures writes { CountsWriteFaults (failed_writes output.old) (failed_writes output.new) result }
@@ -59,12 +57,12 @@ fn explain_stream<R: Read, W: Write>(
     which: Explained,
 ) -> Result<(), ToolFault>
     ensures explained { (bytes : List ℕ) → R.remaining (reader_of input.old) ≡ Some bytes
-        → ExplainAnswers which (no_deeper deepest limits) bytes (R.remaining (reader_of input.new))
+        → ExplainAnswers which (within_trees limits) bytes (R.remaining (reader_of input.new))
         (W.contents (writer_of output.old)) (W.contents (writer_of output.new)) result }
     ensures reads { CountsReadFaults (failed_reads input.old) (failed_reads input.new) result }
     ensures writes { CountsOnlyWrites (failed_writes output.old) (failed_writes output.new) result }
 {
-    let mut session = Session::<SkipBuilder>::new(alloc, limits)?;
+    let mut session = GoSession::new(alloc, limits)?;
     let mut kept = Kept::new(alloc, Some(which));
     let mut items = 0;
     let Err(fault) = explain_items(alloc, input, &mut session, &mut items, &mut kept, output) else {
@@ -89,18 +87,17 @@ fn explain_stream<R: Read, W: Write>(
 fn explain_items<R: Read, W: Write>(
     alloc: Global,
     input: &mut Input<R>,
-    session: &mut Session<SkipBuilder>,
+    session: &mut GoSession,
     items: &mut u64,
     kept: &mut Kept,
     output: &mut Output<W>,
 ) -> Result<(), ToolFault>
-    requires counted { HasTallied session.old items.old [] }
-    requires has_read { HasRead skip_building session.old [] [] }
+    requires first { HasReadKept kept.old.explained session.old items.old [] kept.old.item.items kept.old.begin [] }
+    requires none { string_bytes kept.old.lines ≡ [] }
     requires limits { AreLimits deepest (limits_of session.old) }
-    requires kept { (kept.old.item.items ≡ []) × (kept.old.begin ≡ 0) × (string_bytes kept.old.lines ≡ []) }
     ensures explained { (which : Explained) → kept.old.explained ≡ Some which → (bytes : List ℕ)
         → R.remaining (reader_of input.old) ≡ Some bytes
-        → ExplainsAll which (no_deeper deepest (limits_of session.old)) (types_of session.new) bytes
+        → ExplainsAll which (within_trees (limits_of session.old)) (types_of session.new) bytes
         kept.new.item.items kept.new.begin (R.remaining (reader_of input.new))
         (W.contents (writer_of output.old)) (W.contents (writer_of output.new)) result }
     ensures reads { CountsReadFaults (failed_reads input.old) (failed_reads input.new) result }

@@ -23,7 +23,7 @@ pub(crate) fn cause_at_front(
     alloc: Global,
     bytes: &[u8],
     limits: Limits,
-) -> Result<Option<Cause<'static>>, Memory> {
+) -> Result<Option<Cause>, Memory> {
     let front = &bytes[..bytes.len().min(FRONT)];
     if let Some(form) = form_of(front) {
         return Ok(Some(Cause::Form(form)));
@@ -38,11 +38,7 @@ pub(crate) fn cause_at_front(
 }
 
 // Text, which may be base64.
-fn text_cause(
-    alloc: Global,
-    front: &[u8],
-    limits: Limits,
-) -> Result<Option<Cause<'static>>, Memory> {
+fn text_cause(alloc: Global, front: &[u8], limits: Limits) -> Result<Option<Cause>, Memory> {
     if front.is_empty() || !is_text(front) {
         return Ok(None);
     }
@@ -59,11 +55,7 @@ fn text_cause(
 }
 
 // A length of what follows, in 4 bytes or in 8.
-fn length_cause(
-    alloc: Global,
-    front: &[u8],
-    limits: Limits,
-) -> Result<Option<Cause<'static>>, Memory> {
+fn length_cause(alloc: Global, front: &[u8], limits: Limits) -> Result<Option<Cause>, Memory> {
     if let Some(is_high_first) = length_order(alloc, front, 4, limits)? {
         return Ok(Some(Cause::Length {
             bytes: 4,
@@ -135,11 +127,7 @@ fn low_first(bytes: &[u8]) -> u64 {
 }
 
 // A stream behind some bytes, which begins with a definition.
-fn prefix_cause(
-    alloc: Global,
-    front: &[u8],
-    limits: Limits,
-) -> Result<Option<Cause<'static>>, Memory> {
+fn prefix_cause(alloc: Global, front: &[u8], limits: Limits) -> Result<Option<Cause>, Memory> {
     for bytes in 1..front.len().min(MOST_PREFIX + 1) {
         let trial = tried(alloc, &front[bytes..], limits)?;
         if trial.is_front() && trial.defines {

@@ -5,7 +5,7 @@ use crate::head::head_of;
 use crate::marks::{is_replaced, rest_from, without_returns, zeros_at_front};
 use crate::scene::Scene;
 use crate::trial::{defines_alike, depth_of, is_value};
-use gob_num::{Memory, uint_at};
+use gob_num::Memory;
 use gob_stream::Limits;
 use gob_types::{Reason, Shapes, TypeId};
 use std::alloc::Global;
@@ -14,10 +14,7 @@ use std::alloc::Global;
 const MANY_ZEROS: usize = 8;
 
 /// The first cause that they show.
-pub(crate) fn item_cause<'a>(
-    alloc: Global,
-    scene: &Scene<'a>,
-) -> Result<Option<Cause<'a>>, Memory> {
+pub(crate) fn item_cause(alloc: Global, scene: &Scene<'_>) -> Result<Option<Cause>, Memory> {
     if is_replaced(rest_from(scene.item(), scene.place())) {
         return Ok(Some(Cause::Replaced));
     }
@@ -46,21 +43,19 @@ fn has_returns(alloc: Global, scene: &Scene<'_>) -> Result<bool, Memory> {
     Ok(is_otherwise && is_value(alloc, scene.table, id, body, scene.limits.depth())?)
 }
 
-fn cause_by_reason<'a>(alloc: Global, scene: &Scene<'a>) -> Result<Option<Cause<'a>>, Memory> {
+fn cause_by_reason(alloc: Global, scene: &Scene<'_>) -> Result<Option<Cause>, Memory> {
     match scene.refusal.reason {
         Reason::Ended => Ok(Some(cause_of_end(scene))),
         Reason::DefinedTwice(id) => another_stream(alloc, scene, id),
         Reason::ItemTooLong => Ok(item_limit(scene)),
         Reason::TooDeep => depth_limit(alloc, scene),
-        Reason::InterfaceValue => Ok(held_in(scene)),
-        Reason::WrongId if is_opaque_at(scene) => Ok(Some(Cause::SentByPointer)),
         Reason::UndefinedType(_) if scene.items == 0 => Ok(Some(Cause::NoBeginning)),
         _ => Ok(zeros_in(scene)),
     }
 }
 
 // What the end of the input shows.
-fn cause_of_end<'a>(scene: &Scene<'a>) -> Cause<'a> {
+fn cause_of_end(scene: &Scene<'_>) -> Cause {
     match scene.item() {
         b"\n" | b"\r\n" => Cause::LineFeed {
             begin: scene.kept.begin,
@@ -70,11 +65,7 @@ fn cause_of_end<'a>(scene: &Scene<'a>) -> Cause<'a> {
 }
 
 // Another stream that begins with the item, a definition of a type that is defined already.
-fn another_stream<'a>(
-    alloc: Global,
-    scene: &Scene<'a>,
-    id: TypeId,
-) -> Result<Option<Cause<'a>>, Memory> {
+fn another_stream(alloc: Global, scene: &Scene<'_>, id: TypeId) -> Result<Option<Cause>, Memory> {
     let Some(shape) = scene.table.shape_of(id) else {
         return Ok(None);
     };
@@ -88,8 +79,11 @@ fn another_stream<'a>(
     }
 }
 
-// How many bytes the item has, where the type that it names may come.
-fn item_limit<'a>(scene: &Scene<'a>) -> Option<Cause<'a>> {
+// How many bytes the item has, where its own count is refused, and the type that it names may come.
+fn item_limit(scene: &Scene<'_>) -> Option<Cause> {
+    if scene.place() > 0 {
+        return None;
+    }
     let head = head_of(scene.item())?;
     let may_come = if head.defines {
         scene.table.admits(head.id).is_ok()
@@ -106,7 +100,7 @@ fn item_limit<'a>(scene: &Scene<'a>) -> Option<Cause<'a>> {
 }
 
 // The depth of the value, where it is one.
-fn depth_limit<'a>(alloc: Global, scene: &Scene<'a>) -> Result<Option<Cause<'a>>, Memory> {
+fn depth_limit(alloc: Global, scene: &Scene<'_>) -> Result<Option<Cause>, Memory> {
     let Some(head) = head_of(scene.item()) else {
         return Ok(None);
     };
@@ -114,7 +108,7 @@ fn depth_limit<'a>(alloc: Global, scene: &Scene<'a>) -> Result<Option<Cause<'a>>
     if head.defines || !head.is_whole_in(scene.item()) {
         return Ok(None);
     }
-    match depth_of(alloc, scene.table, head.id, body, Limits::DEEPEST)? {
+    match depth_of(alloc, scene.table, head.id, body, Limits::GREATEST_DEPTH)? {
         Some(needed) => Ok(Some(Cause::DepthLimit {
             limit: scene.limits.depth(),
             needed,
@@ -123,26 +117,8 @@ fn depth_limit<'a>(alloc: Global, scene: &Scene<'a>) -> Result<Option<Cause<'a>>
     }
 }
 
-// The name of the Go type of the value that an interface holds.
-fn held_in<'a>(scene: &Scene<'a>) -> Option<Cause<'a>> {
-    let rest = rest_from(scene.item(), scene.place());
-    let (length, behind) = uint_at(rest, 0)?;
-    let bytes = rest_from(rest, behind);
-    if length > bytes.len() as u64 {
-        return None;
-    }
-    Some(Cause::Held {
-        name: &bytes[..length as usize],
-    })
-}
-
-// Whether the description there is that of a type that encodes itself: one behind the delta 5, 6 or 7.
-fn is_opaque_at(scene: &Scene<'_>) -> bool {
-    matches!(rest_from(scene.item(), scene.place()), [5..=7, ..])
-}
-
 // Zeros from the place on, or from the start of an item without bytes.
-fn zeros_in<'a>(scene: &Scene<'a>) -> Option<Cause<'a>> {
+fn zeros_in(scene: &Scene<'_>) -> Option<Cause> {
     let is_empty_item = matches!(scene.item(), [0, ..]);
     let place = if is_empty_item { 0 } else { scene.place() };
     let rest = rest_from(scene.item(), place);

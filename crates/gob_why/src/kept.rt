@@ -7,8 +7,8 @@ ghost use Rattle.gob_why.specs.Machine.Keeping.{EndsItem, ExplainsNext, ShowsNex
 
 use crate::explained::Explained;
 use gob_explain::push_first_bytes;
+use gob_go::GoItem;
 use gob_num::Memory;
-use gob_stream::Item;
 use gob_types::{Table, TypeId};
 use std::alloc::Global;
 use std::collections::BTreeMap;
@@ -72,7 +72,7 @@ impl Kept {
         &mut self,
         alloc: Global,
         table: &Table,
-        item: &Option<Item<()>>,
+        item: &Option<GoItem>,
         bytes: &[u8],
     ) -> Result<(), Memory>
         ensures under_way { item.now ≡ None → OnOk result ((self.new.item.items ≡ self.old.item.items ++ bytes.now)
@@ -86,8 +86,8 @@ impl Kept {
     {
         match item {
             None => self.keep(bytes),
-            Some(Item::Define { .. }) => self.end_item(alloc, table, bytes),
-            Some(Item::Put { id, .. }) => self.pass_value(alloc, table, *id, bytes),
+            Some(GoItem::Define { .. }) => self.end_item(alloc, table, bytes),
+            Some(GoItem::Put { id, .. }) => self.pass_value(alloc, table, *id, bytes),
         }
     }
 

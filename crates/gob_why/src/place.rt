@@ -3,9 +3,10 @@
 use crate::due::due_in;
 use crate::head::{Head, head_of};
 use crate::words::{type_name, type_text};
-use gob_explain::{Step, path_text, path_to};
+use gob_explain::{Awaited, Row, RowSink, Step, What, path_text, path_to, walk_body};
 use gob_num::{Memory, uint_at};
-use gob_types::{Kind, Reason, Shapes, Table, TypeId};
+use gob_stream::Limits;
+use gob_types::{Basic, Kind, Reason, Shapes, Table, TypeId};
 use std::alloc::Global;
 
 /// Where it stands.
@@ -40,7 +41,7 @@ pub(crate) fn place_behind(
 fn due_in_head(front: &[u8]) -> &'static str {
     match uint_at(front, 0) {
         None => "how many bytes the next item has",
-        Some(_) => "a type: the id of a defined one, or below 0 the id that is defined here",
+        Some(_) => TYPE,
     }
 }
 
@@ -62,8 +63,7 @@ fn place_in_body(
     let root = type_name(alloc, table, id)?;
     let due = match due_of_reason(reason) {
         Some(due) => String::from_str(alloc, due)?,
-        None if body.is_empty() && !is_struct(table, id) => String::from_str(alloc, TAG)?,
-        None => due_in(alloc, table, part_type(table, id, &steps))?,
+        None => due_behind(alloc, table, id, body)?,
     };
     Ok(Place {
         path: format!(in alloc; "{root}{path}")?,
@@ -72,7 +72,56 @@ fn place_in_body(
     })
 }
 
+// What is due behind these first bytes of a value of the type, or of a description.
+fn due_behind(alloc: Global, table: &Table, id: TypeId, body: &[u8]) -> Result<String, Memory> {
+    let walked = walk_body(table, id, body, Limits::GREATEST_DEPTH, &mut Unseen)?;
+    match walked.awaited {
+        Some(awaited) => due_at(alloc, table, awaited),
+        None => Ok(String::from_str(alloc, "the end of the item")?),
+    }
+}
+
+fn due_at(alloc: Global, table: &Table, awaited: Awaited) -> Result<String, Memory> {
+    match awaited.what {
+        What::Tag => Ok(String::from_str(alloc, TAG)?),
+        What::TypeNumber => Ok(String::from_str(alloc, TYPE)?),
+        What::Segment => Ok(String::from_str(alloc, SEGMENT)?),
+        What::Raw if is_interface(table, awaited.id) => Ok(String::from_str(alloc, NAME)?),
+        _ => due_in(alloc, table, awaited.id),
+    }
+}
+
 const TAG: &str = "the byte 0, as before each value that is no struct";
+
+const TYPE: &str = "a type: the id of a defined one, or below 0 the id that is defined here";
+
+const SEGMENT: &str = "how many bytes come up to the next cut of the value, or to its end";
+
+const NAME: &str = "the bytes of the name of what the interface holds";
+
+// A sink that keeps no row.
+#[derive(Drop)]
+struct Unseen;
+
+impl RowSink for Unseen {
+    type Fault = Memory;
+
+    ghost tells = { λ old new rows result. Unit {0} };
+
+    fn put(&mut self, _: Row) -> Result<(), Memory> {
+        Ok(())
+    }
+
+    fn enter(&mut self, _: Step) -> Result<(), Memory> {
+        Ok(())
+    }
+
+    fn leave(&mut self) {}
+
+    ghost nothing = { λ a. tt };
+
+    ghost joined = { λ a b c x y r p q. tt };
+}
 
 // What is due where the reason alone tells it.
 fn due_of_reason(reason: Reason) -> Option<&'static str> {
@@ -97,27 +146,9 @@ fn item_text(alloc: Global, table: &Table, head: Head) -> Result<String, Memory>
     Ok(format!(in alloc; "a value of {text}")?)
 }
 
-fn is_struct(table: &Table, id: TypeId) -> bool {
+fn is_interface(table: &Table, id: TypeId) -> bool {
     match table.shape_of(id) {
-        Some(shape) => matches!(shape.kind, Kind::Struct { .. }),
+        Some(shape) => matches!(shape.kind, Kind::Basic(Basic::Interface)),
         None => false,
-    }
-}
-
-// The type of the part to which the steps lead.
-fn part_type(table: &Table, id: TypeId, steps: &[Step]) -> TypeId {
-    let mut part = id;
-    for step in steps {
-        part = type_behind(table, part, *step).unwrap_or(part);
-    }
-    part
-}
-
-fn type_behind(table: &Table, id: TypeId, step: Step) -> Option<TypeId> {
-    let kind = &table.shape_of(id)?.kind;
-    match step {
-        Step::Element(_) | Step::Value(_) => kind.elem(),
-        Step::Key(_) => kind.key(),
-        Step::Field { number, .. } => Some(kind.fields()?.get(number)?.id),
     }
 }

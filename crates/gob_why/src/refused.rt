@@ -128,7 +128,7 @@ fn push_awaited(
 fn wrong_row(reason: Reason) -> Option<&'static str> {
     match reason {
         Reason::KindCount => Some(". A wireType has exactly one field"),
-        Reason::WrongId => Some(". The row Id of CommonType isn't the id that the item defines"),
+        Reason::WrongId => Some(". The row Id of CommonType isn't the id that is defined"),
         Reason::BadReference => {
             Some(". A row Elem, Key or Id has no id of a type: it is 1 to 2147483647, but not 24")
         }

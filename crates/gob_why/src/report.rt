@@ -96,14 +96,14 @@ fn push_cause(alloc: Global, scene: &Scene<'_>, text: &mut String) -> Result<(),
     Ok(())
 }
 
-fn said_cause(alloc: Global, found: Option<Cause<'_>>, reason: Reason) -> Result<String, Memory> {
+fn said_cause(alloc: Global, found: Option<Cause>, reason: Reason) -> Result<String, Memory> {
     match found {
         Some(cause) => cause_text(alloc, cause),
         None => Ok(String::from_str(alloc, usual_cause(reason))?),
     }
 }
 
-fn said_step(alloc: Global, found: Option<Cause<'_>>, reason: Reason) -> Result<String, Memory> {
+fn said_step(alloc: Global, found: Option<Cause>, reason: Reason) -> Result<String, Memory> {
     match found {
         Some(cause) => step_text(alloc, cause),
         None => Ok(String::from_str(alloc, usual_step(reason))?),
@@ -111,7 +111,7 @@ fn said_step(alloc: Global, found: Option<Cause<'_>>, reason: Reason) -> Result<
 }
 
 // The first cause that the bytes show.
-fn cause_of<'a>(alloc: Global, scene: &Scene<'a>) -> Result<Option<Cause<'a>>, Memory> {
+fn cause_of(alloc: Global, scene: &Scene<'_>) -> Result<Option<Cause>, Memory> {
     if scene.items == 0 {
         if let Some(cause) = cause_at_front(alloc, scene.item(), scene.limits)? {
             return Ok(Some(cause));

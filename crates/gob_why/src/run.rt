@@ -1,7 +1,7 @@
 //! The run that says why a stream is refused, or how much is in a whole one.
 
 ghost use Rattle.std.specs.Prelude.{◌≡◌, ℕ, List, Some, IfOk, string_bytes};
-ghost use Rattle.gob_stream.specs.Bounds.{deepest, no_deeper};
+ghost use Rattle.gob_stream.specs.Bounds.{within_trees};
 ghost use Rattle.gob_stream.specs.Calls.Ends.{failed_reads, failed_writes, reader_of, writer_of};
 ghost use Rattle.gob_tool.specs.Ending.{CountsOnlyWrites};
 ghost use Rattle.gob_tool.specs.Machine.Counting.{tally_line};
@@ -12,20 +12,20 @@ use crate::kept::Kept;
 use crate::reading::read_all;
 use crate::report::{refusal_words, whole_words};
 use crate::scene::Scene;
+use gob_go::GoSession;
 use gob_num::Memory;
-use gob_read::SkipBuilder;
-use gob_stream::{Input, Limits, Output, Session};
+use gob_stream::{Input, Limits, Output};
 use gob_tool::{Tally, ToolFault, end_run};
 use gob_types::Table;
 use std::alloc::Global;
 use std::io::{Read, Write};
 
-/// Reads a stream to its end or to its refusal, and says of a whole one how many items, types and bytes it has, in the
-/// line of [`gob_tool::run_check`], and then how many values of each type; of a refused one the line of its refusal,
-/// and then in words where and why it is refused, what is behind it and what to do. It ends with a flush. Ok exactly at
-/// the end of a whole stream. Where a read fails or memory is wanting, nothing is written; at `ToolFault::Write` a
-/// prefix may be. What it takes in memory grows with the types and the largest item alone. No value may be deeper than
-/// `limits.depth()`.
+/// Reads a stream of Go's encoder to its end or to its refusal, and says of a whole one how many items, types and bytes
+/// it has, in the line of [`gob_go_tool::run_check_go`], and then how many values of each type; of a refused one the
+/// line of its refusal, and then in words where and why it is refused, what is behind it and what to do. It ends with a
+/// flush. Ok exactly at the end of a whole stream. Where a read fails or memory is wanting, nothing is written; at
+/// `ToolFault::Write` a prefix may be. What it takes in memory grows with the types and the largest item alone. No
+/// value may be deeper than `limits.depth()` or than 1000; what an interface holds is one deeper than the interface.
 pub fn run_why<R: Read, W: Write>(
     alloc: Global,
     input: &mut Input<R>,
@@ -33,7 +33,7 @@ pub fn run_why<R: Read, W: Write>(
     limits: Limits,
 ) -> Result<(), ToolFault>
     ensures told { (bytes : List ℕ) → R.remaining (reader_of input.old) ≡ Some bytes
-        → WhyAnswers (no_deeper deepest limits) bytes (R.remaining (reader_of input.new))
+        → WhyAnswers (within_trees limits) bytes (R.remaining (reader_of input.new))
         (W.contents (writer_of output.old)) (W.contents (writer_of output.new)) result }
     ensures reads { CountsReadFaults (failed_reads input.old) (failed_reads input.new) result }
     ensures writes { CountsWriteFaults (failed_writes output.old) (failed_writes output.new) result }
@@ -50,12 +50,12 @@ fn tell_stream<R: Read, W: Write>(
     limits: Limits,
 ) -> Result<(), ToolFault>
     ensures told { (bytes : List ℕ) → R.remaining (reader_of input.old) ≡ Some bytes
-        → WhyAnswers (no_deeper deepest limits) bytes (R.remaining (reader_of input.new))
+        → WhyAnswers (within_trees limits) bytes (R.remaining (reader_of input.new))
         (W.contents (writer_of output.old)) (W.contents (writer_of output.new)) result }
     ensures reads { CountsReadFaults (failed_reads input.old) (failed_reads input.new) result }
     ensures writes { CountsOnlyWrites (failed_writes output.old) (failed_writes output.new) result }
 {
-    let mut session = Session::<SkipBuilder>::new(alloc, limits)?;
+    let mut session = GoSession::new(alloc, limits)?;
     let mut kept = Kept::new(alloc, None);
     let mut items = 0;
     match read_all(alloc, input, &mut session, &mut items, &mut kept) {

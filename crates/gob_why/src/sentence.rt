@@ -16,7 +16,9 @@ pub(crate) fn what(reason: Reason) -> &'static str {
     match reason {
         Reason::BadHead => "No number begins with this byte.",
         Reason::NotMinimal => "This number is spelled in more bytes than it needs.",
-        Reason::ItemTooLong => "An item of more bytes than the limit allows is announced here.",
+        Reason::ItemTooLong => {
+            "More bytes are announced here than the limit allows, or what is around them."
+        }
         Reason::StreamTooLong => "The stream would be longer than 64 GiB.",
         Reason::Short => "The item ends here, and its value isn't complete.",
         Reason::Extra => "The value is complete here, and its item goes on.",
@@ -32,7 +34,7 @@ pub(crate) fn what(reason: Reason) -> &'static str {
         Reason::Bool => "A bool is neither 0 nor 1.",
         Reason::ArrayCount => "An array has another length than its type says.",
         Reason::FieldNumber => "A struct has no such field.",
-        Reason::InterfaceValue => "An interface holds a value here, which is read with --go alone.",
+        Reason::InterfaceValue => "An interface holds a value here.",
         Reason::TooDeep => "Parts lie in one another deeper than the limit allows.",
         Reason::KindCount => "A definition gives no kind of type, or more than one.",
         Reason::WrongId => "A definition names another number than the type that it defines.",
@@ -56,7 +58,9 @@ pub(crate) fn usual_cause(reason: Reason) -> &'static str {
         Reason::UndefinedType(_) => {
             "A definition before this value is missing: definitions come first, and once only."
         }
-        Reason::InterfaceValue => "A field of an interface type isn't nil in the Go program.",
+        Reason::TooDeep => {
+            "Either the value is deep, as a long linked list is, or these bytes were changed."
+        }
         _ => CHANGED,
     }
 }
@@ -64,8 +68,8 @@ pub(crate) fn usual_cause(reason: Reason) -> &'static str {
 /// What to do then.
 pub(crate) fn usual_step(reason: Reason) -> &'static str {
     match reason {
-        Reason::InterfaceValue => "gob show --go IN",
-        Reason::TooDeep => "If the values are meant to be so deep, type: gob why --depth 65536 IN",
+        Reason::TooDeep =>
+            "If the values are meant to be so deep, type: gob check --depth 65536 IN",
         Reason::UndefinedType(_) => "Get the file from its first byte on.",
         _ => FETCH,
     }

@@ -1,9 +1,10 @@
 //! Bytes read another way: whether they would be a stream then.
 
 use crate::alike::are_alike;
+use gob_go::{GoItem, GoSession};
 use gob_num::Memory;
 use gob_read::{BodyReader, Progress, SkipBuilder, Stop};
-use gob_stream::{Fault, Item, Limits, Session};
+use gob_stream::{Fault, Limits};
 use gob_types::{Shape, Shapes, Table, TypeId};
 use std::alloc::Global;
 
@@ -35,12 +36,12 @@ impl Trial {
     }
 
     // Counts an item that ends here, if there is one.
-    fn count(&mut self, item: &Option<Item<()>>, end: usize) {
+    fn count(&mut self, item: &Option<GoItem>, end: usize) {
         let Some(item) = item else {
             return;
         };
         if self.items == 0 {
-            self.defines = matches!(item, Item::Define { .. });
+            self.defines = matches!(item, GoItem::Define { .. });
         }
         self.items = self.items.saturating_add(1);
         self.end = end;
@@ -49,15 +50,11 @@ impl Trial {
 
 /// Reads the bytes as a stream of their own.
 pub(crate) fn tried(alloc: Global, bytes: &[u8], limits: Limits) -> Result<Trial, Memory> {
-    let mut session = Session::<SkipBuilder>::new(alloc, limits)?;
+    let mut session = GoSession::new(alloc, limits)?;
     read_through(alloc, &mut session, bytes)
 }
 
-fn read_through(
-    alloc: Global,
-    session: &mut Session<SkipBuilder>,
-    bytes: &[u8],
-) -> Result<Trial, Memory> {
+fn read_through(alloc: Global, session: &mut GoSession, bytes: &[u8]) -> Result<Trial, Memory> {
     let mut trial = Trial::NONE;
     let mut used = 0;
     'steps: while used < bytes.len() {
@@ -85,7 +82,7 @@ pub(crate) fn defines_alike(
     shape: &Shape,
     limits: Limits,
 ) -> Result<Option<bool>, Memory> {
-    let mut session = Session::<SkipBuilder>::new(alloc, limits)?;
+    let mut session = GoSession::new(alloc, limits)?;
     let trial = read_through(alloc, &mut session, bytes)?;
     match session.table().shape_of(id) {
         Some(other) if trial.defines => Ok(Some(are_alike(shape, other))),
@@ -93,7 +90,8 @@ pub(crate) fn defines_alike(
     }
 }
 
-/// Whether the body is a value of the type, none of whose parts is deeper than `depth`.
+/// Whether the body is a value of the type in which no interface holds another, and none of whose parts is deeper than
+/// `depth`.
 pub(crate) fn is_value(
     alloc: Global,
     table: &Table,

@@ -22,7 +22,7 @@ struct Row {
     fault: &'static str,
 }
 
-const ROWS: [Row; 9] = [
+const ROWS: [Row; 12] = [
     Row {
         what: "the documented example",
         stream: "POINT 07 ff 82 01 2c 01 42 00",
@@ -124,23 +124,22 @@ Extra at 4, in int. Expected: the end of the item.
         fault: "gob: refused 6 Extra at 4 seen 4",
     },
     Row {
-        what: "a description of another id",
-        stream: "0c ff 81 02 01 02 ff 84 00 01 04 00 00",
+        what: "a description of an id below its own",
+        stream: "0a ff 81 05 01 02 ff 80 00 00 00",
         which: Explained::All,
         text: "
-     0  0c                       an item of 12 bytes
+     0  0a                       an item of 10 bytes
      1  ff 81                      defines type 65
-     3  02                           SliceT
+     3  05                           GobEncoderT
      4  01                             CommonType
-     5  02 ff 84                         Id 66
+     5  02 ff 80                         Id 64
      8  00                               end of CommonType
-     9  01 04                          Elem 2
-    11  00                             end of sliceType
-    12  00                           end of wireType
+     9  00                             end of gobEncoderType
+    10  00                           end of wireType
 
-WrongId at 3, in wireType. The row Id of CommonType isn't the id that the item defines.
+WrongId at 3, in wireType. The row Id of CommonType isn't the id that is defined.
 ",
-        fault: "gob: refused 19 WrongId at 3 seen 13",
+        fault: "gob: refused 19 WrongId at 3 seen 11",
     },
     Row {
         what: "what is no stream",
@@ -156,17 +155,93 @@ BadHead at 1. Expected: a type number.
     },
     Row {
         what: "an interface that holds an int",
-        stream: "06 10 00 03 69 6e 74",
+        stream: "0a 10 00 03 69 6e 74 04 02 00 0a",
         which: Explained::All,
         text: "
-     0  06                       an item of 6 bytes
+     0  0a                       an item of 10 bytes
      1  10                         a value of type 8, interface{}
      2  00                         the tag of a value that is no struct
-     3  03                       <- refused here
-
-InterfaceValue at 3, in interface{}. Expected: 0, an interface that is nil.
+     3  03 69 6e 74                  holds \"int\"
+     7  04                             a value of type 2, int
+     8  02                             a segment of 2 bytes
+     9  00                             the tag of a value that is no struct
+    10  0a                               5
 ",
-        fault: "gob: refused 16 InterfaceValue at 3 seen 4",
+        fault: "",
+    },
+    Row {
+        what: "a type that is defined within a value, which is cut behind it",
+        stream: "13 10 00 01 78 ff 81 02 01 01 01 4c 01 ff 82 00 01 04 00 00 06 ff 82 03 00 01 0a 04 ff 82 00 00",
+        which: Explained::All,
+        text: "
+     0  13                       an item of 19 bytes
+     1  10                         a value of type 8, interface{}
+     2  00                         the tag of a value that is no struct
+     3  01 78                        holds \"x\"
+     5  ff 81                          defines type 65
+     7  02                               SliceT
+     8  01                                 CommonType
+     9  01 01 4c                             Name \"L\"
+    12  01 ff 82                             Id 65
+    15  00                                   end of CommonType
+    16  01 04                              Elem 2
+    18  00                                 end of sliceType
+    19  00                               end of wireType
+    20  06                             a segment of 6 bytes
+    21  ff 82                          a value of type 65, L
+    23  03                             a segment of 3 bytes
+    24  00                             the tag of a value that is no struct
+    25  01                               1 element
+    26  0a                                 [0] 5
+    27  04                       an item of 4 bytes
+    28  ff 82                      a value of type 65, L
+    30  00                         the tag of a value that is no struct
+    31  00                           0 elements
+",
+        fault: "",
+    },
+    Row {
+        what: "a segment that is longer than the one around it",
+        stream: "0a 10 00 03 69 6e 74 04 03 00 0a",
+        which: Explained::Fault,
+        text: "
+     0  0a                       an item of 10 bytes
+     1  10                         a value of type 8, interface{}
+     2  00                         the tag of a value that is no struct
+     3  03 69 6e 74                  holds \"int\"
+     7  04                             a value of type 2, int
+     8  03                       <- refused here
+
+ItemTooLong at 8, in interface{}. Expected: the count of a segment.
+",
+        fault: "gob: refused 3 ItemTooLong at 8 seen 9",
+    },
+    Row {
+        what: "a value of a type that is defined within the refused value",
+        stream: "13 10 00 01 78 ff 81 02 01 01 01 4c 01 ff 82 00 01 04 00 00 06 ff 82 03 07 01 0a",
+        which: Explained::Fault,
+        text: "
+     0  13                       an item of 19 bytes
+     1  10                         a value of type 8, interface{}
+     2  00                         the tag of a value that is no struct
+     3  01 78                        holds \"x\"
+     5  ff 81                          defines type 65
+     7  02                               SliceT
+     8  01                                 CommonType
+     9  01 01 4c                             Name \"L\"
+    12  01 ff 82                             Id 65
+    15  00                                   end of CommonType
+    16  01 04                              Elem 2
+    18  00                                 end of sliceType
+    19  00                               end of wireType
+    20  06                             a segment of 6 bytes
+    21  ff 82                          a value of type 65, L
+    23  03                             a segment of 3 bytes
+    24  07                       <- refused here
+
+SingleTag at 24, in interface{}.(L). Expected: the tag, which is 0.
+",
+        fault: "gob: refused 12 SingleTag at 24 seen 25",
     },
 ];
 

@@ -11,14 +11,14 @@ use Rattle.gob_words.specs.declared.words.OrderFault.TheVariants as fault
 use Rattle.gob_words.specs.declared.view.View.{View}
 use Rattle.gob_words.specs.declared.view.ViewCommand.{ViewCommand}
 use Rattle.gob_words.specs.declared.view.ViewCommand.TheVariants.{Values, Types, Why, Explain, Version}
-use Rattle.gob_words.specs.declared.view.ViewCommand.TheVariants.{ShowGo, CheckGo}
+use Rattle.gob_words.specs.declared.view.ViewCommand.TheVariants.{ShowGo, CheckGo, RewriteGo}
 use Rattle.gob_words.specs.declared.view.ViewFault.{ViewFault}
 use Rattle.gob_words.specs.declared.view.ViewFault.TheVariants as view_fault
 use Rattle.gob_words.specs.Words.{IsNumber, IsFaultOf, program}
 use Rattle.gob_words.specs.Views.{AsksToView, IsAskedFor, IsPlaceOf, IsViewFaultOf, IsViewOf, IsWordAtFault}
 use Rattle.gob_words.specs.Views.{RefusesToView}
 use Rattle.gob_words.specs.Views.{IsVersionView, view_name}
-use Rattle.gob_words.specs.ViewDepths.{most_view_depth}
+use Rattle.gob_words.specs.ViewDepths.{greatest_view_depth}
 use Rattle.gob_words.proofs.WordLaws.{together, name_met, rows_met}
 
 -- ---- names
@@ -26,9 +26,9 @@ use Rattle.gob_words.proofs.WordLaws.{together, name_met, rows_met}
 -- the command of this name, by its first letter or its second one
 abbrev having : (first second : ℕ) → ViewCommand
 having first c =
-    if first == 99 then CheckGo else (if first == 115 then ShowGo
+    if first == 99 then CheckGo else (if first == 115 then ShowGo else (if first == 114 then RewriteGo
     else (if c == 97 then Values
-    else (if c == 121 then Types else (if c == 104 then Why else (if c == 120 then Explain else Version)))))
+    else (if c == 121 then Types else (if c == 104 then Why else (if c == 120 then Explain else Version))))))
 
 has : (a : ViewCommand) → having (slice_index (view_name a) 0) (slice_index (view_name a) 1) ≡ a
 has Values = refl
@@ -38,6 +38,7 @@ has Explain = refl
 has Version = refl
 has ShowGo = refl
 has CheckGo = refl
+has RewriteGo = refl
 
 one_view : (a b : ViewCommand) → view_name a ≡ view_name b → a ≡ b
 one_view a b e = sym (has a) ∙ ap (λ name. having (slice_index name 0) (slice_index name 1)) e ∙ has b
@@ -57,9 +58,9 @@ pub record ViewMeets (command : ViewCommand) (rows : List Row) (view : View) : T
   pub depth : IsNumber (first_of (codes "depth") rows) 1000 view.depth
   pub item : IsNumber (first_of (codes "item") rows) 67108864 view.item
   pub least : 1 ≤ view.depth
-  pub most : view.depth ≤ most_view_depth command
+  pub most : view.depth ≤ greatest_view_depth
   pub at : IsPlaceOf command (first_of (codes "at") rows) view.at
-  pub asked : IsAskedFor command (first_of (codes "go") rows)
+  pub asked : IsAskedFor command (first_of (codes "go") rows) (first_of (codes "hoist") rows)
 
 pub view_meets : (met : Option (Text × List Row)) (command : ViewCommand) (rows : List Row) (view : View)
     → met ≡ Some (view_name command, rows) → IsViewOf met view → ViewMeets command rows view
@@ -70,12 +71,18 @@ view_meets met command rows view e h =
       depth = subst (λ r. IsNumber (first_of (codes "depth") r) 1000 view.depth) same h.depth;
       item = subst (λ r. IsNumber (first_of (codes "item") r) 67108864 view.item) same h.item;
       least = h.least;
-      most = subst (λ c. view.depth ≤ most_view_depth c) one h.most;
+      most = h.most;
       at = subst (λ c. IsPlaceOf c (first_of (codes "at") rows) view.at) one
           (subst (λ r. IsPlaceOf view.command (first_of (codes "at") r) view.at) same h.at);
-      asked = subst (λ c. IsAskedFor c (first_of (codes "go") rows)) one
-          (subst (λ r. IsAskedFor view.command (first_of (codes "go") r)) same h.asked);
+      asked = subst (λ c. IsAskedFor c (first_of (codes "go") rows) (first_of (codes "hoist") rows)) one
+          (subst (λ r. IsAskedFor view.command (first_of (codes "go") r) (first_of (codes "hoist") r)) same h.asked);
     }
+
+-- equal words ask alike
+pub asked_alike : (command : ViewCommand) (go other hoist another : Option Text) → go ≡ other → hoist ≡ another
+    → IsAskedFor command go hoist → IsAskedFor command other another
+asked_alike command go other hoist another e f h = subst (λ w. IsAskedFor command other w) f
+    (subst (λ w. IsAskedFor command w hoist) e h)
 
 -- ---- the ends
 

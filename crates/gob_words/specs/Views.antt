@@ -9,7 +9,7 @@ use Rattle.gob_words.specs.declared.view.ViewCommand.TheVariants as view
 use Rattle.gob_words.specs.declared.view.ViewFault.{ViewFault}
 use Rattle.gob_words.specs.declared.view.ViewFault.TheVariants as view_fault
 use Rattle.gob_words.specs.declared.words.OrderFault.TheVariants as fault
-use Rattle.gob_words.specs.ViewDepths.{most_view_depth}
+use Rattle.gob_words.specs.ViewDepths.{greatest_view_depth}
 use Rattle.gob_words.specs.Words.{IsNumber, IsSet, order_line, order_status, program, text_of}
 
 abbrev pub view_name : ViewCommand → Text
@@ -20,12 +20,14 @@ view_name view.Explain = codes "explain"
 view_name view.Version = codes "version"
 view_name view.ShowGo = codes "show"
 view_name view.CheckGo = codes "check"
+view_name view.RewriteGo = codes "rewrite"
 
--- the command is a view, by clap's value of the flag for Go's encoder: an exact command is one with that flag alone
-abbrev pub IsAskedFor : ViewCommand → Option Text → Type 0
-IsAskedFor view.ShowGo value = IsSet value
-IsAskedFor view.CheckGo value = IsSet value
-IsAskedFor _ value = ⊤
+-- the command is a view, by clap's values of the flags for Go's encoder: an exact command is one with such a flag alone
+abbrev pub IsAskedFor : ViewCommand → (go hoist : Option Text) → Type 0
+IsAskedFor view.ShowGo go hoist = IsSet go
+IsAskedFor view.CheckGo go hoist = IsSet go
+IsAskedFor view.RewriteGo go hoist = IsSet go ⊎ IsSet hoist
+IsAskedFor _ go hoist = ⊤
 
 -- the file that a word names: a minus sign is standard input
 pub record IsFileOf (word file : Option Text) : Type 0 where
@@ -47,6 +49,11 @@ abbrev pub IsFaultFlagOf : ViewCommand → Option Text → Bool → Type 0
 IsFaultFlagOf view.Explain value flag = IsGiven value flag
 IsFaultFlagOf _ value flag = flag ≡ false
 
+-- whether the flag of rewrite for definitions is given, by clap's value of it, which no other command has
+abbrev pub IsHoistFlagOf : ViewCommand → Option Text → Bool → Type 0
+IsHoistFlagOf view.RewriteGo value flag = IsGiven value flag
+IsHoistFlagOf _ value flag = flag ≡ false
+
 -- the offset that a word of explain gives, if one is there
 abbrev pub IsPlaceIn : Option Text → Option ℕ → Type 0
 IsPlaceIn None at = at ≡ None
@@ -61,21 +68,24 @@ IsPlaceOf _ word at = at ≡ None
 pub record IsViewOf (met : Option (Text × List Row)) (view : View) : Type 0 where
   pub rows : List Row
   pub command : met ≡ Some (view_name view.command, rows)
-  pub asked : IsAskedFor view.command (first_of (codes "go") rows)
+  pub asked : IsAskedFor view.command (first_of (codes "go") rows) (first_of (codes "hoist") rows)
   pub input : IsFileOf (first_of (codes "IN") rows) (text_of view.input)
   pub depth : IsNumber (first_of (codes "depth") rows) 1000 view.depth
   pub item : IsNumber (first_of (codes "item") rows) 67108864 view.item
   pub zeros : IsFlagOf view.command (first_of (codes "zeros") rows) view.zeros
   pub raw : IsFlagOf view.command (first_of (codes "raw") rows) view.raw
+  pub tagged : IsFlagOf view.command (first_of (codes "tagged") rows) view.tagged
+  pub hoist : IsHoistFlagOf view.command (first_of (codes "hoist") rows) view.hoist
   pub fault : IsFaultFlagOf view.command (first_of (codes "fault") rows) view.fault
   pub at : IsPlaceOf view.command (first_of (codes "at") rows) view.at
   pub least : 1 ≤ view.depth
-  pub most : view.depth ≤ most_view_depth view.command
+  pub most : view.depth ≤ greatest_view_depth
 
 -- what the option that asks for the version stands for
 abbrev pub IsVersionView : View → Type 0
 IsVersionView given = (given.command ≡ view.Version) × (given.input ≡ None) × (given.depth ≡ 1000)
-    × (given.item ≡ 67108864) × (given.zeros ≡ false) × (given.raw ≡ false) × (given.fault ≡ false) × (given.at ≡ None)
+    × (given.item ≡ 67108864) × (given.zeros ≡ false) × (given.raw ≡ false) × (given.tagged ≡ false)
+    × (given.hoist ≡ false) × (given.fault ≡ false) × (given.at ≡ None)
 
 -- the words, the program's name first, ask for this: by its name, or for the version by an option
 unfoldable pub AsksToView : List Text → View → Type 0

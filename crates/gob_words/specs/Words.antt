@@ -47,17 +47,25 @@ two_streams name =
 abbrev pub go_stream : Text → App
 go_stream name = with_input (with_rule (with_options name) (flag_rule (codes "go")))
 
+-- the command that writes a stream anew, which has beside that flag the one for definitions in values
+abbrev pub with_go_flags : App → App
+with_go_flags app = with_rule (with_rule app (flag_rule (codes "go"))) (flag_rule (codes "hoist"))
+
+abbrev pub rewrite : App
+rewrite = with_input (with_go_flags (with_options (codes "rewrite")))
+
 -- the commands that write exactly what a stream has
 abbrev pub exact_program : App
 exact_program =
     let top = (new_app (codes "gob")).top in
     let bare : App = record { top = record top { has_version = true; subcommand_required = true }; subs = [] } in
     with_subcommand (with_subcommand (with_subcommand (with_subcommand bare (go_stream (codes "show")).top)
-    (go_stream (codes "check")).top) (one_stream (codes "rewrite")).top) (two_streams (codes "take")).top
+    (go_stream (codes "check")).top) rewrite.top) (two_streams (codes "take")).top
 
 -- the flags that say how values are shown
 abbrev pub with_flags : App → App
-with_flags app = with_rule (with_rule app (flag_rule (codes "zeros"))) (flag_rule (codes "raw"))
+with_flags app = with_rule (with_rule (with_rule app (flag_rule (codes "zeros"))) (flag_rule (codes "raw")))
+    (flag_rule (codes "tagged"))
 
 -- the command that shows values
 abbrev pub values : App
@@ -107,12 +115,13 @@ text_of = option_map (λ word. word.now)
 abbrev pub IsSet : Option Text → Type 0
 IsSet value = value ≡ Some (codes "true")
 
--- clap met a subcommand with these rows, and this is the order that they make: with the flag for Go's encoder none
+-- clap met a subcommand with these rows, and this is the order that they make: with a flag for Go's encoder none
 pub record IsOrderOf (met : Option (Text × List Row)) (order : Order) : Type 0 where
   pub rows : List Row
   pub command : met ≡ Some (name_of order.command, rows)
   pub wanted : text_of order.wanted ≡ wanted_in order.command rows
   pub plain : ¬ IsSet (first_of (codes "go") rows)
+  pub in_place : ¬ IsSet (first_of (codes "hoist") rows)
   pub input : text_of order.input ≡ first_of (codes "IN") rows
   pub depth : IsNumber (first_of (codes "depth") rows) 1000 order.depth
   pub item : IsNumber (first_of (codes "item") rows) 67108864 order.item

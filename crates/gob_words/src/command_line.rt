@@ -4,7 +4,8 @@ ghost use Rattle.std.specs.Prelude.{◌≡◌, IfOk, codes, false};
 ghost use Rattle.clap.specs.Words.{app_of, rule_of, with_subcommand};
 ghost use Rattle.clap.specs.declared.builder.Command.TheViews.{out-Command};
 ghost use Rattle.gob_words.specs.Words.{flag_rule, option_rule, with_flags, with_options, with_input, one_stream};
-ghost use Rattle.gob_words.specs.Words.{exact_program, explain, go_stream, program, two_streams, values, with_parts};
+ghost use Rattle.gob_words.specs.Words.{exact_program, explain, go_stream, program, rewrite, two_streams, values};
+ghost use Rattle.gob_words.specs.Words.{with_go_flags, with_parts};
 
 use crate::help;
 use clap::{Arg, ArgAction, Command};
@@ -34,7 +35,7 @@ fn values<'a>(alloc: Global) -> Result<Command<'a>, AllocError>
     ensures app { IfOk result (λ command. app_of command ≡ values) }
     ensures local { IfOk result (λ command. (out-Command command).has_globals ≡ false) }
 {
-    let options = with_options(alloc, "values", help::VALUES, help::DEPTH_OF_TREES)?;
+    let options = with_options(alloc, "values", help::VALUES, help::DEPTH)?;
     with_input(alloc, with_flags(alloc, options)?, help::FILE)
 }
 
@@ -45,6 +46,15 @@ fn explain<'a>(alloc: Global) -> Result<Command<'a>, AllocError>
 {
     let options = with_options(alloc, "explain", help::EXPLAIN, help::DEPTH)?;
     with_input(alloc, with_parts(alloc, options)?, help::FILE)
+}
+
+// The command that writes a stream anew, with the flags for Go's encoder behind the options that other commands have.
+fn rewrite<'a>(alloc: Global) -> Result<Command<'a>, AllocError>
+    ensures app { IfOk result (λ command. app_of command ≡ rewrite) }
+    ensures local { IfOk result (λ command. (out-Command command).has_globals ≡ false) }
+{
+    let options = with_options(alloc, "rewrite", help::REWRITE, help::DEPTH_WITH_GO)?;
+    with_input(alloc, with_go_flags(alloc, options)?, help::INPUT)
 }
 
 // A command that reads one stream, with the flag for Go's encoder behind the options that other commands have too.
@@ -71,22 +81,15 @@ fn exact_program<'a>(alloc: Global) -> Result<Command<'a>, AllocError>
         .version(help::VERSION)
         .after_help(help::USE)
         .subcommand_required(true);
-    let showing = bare.subcommand(go_stream(alloc, "show", help::SHOW, help::DEPTH_OF_TREES)?)?;
+    let showing = bare.subcommand(go_stream(alloc, "show", help::SHOW, help::DEPTH)?)?;
     let checking = showing.subcommand(go_stream(
         alloc,
         "check",
         help::CHECK,
-        help::DEPTH_OF_CHECK,
+        help::DEPTH_WITH_GO,
     )?)?;
-    let rewriting = with_one_stream(
-        alloc,
-        checking,
-        "rewrite",
-        help::REWRITE,
-        help::DEPTH,
-        help::INPUT,
-    )?;
-    rewriting.subcommand(two_streams(alloc, "take", help::TAKE, help::DEPTH_OF_TREES)?)
+    let rewriting = checking.subcommand(rewrite(alloc)?)?;
+    rewriting.subcommand(two_streams(alloc, "take", help::TAKE, help::DEPTH)?)
 }
 
 // The program with one command more, which reads one stream.
@@ -173,7 +176,19 @@ fn with_flags<'a>(alloc: Global, command: Command<'a>) -> Result<Command<'a>, Al
 {
     command
         .arg(flag(alloc, "zeros", help::ZEROS))?
-        .arg(flag(alloc, "raw", help::RAW))
+        .arg(flag(alloc, "raw", help::RAW))?
+        .arg(flag(alloc, "tagged", help::TAGGED))
+}
+
+// The command with the flags that say that Go's encoder wrote the stream, and where definitions are to stand.
+fn with_go_flags<'a>(alloc: Global, command: Command<'a>) -> Result<Command<'a>, AllocError>
+    requires { (out-Command command).has_globals ≡ false }
+    ensures app { IfOk result (λ more. app_of more ≡ with_go_flags (app_of command.entry)) }
+    ensures local { IfOk result (λ more. (out-Command more).has_globals ≡ false) }
+{
+    command
+        .arg(flag(alloc, "go", help::GO))?
+        .arg(flag(alloc, "hoist", help::HOIST))
 }
 
 // The command with the flag and the option that say which part of a stream is shown.

@@ -27,21 +27,25 @@ pub(crate) const EXPLAIN: &str = "Print the bytes of a stream row by row, each w
 pub(crate) const NAME_AND_VERSION: &str = "Print the program's name and version";
 
 /// Their options and files.
-pub(crate) const DEPTH: &str = "Refuse deeper values: 1 to 65536, and 1000 without it";
-
-pub(crate) const DEPTH_OF_CHECK: &str =
+pub(crate) const DEPTH_WITH_GO: &str =
     "Refuse deeper values: 1 to 65536, to 1000 with --go, and 1000 without it";
 
-pub(crate) const DEPTH_OF_TREES: &str = "Refuse deeper values: 1 to 1000, and 1000 without it";
+pub(crate) const DEPTH: &str = "Refuse deeper values: 1 to 1000, and 1000 without it";
 
 pub(crate) const ITEM: &str =
     "Refuse items of more bytes: 0 to 18446744073709551615, and 67108864 without it";
 
 pub(crate) const GO: &str = "Take all that Go's encoder writes, as values in interfaces";
 
+pub(crate) const HOIST: &str =
+    "As --go, and put each definition in a value into an item of its own before it";
+
 pub(crate) const ZEROS: &str = "Show absent fields too, as zeros";
 
 pub(crate) const RAW: &str = "Show values of types that encode themselves, as time.Time, in base64";
+
+pub(crate) const TAGGED: &str =
+    "Show what an interface holds as {\"NAME\":value}, by its type's name";
 
 pub(crate) const FAULT: &str = "Show the item that is refused alone";
 
@@ -70,9 +74,9 @@ reason, the offset of the first byte that is refused, and how many bytes show it
       The input ends within an item: the file was cut off, or isn't all written
       yet. Get the whole file. The items before the offset are whole.
   gob: refused 16 InterfaceValue at 3 seen 4
-      A field of an interface type isn't nil. Type gob show --go: with --go show
-      and check take what an interface holds.
+      A field of an interface type isn't nil. Type gob show --go: with --go
+      show, check and rewrite take what an interface holds.
   gob: refused 19 WrongId at 3 seen 11
       A type that encodes itself, as big.Int, was first sent by a pointer, and Go
-      described it under two ids. Type gob show --go: with --go show and check
-      take that too.";
+      described it under two ids. Type gob show --go: with --go show, check and
+      rewrite take that too.";

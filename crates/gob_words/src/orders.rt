@@ -65,7 +65,7 @@ fn order_in<'a>(matches: &ArgMatches<'a>) -> Option<Order<'a>>
 {
     let (name, matches) = matches.subcommand()?;
     let command = command_of(name)?;
-    if is_set(matches.get_str("go")) {
+    if is_set(matches.get_str("go")) || is_set(matches.get_str("hoist")) {
         return None;
     }
     let wanted = wanted_in(command, matches);

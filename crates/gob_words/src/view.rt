@@ -1,18 +1,16 @@
 //! What the words of the command line can ask to be shown.
 
 ghost use Rattle.std.specs.Prelude.{◌≡◌, ◌≤◌};
-ghost use Rattle.gob_words.specs.ViewDepths.{most_view_depth};
+ghost use Rattle.gob_words.specs.ViewDepths.{greatest_view_depth};
 
 use crate::words::OrderFault;
 use std::alloc::AllocError;
 use std::fmt;
 use thiserror::Error;
 
-// The greatest depth of a value that is written as plain JSON or read with what interfaces hold, and of one that is
-// only read.
-const DEEPEST_PLAIN: u64 = 1000;
-
-const DEEPEST: u64 = 65536;
+// The greatest depth that can be asked for: that of a value which is written as plain JSON, and of one in which
+// interfaces hold others.
+pub(crate) const GREATEST_DEPTH: u64 = 1000;
 
 /// What the program is to show.
 #[derive(Clone, Copy, Debug, PartialEq, Eq)]
@@ -31,21 +29,8 @@ pub enum ViewCommand {
     ShowGo,
     /// How many items, types and bytes a whole stream of Go's encoder has, with what interfaces hold.
     CheckGo,
-}
-
-impl ViewCommand {
-    // The greatest depth that it can be asked for.
-    pub(crate) fn most_depth(self) -> u64
-        ensures { result ≡ most_view_depth self }
-    {
-        match self {
-            ViewCommand::Values
-            | ViewCommand::Version
-            | ViewCommand::ShowGo
-            | ViewCommand::CheckGo => DEEPEST_PLAIN,
-            ViewCommand::Types | ViewCommand::Why | ViewCommand::Explain => DEEPEST,
-        }
-    }
+    /// The stream of the items of one of Go's encoder in their tidy form, with what interfaces hold.
+    RewriteGo,
 }
 
 /// What the words ask to be shown. [`ViewCommand::Version`] reads no file, and its other fields are the usual ones.
@@ -55,8 +40,7 @@ pub struct View<'a> {
     pub command: ViewCommand,
     /// The name of the file that is read. None: standard input, which the word `-` stands for too.
     pub input: Option<&'a str>,
-    /// The greatest depth of a value: 1 to 65536 for [`ViewCommand::Types`], [`ViewCommand::Why`] and
-    /// [`ViewCommand::Explain`], to 1000 for the others.
+    /// The greatest depth of a value: 1 to 1000.
     pub depth: u64,
     /// The most bytes of an item's body.
     pub item: u64,
@@ -64,13 +48,18 @@ pub struct View<'a> {
     pub zeros: bool,
     /// Whether values of types that encode themselves are shown in base64: for [`ViewCommand::Values`] alone.
     pub raw: bool,
+    /// Whether what an interface holds is shown under the name of its type: for [`ViewCommand::Values`] alone.
+    pub tagged: bool,
+    /// Whether each definition in a value stands in an item of its own before the value's: for
+    /// [`ViewCommand::RewriteGo`] alone.
+    pub hoist: bool,
     /// Whether the item that is refused is shown alone: for [`ViewCommand::Explain`] alone.
     pub fault: bool,
     /// The offset in the stream of a byte of the item that is shown alone: for [`ViewCommand::Explain`] alone, where
     /// `fault` isn't asked for.
     pub at: Option<u64>,
     pub ghost least: { 1 ≤ depth },
-    pub ghost most: { depth ≤ most_view_depth command },
+    pub ghost most: { depth ≤ greatest_view_depth },
 }
 
 /// Why the words ask for nothing to be shown. Display writes what the program prints then, without the last line feed.

@@ -5,15 +5,15 @@ ghost use Rattle.clap.specs.Words.{subcommand_rows_of};
 ghost use Rattle.gob_words.specs.declared.view.View.{View};
 ghost use Rattle.gob_words.specs.declared.view.ViewCommand.{ViewCommand};
 ghost use Rattle.gob_words.specs.Views.{AsksToView, IsFileOf, IsViewFaultOf, IsViewOf, RefusesToView, view_name};
-ghost use Rattle.gob_words.specs.Views.{IsAskedFor, IsFaultFlagOf, IsFlagOf, IsPlaceIn, IsPlaceOf, IsVersionView};
-ghost use Rattle.gob_words.specs.Views.{IsWordAtFault};
+ghost use Rattle.gob_words.specs.Views.{IsAskedFor, IsFaultFlagOf, IsFlagOf, IsHoistFlagOf, IsPlaceIn, IsPlaceOf};
+ghost use Rattle.gob_words.specs.Views.{IsVersionView, IsWordAtFault};
 ghost use Rattle.gob_words.specs.Words.{text_of};
 
 use crate::command_line::program;
 use crate::decimal::number_of;
 use crate::message::{number_line, shown_line};
 use crate::orders::{USUAL_DEPTH, USUAL_ITEM, fault_of, is_set};
-use crate::view::{View, ViewCommand, ViewFault};
+use crate::view::{GREATEST_DEPTH, View, ViewCommand, ViewFault};
 use crate::words::OrderFault;
 use clap::ArgMatches;
 use clap::error::ErrorKind;
@@ -49,6 +49,8 @@ fn version_view<'a>() -> View<'a>
         item: USUAL_ITEM,
         zeros: false,
         raw: false,
+        tagged: false,
+        hoist: false,
         fault: false,
         at: None,
     }
@@ -62,13 +64,13 @@ fn view_in<'a>(matches: &ArgMatches<'a>) -> Option<View<'a>>
 {
     let (name, matches) = matches.subcommand()?;
     let command = command_of(name)?;
-    if !is_asked(command, matches.get_str("go")) {
+    if !is_asked(command, matches.get_str("go"), matches.get_str("hoist")) {
         return None;
     }
     let depth = number_of(matches.get_str("depth"), USUAL_DEPTH)?;
     let item = number_of(matches.get_str("item"), USUAL_ITEM)?;
     let at = place_of(command, matches.get_str("at"))?;
-    if depth < 1 || depth > command.most_depth() {
+    if depth < 1 || depth > GREATEST_DEPTH {
         return None;
     }
     Some(View {
@@ -78,6 +80,8 @@ fn view_in<'a>(matches: &ArgMatches<'a>) -> Option<View<'a>>
         item,
         zeros: is_given(command, matches.get_str("zeros")),
         raw: is_given(command, matches.get_str("raw")),
+        tagged: is_given(command, matches.get_str("tagged")),
+        hoist: is_hoist_asked(command, matches.get_str("hoist")),
         fault: is_fault_asked(command, matches.get_str("fault")),
         at,
     })
@@ -96,18 +100,20 @@ fn command_of(name: &str) -> Option<ViewCommand>
         "version" => Some(ViewCommand::Version),
         "show" => Some(ViewCommand::ShowGo),
         "check" => Some(ViewCommand::CheckGo),
+        "rewrite" => Some(ViewCommand::RewriteGo),
         _ => None,
     }
 }
 
-// Whether the command is a view, by clap's value of the flag for Go's encoder: an exact command is one with that flag
-// alone.
-fn is_asked(command: ViewCommand, value: Option<&str>) -> bool
-    ensures { MatchBool result (IsAskedFor command (text_of value.entry))
-        (¬ IsAskedFor command (text_of value.entry)) }
+// Whether the command is a view, by clap's values of the flags for Go's encoder: an exact command is one with such a
+// flag alone.
+fn is_asked(command: ViewCommand, go: Option<&str>, hoist: Option<&str>) -> bool
+    ensures { MatchBool result (IsAskedFor command (text_of go.entry) (text_of hoist.entry))
+        (¬ IsAskedFor command (text_of go.entry) (text_of hoist.entry)) }
 {
     match command {
-        ViewCommand::ShowGo | ViewCommand::CheckGo => is_set(value),
+        ViewCommand::ShowGo | ViewCommand::CheckGo => is_set(go),
+        ViewCommand::RewriteGo => is_set(go) || is_set(hoist),
         ViewCommand::Values
         | ViewCommand::Types
         | ViewCommand::Why
@@ -127,6 +133,23 @@ fn is_fault_asked(command: ViewCommand, value: Option<&str>) -> bool
         | ViewCommand::Why
         | ViewCommand::Version
         | ViewCommand::ShowGo
+        | ViewCommand::CheckGo
+        | ViewCommand::RewriteGo => false,
+    }
+}
+
+// Whether definitions are to stand before the values that hold them, by clap's value of the flag of rewrite.
+fn is_hoist_asked(command: ViewCommand, value: Option<&str>) -> bool
+    ensures { IsHoistFlagOf command (text_of value.entry) result }
+{
+    match command {
+        ViewCommand::RewriteGo => matches!(value, Some("true")),
+        ViewCommand::Values
+        | ViewCommand::Types
+        | ViewCommand::Why
+        | ViewCommand::Explain
+        | ViewCommand::Version
+        | ViewCommand::ShowGo
         | ViewCommand::CheckGo => false,
     }
 }
@@ -143,7 +166,8 @@ fn place_of(command: ViewCommand, word: Option<&str>) -> Option<Option<u64>>
         | ViewCommand::Why
         | ViewCommand::Version
         | ViewCommand::ShowGo
-        | ViewCommand::CheckGo => { Some(None) }
+        | ViewCommand::CheckGo
+        | ViewCommand::RewriteGo => { Some(None) }
     }
 }
 
@@ -172,7 +196,8 @@ fn is_given(command: ViewCommand, value: Option<&str>) -> bool
         | ViewCommand::Explain
         | ViewCommand::Version
         | ViewCommand::ShowGo
-        | ViewCommand::CheckGo => { false }
+        | ViewCommand::CheckGo
+        | ViewCommand::RewriteGo => { false }
     }
 }
 
@@ -196,12 +221,13 @@ fn number_fault(alloc: Global, matches: &ArgMatches<'_>) -> ViewFault
     let Some(command) = command_of(name) else {
         return ViewFault::Order(OrderFault::Words);
     };
-    if !is_asked(command, matches.get_str("go")) {
+    if !is_asked(command, matches.get_str("go"), matches.get_str("hoist")) {
         return ViewFault::Order(OrderFault::Words);
     }
-    let most = command.most_depth();
     let line = match matches.get_str("depth") {
-        Some(word) if !is_number(word, 1, most) => number_line(alloc, "depth", word, 1, most),
+        Some(word) if !is_number(word, 1, GREATEST_DEPTH) => {
+            number_line(alloc, "depth", word, 1, GREATEST_DEPTH)
+        }
         _ => match matches.get_str("item") {
             Some(word) if !is_number(word, 0, u64::MAX) => {
                 number_line(alloc, "item", word, 0, u64::MAX)
@@ -232,22 +258,26 @@ fn word_fault<D: Display>(alloc: Global, words: &[&str], kind: ErrorKind, shown:
     }
 }
 
-// Whether the word behind the program's name is one of these commands: an exact command is one with the flag for Go's
+// Whether the word behind the program's name is one of these commands: an exact command is one with a flag for Go's
 // encoder alone, which is none behind the word --.
 fn names_view(words: &[&str]) -> bool {
     match words.get(1) {
         Some(name) => match command_of(name) {
-            Some(ViewCommand::ShowGo | ViewCommand::CheckGo) => {
-                words
-                    .iter()
-                    .take_while(|word| **word != "--")
-                    .any(|word| *word == "--go")
-            }
+            Some(ViewCommand::ShowGo | ViewCommand::CheckGo) => has_flag(words, "--go"),
+            Some(ViewCommand::RewriteGo) => has_flag(words, "--go") || has_flag(words, "--hoist"),
             Some(_) => true,
             None => false,
         },
         None => false,
     }
+}
+
+// Whether the flag is among the words, before the word -- where that is one of them.
+fn has_flag(words: &[&str], flag: &str) -> bool {
+    words
+        .iter()
+        .take_while(|word| **word != "--")
+        .any(|word| *word == flag)
 }
 
 // A fault that is told by this line.

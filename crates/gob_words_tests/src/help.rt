@@ -1,17 +1,33 @@
 //! Help, and the faults of words.
 
+use crate::lines::words_of;
 use gob_words::{OrderFault, order_of};
-use std::alloc::{AllocError, Global};
+use std::alloc::Global;
 use std::test::*;
 
-// Whether the words are answered with a help that has each of these texts, and ends without a line feed.
+// Whether the text has each of these, and ends without a line feed.
+fn has_each(help: &str, texts: &str) -> bool {
+    for text in texts.split('\n') {
+        if !help.contains(text) {
+            return false;
+        }
+    }
+    !help.ends_with('\n')
+}
+
+// Whether the words are answered with a help that has each of these texts.
 fn tells(alloc: Global, words: &[&str], texts: &str) -> bool {
     match order_of(alloc, words) {
-        Err(OrderFault::Help(help)) => {
-            texts.split('\n').all(|text| help.as_str().contains(text))
-                && !help.as_str().ends_with('\n')
-        }
+        Err(OrderFault::Help(help)) => has_each(&help, texts),
         _ => false,
+    }
+}
+
+// Whether those of the line are.
+fn line_tells(alloc: Global, line: &str, texts: &str) -> bool {
+    match words_of(alloc, line) {
+        Ok(words) => tells(alloc, &words, texts),
+        Err(_) => false,
     }
 }
 
@@ -62,7 +78,17 @@ where it is -,
 --item <N>
 --zeros 
 --raw 
+--tagged 
 1 to 1000,";
+
+const REWRITE: &str = "\
+Usage: gob rewrite [OPTIONS] [IN]
+--depth <N>
+--item <N>
+--go 
+--hoist 
+1 to 65536,
+1000 with --go,";
 
 const EXPLAIN: &str = "\
 Usage: gob explain [OPTIONS] [IN]
@@ -71,40 +97,29 @@ where it is -,
 --item <N>
 --fault 
 --at <N>
-1 to 65536,";
+1 to 1000,";
+
+// Words behind the program's name, and the texts of their help.
+const HELPS: [(&str, &str); 12] = [
+    ("help", PROGRAM),
+    ("--help", PROGRAM),
+    ("-h", PROGRAM),
+    ("help take", TAKE),
+    ("take --help", TAKE),
+    ("check --help", CHECK),
+    ("help show", SHOW),
+    ("help values", VALUES),
+    ("help rewrite", REWRITE),
+    ("types --help", "1 to 1000,"),
+    ("why --help", "1 to 1000,"),
+    ("help explain", EXPLAIN),
+];
 
 #[test]
 fn help_has_its_texts(rt: HostRuntime) {
-    let alloc = rt.alloc();
-    assert!(rt; tells(alloc, &["gob", "help"], PROGRAM), "help");
-    assert!(rt; tells(alloc, &["gob", "--help"], PROGRAM), "--help");
-    assert!(rt; tells(alloc, &["gob", "-h"], PROGRAM), "-h");
-    assert!(rt; tells(alloc, &["gob", "help", "take"], TAKE), "help take");
-    assert!(rt;
-        tells(alloc, &["gob", "take", "--help"], TAKE),
-        "take --help"
-    );
-    assert!(rt;
-        tells(alloc, &["gob", "check", "--help"], CHECK),
-        "check --help"
-    );
-    assert!(rt; tells(alloc, &["gob", "help", "show"], SHOW), "help show");
-    assert!(rt;
-        tells(alloc, &["gob", "help", "values"], VALUES),
-        "help values"
-    );
-    assert!(rt;
-        tells(alloc, &["gob", "types", "--help"], "1 to 65536,"),
-        "types --help"
-    );
-    assert!(rt;
-        tells(alloc, &["gob", "why", "--help"], "1 to 65536,"),
-        "why --help"
-    );
-    assert!(rt;
-        tells(alloc, &["gob", "help", "explain"], EXPLAIN),
-        "help explain"
-    );
+    for (line, texts) in &HELPS {
+        assert!(rt; line_tells(rt.alloc(), line, texts), "{line}");
+    }
 }
 
 // Whether the fault has this text and this status.
@@ -115,18 +130,19 @@ fn is_said(alloc: Global, fault: &OrderFault, text: &str, status: u8) -> bool {
     }
 }
 
-fn is_help_said(alloc: Global) -> Result<bool, AllocError> {
-    let help = OrderFault::Help(String::from_str(alloc, "a\nb")?);
-    Ok(is_said(alloc, &help, "a\nb", 0))
+fn is_help_said(alloc: Global) -> bool {
+    match String::from_str(alloc, "a\nb") {
+        Ok(help) => is_said(alloc, &OrderFault::Help(help), "a\nb", 0),
+        Err(_) => false,
+    }
 }
 
 #[test]
-fn faults_of_words_have_lines_and_statuses(rt: HostRuntime) -> Result<(), Fail> {
+fn faults_of_words_have_lines_and_statuses(rt: HostRuntime) {
     let alloc = rt.alloc();
     let is_right = is_said(alloc, &OrderFault::Words, "gob: bad arguments", 2);
     assert!(rt; is_right, "bad words");
     let is_right = is_said(alloc, &OrderFault::Memory, "gob: out of memory", 2);
     assert!(rt; is_right, "want of memory");
-    assert!(rt; is_help_said(alloc)?, "help");
-    Ok(())
+    assert!(rt; is_help_said(alloc), "help");
 }

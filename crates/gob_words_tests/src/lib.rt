@@ -4,6 +4,8 @@
 #[cfg(test)]
 mod help;
 #[cfg(test)]
+mod lines;
+#[cfg(test)]
 mod views;
 #[cfg(test)]
 mod words;

@@ -1,131 +1,137 @@
 //! The words that ask for a stream to be shown.
 
-use gob_words::{OrderFault, VERSION, View, ViewCommand, ViewFault, escaped, order_of, view_of};
+use crate::lines::words_of;
+use gob_words::{OrderFault, VERSION, View, ViewFault, escaped, order_of, view_of};
 use std::alloc::{AllocError, Global};
 use std::test::*;
 
+// Words behind the program's name, and the view that they ask for, in lines one after the other: the command, the file,
+// the limits, the byte of the item that is shown alone, and the flags.
+const VIEWS: &str = r#"
+explain
+Explain None 1000 67108864 None
+explain --fault
+Explain None 1000 67108864 None fault
+explain --at 37 -
+Explain None 1000 67108864 Some(37)
+values
+Values None 1000 67108864 None
+values -
+Values None 1000 67108864 None
+values --depth 5 f --item=0
+Values Some("f") 5 0 None
+types f --depth=999
+Types Some("f") 999 67108864 None
+why f --depth=1 --item 7
+Why Some("f") 1 7 None
+version
+Version None 1000 67108864 None
+--version
+Version None 1000 67108864 None
+-V
+Version None 1000 67108864 None
+show --go
+ShowGo None 1000 67108864 None
+show --depth 1000 f --go
+ShowGo Some("f") 1000 67108864 None
+check --go
+CheckGo None 1000 67108864 None
+check --depth 1000 f --go
+CheckGo Some("f") 1000 67108864 None
+rewrite --go
+RewriteGo None 1000 67108864 None
+rewrite --depth 1000 f --go
+RewriteGo Some("f") 1000 67108864 None
+rewrite --hoist f
+RewriteGo Some("f") 1000 67108864 None hoist
+rewrite f --go --hoist
+RewriteGo Some("f") 1000 67108864 None hoist
+values --tagged --zeros f
+Values Some("f") 1000 67108864 None zeros tagged
+values --zeros
+Values None 1000 67108864 None zeros
+values --raw
+Values None 1000 67108864 None raw
+values --raw --zeros
+Values None 1000 67108864 None zeros raw
+values --zeros - --raw
+Values None 1000 67108864 None zeros raw
+values --zeros -- --raw
+Values Some("--raw") 1000 67108864 None zeros
+"#;
+
+// What the view is, as the lines have it.
+fn shown(alloc: Global, view: &View<'_>) -> Result<String, AllocError> {
+    let (command, input, at) = (view.command, view.input, view.at);
+    let (depth, item) = (view.depth, view.item);
+    let mut text = format!(in alloc; "{command:?} {input:?} {depth} {item} {at:?}")?;
+    for (is_set, flag) in [
+        (view.zeros, " zeros"),
+        (view.raw, " raw"),
+        (view.tagged, " tagged"),
+        (view.hoist, " hoist"),
+        (view.fault, " fault"),
+    ] {
+        if is_set {
+            text.push_str(flag)?;
+        }
+    }
+    Ok(text)
+}
+
 // Whether the words ask for this view.
-fn gives(alloc: Global, words: &[&str], view: View) -> bool {
+fn gives(alloc: Global, words: &[&str], due: &str) -> bool {
     match view_of(alloc, words) {
-        Ok(given) => given == view,
+        Ok(view) => match shown(alloc, &view) {
+            Ok(text) => text.as_str() == due,
+            Err(_) => false,
+        },
         Err(_) => false,
     }
 }
 
-// What `explain` gives with these flags.
-fn explained(fault: bool, at: Option<u64>) -> View<'static> {
-    View {
-        command: ViewCommand::Explain,
-        input: None,
-        depth: 1000,
-        item: 67108864,
-        zeros: false,
-        raw: false,
-        fault,
-        at,
+// Whether those of the line do.
+fn line_gives(alloc: Global, line: &str, due: &str) -> bool {
+    match words_of(alloc, line) {
+        Ok(words) => gives(alloc, &words, due),
+        Err(_) => false,
     }
 }
 
-#[test]
-fn words_explain_parts(rt: HostRuntime) {
-    let alloc = rt.alloc();
-    let all = explained(false, None);
-    assert!(rt; gives(alloc, &["gob", "explain"], all), "all");
-    let fault = explained(true, None);
-    assert!(rt;
-        gives(alloc, &["gob", "explain", "--fault"], fault),
-        "the refused item"
-    );
-    let at = explained(false, Some(37));
-    assert!(rt;
-        gives(alloc, &["gob", "explain", "--at", "37", "-"], at),
-        "an item"
-    );
+// The words that ask for another view.
+fn otherwise_given(alloc: Global) -> Option<&'static str> {
+    let mut lines = VIEWS.trim().lines();
+    while let Some(line) = lines.next() {
+        if !line_gives(alloc, line, lines.next().unwrap_or("")) {
+            return Some(line);
+        }
+    }
+    None
 }
 
 #[test]
 fn words_give_views(rt: HostRuntime) {
-    let alloc = rt.alloc();
-    let valued = View {
-        command: ViewCommand::Values,
-        input: None,
-        depth: 1000,
-        item: 67108864,
-        zeros: false,
-        raw: false,
-        fault: false,
-        at: None,
-    };
-    assert!(rt; gives(alloc, &["gob", "values"], valued), "values");
-    assert!(rt;
-        gives(alloc, &["gob", "values", "-"], valued),
-        "standard input by a minus sign"
-    );
-    let valued_file = View {
-        command: ViewCommand::Values,
-        input: Some("f"),
-        depth: 5,
-        item: 0,
-        zeros: false,
-        raw: false,
-        fault: false,
-        at: None,
-    };
-    let words = ["gob", "values", "--depth", "5", "f", "--item=0"];
-    assert!(rt; gives(alloc, &words, valued_file), "values of a file");
-    let typed_deep = View {
-        command: ViewCommand::Types,
-        input: Some("f"),
-        depth: 65536,
-        item: 67108864,
-        zeros: false,
-        raw: false,
-        fault: false,
-        at: None,
-    };
-    let words = ["gob", "types", "f", "--depth=65536"];
-    assert!(rt; gives(alloc, &words, typed_deep), "types");
-    let told = View {
-        command: ViewCommand::Why,
-        input: Some("f"),
-        depth: 65536,
-        item: 7,
-        zeros: false,
-        raw: false,
-        fault: false,
-        at: None,
-    };
-    let words = ["gob", "why", "f", "--depth=65536", "--item", "7"];
-    assert!(rt; gives(alloc, &words, told), "why");
-    let version = View {
-        command: ViewCommand::Version,
-        input: None,
-        depth: 1000,
-        item: 67108864,
-        zeros: false,
-        raw: false,
-        fault: false,
-        at: None,
-    };
-    assert!(rt; gives(alloc, &["gob", "version"], version), "version");
-    assert!(rt; gives(alloc, &["gob", "--version"], version), "--version");
-    assert!(rt; gives(alloc, &["gob", "-V"], version), "-V");
+    let otherwise = otherwise_given(rt.alloc());
+    assert!(rt; otherwise.is_none(), "{otherwise:?}");
     assert!(rt; VERSION == "gob 0.1.0", "the version");
 }
 
-// The view of a stream of Go's encoder, in this file.
-fn with_go(command: ViewCommand, input: Option<&'static str>) -> View<'static> {
-    View {
-        command,
-        input,
-        depth: 1000,
-        item: 67108864,
-        zeros: false,
-        raw: false,
-        fault: false,
-        at: None,
-    }
-}
+// Words that are views by their flags alone, and so no orders.
+const NO_ORDERS: &str = "\
+show --go
+show --depth 1000 f --go
+check --go
+check --depth 1000 f --go
+rewrite --go
+rewrite --depth 1000 f --go
+rewrite --hoist f";
+
+// Words that are orders, since a file is named as the flag.
+const FILES: &str = "\
+show -- --go
+check -- --go
+rewrite -- --go
+rewrite -- --hoist";
 
 // Whether the words give no order.
 fn gives_no_order(alloc: Global, words: &[&str]) -> bool {
@@ -135,74 +141,30 @@ fn gives_no_order(alloc: Global, words: &[&str]) -> bool {
     }
 }
 
-// Whether the exact command of this name is a view with the flag for Go's encoder alone.
-fn is_view_with_flag(alloc: Global, name: &'static str, command: ViewCommand) -> bool {
-    let alone = ["gob", name, "--go"];
-    let of_file = ["gob", name, "--depth", "1000", "f", "--go"];
-    let file_named_so = ["gob", name, "--", "--go"];
-    gives(alloc, &alone, with_go(command, None))
-        && gives_no_order(alloc, &alone)
-        && gives(alloc, &of_file, with_go(command, Some("f")))
-        && gives_no_order(alloc, &of_file)
-        && !gives_no_order(alloc, &file_named_so)
+// Whether those of the line give an order, or none, as is due.
+fn is_order(alloc: Global, line: &str, due: bool) -> bool {
+    match words_of(alloc, line) {
+        Ok(words) => gives_no_order(alloc, &words) != due,
+        Err(_) => false,
+    }
+}
+
+// The first of the lines of which something else is true.
+fn otherwise_ordered(alloc: Global, lines: &'static str, due: bool) -> Option<&'static str> {
+    for line in lines.lines() {
+        if !is_order(alloc, line, due) {
+            return Some(line);
+        }
+    }
+    None
 }
 
 #[test]
 fn exact_commands_are_views_with_their_flag_alone(rt: HostRuntime) {
-    let alloc = rt.alloc();
-    assert!(rt;
-        is_view_with_flag(alloc, "show", ViewCommand::ShowGo),
-        "show"
-    );
-    assert!(rt;
-        is_view_with_flag(alloc, "check", ViewCommand::CheckGo),
-        "check"
-    );
-}
-
-// The view of the values with these flags.
-fn flagged(zeros: bool, raw: bool) -> View<'static> {
-    View {
-        command: ViewCommand::Values,
-        input: None,
-        depth: 1000,
-        item: 67108864,
-        zeros,
-        raw,
-        fault: false,
-        at: None,
-    }
-}
-
-#[test]
-fn flags_are_set_by_their_words(rt: HostRuntime) {
-    let alloc = rt.alloc();
-    let words = ["gob", "values", "--zeros"];
-    assert!(rt; gives(alloc, &words, flagged(true, false)), "--zeros");
-    let words = ["gob", "values", "--raw"];
-    assert!(rt; gives(alloc, &words, flagged(false, true)), "--raw");
-    let words = ["gob", "values", "--raw", "--zeros"];
-    assert!(rt; gives(alloc, &words, flagged(true, true)), "both");
-    let words = ["gob", "values", "--zeros", "-", "--raw"];
-    assert!(rt;
-        gives(alloc, &words, flagged(true, true)),
-        "on both sides of the file"
-    );
-    let file_named_as_a_flag = View {
-        command: ViewCommand::Values,
-        input: Some("--raw"),
-        depth: 1000,
-        item: 67108864,
-        zeros: true,
-        raw: false,
-        fault: false,
-        at: None,
-    };
-    let words = ["gob", "values", "--zeros", "--", "--raw"];
-    assert!(rt;
-        gives(alloc, &words, file_named_as_a_flag),
-        "a file named as a flag"
-    );
+    let otherwise = otherwise_ordered(rt.alloc(), NO_ORDERS, false);
+    assert!(rt; otherwise.is_none(), "{otherwise:?}");
+    let otherwise = otherwise_ordered(rt.alloc(), FILES, true);
+    assert!(rt; otherwise.is_none(), "{otherwise:?}");
 }
 
 // Words behind the program's name, and what is said of them, in lines one after the other.
@@ -227,24 +189,24 @@ values --raw=yes
 gob: unexpected value 'yes' for '--raw' found; no more were expected
 values --zero
 gob: unexpected argument '--zero' found
-types --depth 65537 f
-gob: invalid value '65537' for '--depth <N>': no number from 1 to 65536
+types --depth 1001 f
+gob: invalid value '1001' for '--depth <N>': no number from 1 to 1000
 types --item x
 gob: invalid value 'x' for '--item <N>': no number from 0 to 18446744073709551615
 types --raw
 gob: unexpected argument '--raw' found
 why --raw
 gob: unexpected argument '--raw' found
-why --depth 65537 f
-gob: invalid value '65537' for '--depth <N>': no number from 1 to 65536
+why --depth 1001 f
+gob: invalid value '1001' for '--depth <N>': no number from 1 to 1000
 why --fault
 gob: unexpected argument '--fault' found
 types --at 1
 gob: unexpected argument '--at' found
 explain --at x
 gob: invalid value 'x' for '--at <N>': no number from 0 to 18446744073709551615
-explain --depth 65537
-gob: invalid value '65537' for '--depth <N>': no number from 1 to 65536
+explain --depth 1001
+gob: invalid value '1001' for '--depth <N>': no number from 1 to 1000
 explain --raw
 gob: unexpected argument '--raw' found
 version --zeros
@@ -261,8 +223,16 @@ check --depth 0 -- --go
 gob: bad arguments
 show --go --depth 0
 gob: invalid value '0' for '--depth <N>': no number from 1 to 1000
-rewrite --go
+rewrite --go --depth 1001
+gob: invalid value '1001' for '--depth <N>': no number from 1 to 1000
+rewrite --hoist a b
+gob: unexpected argument 'b' found
+rewrite --tagged
 gob: bad arguments
+check --hoist
+gob: bad arguments
+types --tagged
+gob: unexpected argument '--tagged' found
 take a --go
 gob: bad arguments
 
@@ -284,36 +254,55 @@ gob: bad arguments
 --depth 5 values
 gob: bad arguments";
 
-// Whether this is said of the words, with status 2.
-fn is_said(alloc: Global, line: &str, said: &str) -> Result<bool, AllocError> {
-    let mut words = Vec::new(alloc);
-    words.push("gob")?;
-    for word in line.split_whitespace() {
-        words.push(word)?;
+// Whether the fault has this text, and status 2.
+fn has_text(alloc: Global, fault: &ViewFault, said: &str) -> bool {
+    match fault.to_string(alloc) {
+        Ok(text) => text.as_str() == said && fault.status() == 2,
+        Err(_) => false,
     }
-    match view_of(alloc, &words) {
-        Ok(_) => Ok(false),
-        Err(fault) => Ok(fault.to_string(alloc)?.as_str() == said && fault.status() == 2),
+}
+
+// Whether this is said of the words.
+fn is_said(alloc: Global, words: &[&str], said: &str) -> bool {
+    match view_of(alloc, words) {
+        Ok(_) => false,
+        Err(fault) => has_text(alloc, &fault, said),
+    }
+}
+
+// Whether it is said of those of the line.
+fn is_line_said(alloc: Global, line: &str, said: &str) -> bool {
+    match words_of(alloc, line) {
+        Ok(words) => is_said(alloc, &words, said),
+        Err(_) => false,
     }
 }
 
 // The words of which something else is said.
-fn otherwise_said(alloc: Global) -> Result<Option<&'static str>, AllocError> {
+fn otherwise_said(alloc: Global) -> Option<&'static str> {
     let mut lines = SAID.split('\n');
     while let Some(line) = lines.next() {
-        if !is_said(alloc, line, lines.next().unwrap_or(""))? {
-            return Ok(Some(line));
+        if !is_line_said(alloc, line, lines.next().unwrap_or("")) {
+            return Some(line);
         }
     }
-    Ok(None)
+    None
 }
 
 #[test]
-fn faults_name_the_word(rt: HostRuntime) -> Result<(), Fail> {
-    let otherwise = otherwise_said(rt.alloc())?;
+fn faults_name_the_word(rt: HostRuntime) {
+    let otherwise = otherwise_said(rt.alloc());
     assert!(rt; otherwise.is_none(), "{otherwise:?}");
-    Ok(())
 }
+
+// Texts, and how they are shown.
+const SHOWN: [(&str, &str); 5] = [
+    ("a'é\"", "a'é\""),
+    ("\u{1b}[2J", "\\u{1b}[2J"),
+    ("\u{7f}\u{9b}", "\\u{7f}\\u{9b}"),
+    ("\u{202e}\u{2066}", "\\u{202e}\\u{2066}"),
+    ("\u{2028}\n", "\\u{2028}\\u{a}"),
+];
 
 fn is_shown(alloc: Global, text: &str, shown: &str) -> bool {
     match escaped(alloc, text) {
@@ -330,24 +319,20 @@ fn is_told(alloc: Global, word: &str, told: &str) -> bool {
     }
 }
 
+// Words, and how they are told.
+const TOLD: [(&str, &str); 2] = [
+    ("a\u{1b}b", "unexpected argument 'a\\u{1b}b' found"),
+    ("a\nb", "unexpected argument 'a\\u{a}b' found"),
+];
+
 #[test]
 fn no_word_reaches_the_terminal_raw(rt: HostRuntime) {
-    let alloc = rt.alloc();
-    assert!(rt; is_shown(alloc, "a'é\"", "a'é\""), "letters");
-    assert!(rt; is_shown(alloc, "\u{1b}[2J", "\\u{1b}[2J"), "escape");
-    assert!(rt;
-        is_shown(alloc, "\u{7f}\u{9b}", "\\u{7f}\\u{9b}"),
-        "DEL, CSI"
-    );
-    assert!(rt;
-        is_shown(alloc, "\u{202e}\u{2066}", "\\u{202e}\\u{2066}"),
-        "bidi"
-    );
-    assert!(rt; is_shown(alloc, "\u{2028}\n", "\\u{2028}\\u{a}"), "lines");
-    let told = "unexpected argument 'a\\u{1b}b' found";
-    assert!(rt; is_told(alloc, "a\u{1b}b", told), "in a word");
-    let told = "unexpected argument 'a\\u{a}b' found";
-    assert!(rt; is_told(alloc, "a\nb", told), "a line feed in a word");
+    for (text, shown) in &SHOWN {
+        assert!(rt; is_shown(rt.alloc(), text, shown), "{shown}");
+    }
+    for (word, told) in &TOLD {
+        assert!(rt; is_told(rt.alloc(), word, told), "{told}");
+    }
 }
 
 #[test]

@@ -1,79 +1,68 @@
 //! The words of the command line.
 
-use gob_words::{Chosen, Order, OrderFault, order_of};
+use crate::lines::words_of;
+use gob_words::{Order, OrderFault, order_of};
 use std::alloc::{AllocError, Global};
 use std::test::*;
 
+// Words behind the program's name, and the order that they give, in lines one after the other: the command, the wanted
+// file, the file that is read, and the limits.
+const ORDERS: &str = r#"
+show
+Show None None 1000 67108864
+check --depth 5 f
+Check None Some("f") 5 67108864
+check f --item=0 --depth=65536
+Check None Some("f") 65536 0
+rewrite f --item=0 --depth=65536
+Rewrite None Some("f") 65536 0
+take w --item 18446744073709551615 a
+Take Some("w") Some("a") 1000 18446744073709551615
+show --depth 007 -- --depth
+Show None Some("--depth") 7 67108864
+"#;
+
+// What the order is, as the lines have it.
+fn shown(alloc: Global, order: &Order<'_>) -> Result<String, AllocError> {
+    let (command, wanted, input) = (order.command, order.wanted, order.input);
+    let (depth, item) = (order.depth, order.item);
+    format!(in alloc; "{command:?} {wanted:?} {input:?} {depth} {item}")
+}
+
 // Whether the words give this order.
-fn gives(alloc: Global, words: &[&str], order: Order) -> bool {
+fn gives(alloc: Global, words: &[&str], due: &str) -> bool {
     match order_of(alloc, words) {
-        Ok(given) => given == order,
+        Ok(order) => match shown(alloc, &order) {
+            Ok(text) => text.as_str() == due,
+            Err(_) => false,
+        },
         Err(_) => false,
     }
 }
 
+// Whether those of the line do.
+fn line_gives(alloc: Global, line: &str, due: &str) -> bool {
+    match words_of(alloc, line) {
+        Ok(words) => gives(alloc, &words, due),
+        Err(_) => false,
+    }
+}
+
+// The words that give another order.
+fn otherwise_given(alloc: Global) -> Option<&'static str> {
+    let mut lines = ORDERS.trim().lines();
+    while let Some(line) = lines.next() {
+        if !line_gives(alloc, line, lines.next().unwrap_or("")) {
+            return Some(line);
+        }
+    }
+    None
+}
+
 #[test]
 fn words_give_orders(rt: HostRuntime) {
-    let alloc = rt.alloc();
-    let shown = Order {
-        command: Chosen::Show,
-        wanted: None,
-        input: None,
-        depth: 1000,
-        item: 67108864,
-    };
-    assert!(rt; gives(alloc, &["gob", "show"], shown), "show");
-    let checked = Order {
-        command: Chosen::Check,
-        wanted: None,
-        input: Some("f"),
-        depth: 5,
-        item: 67108864,
-    };
-    let is_right = gives(alloc, &["gob", "check", "--depth", "5", "f"], checked);
-    assert!(rt; is_right, "check, its depth before the file");
-    let checked_deep = Order {
-        command: Chosen::Check,
-        wanted: None,
-        input: Some("f"),
-        depth: 65536,
-        item: 0,
-    };
-    let words = ["gob", "check", "f", "--item=0", "--depth=65536"];
-    assert!(rt;
-        gives(alloc, &words, checked_deep),
-        "check, its options behind the file"
-    );
-    let rewritten_deep = Order {
-        command: Chosen::Rewrite,
-        wanted: None,
-        input: Some("f"),
-        depth: 65536,
-        item: 0,
-    };
-    let words = ["gob", "rewrite", "f", "--item=0", "--depth=65536"];
-    assert!(rt; gives(alloc, &words, rewritten_deep), "rewrite");
-    let taken = Order {
-        command: Chosen::Take,
-        wanted: Some("w"),
-        input: Some("a"),
-        depth: 1000,
-        item: 18446744073709551615,
-    };
-    let words = ["gob", "take", "w", "--item", "18446744073709551615", "a"];
-    assert!(rt; gives(alloc, &words, taken), "take");
-    let named_as_an_option = Order {
-        command: Chosen::Show,
-        wanted: None,
-        input: Some("--depth"),
-        depth: 7,
-        item: 67108864,
-    };
-    let words = ["gob", "show", "--depth", "007", "--", "--depth"];
-    assert!(rt;
-        gives(alloc, &words, named_as_an_option),
-        "a file named as an option"
-    );
+    let otherwise = otherwise_given(rt.alloc());
+    assert!(rt; otherwise.is_none(), "{otherwise:?}");
 }
 
 // Each line is the words of a command line behind the program's name.
@@ -111,20 +100,20 @@ help list
 -V
 check --help=yes";
 
-// Words that are an order, also with a file's name behind them.
+// Words that are an order.
 const ALLOWED: &str = "\
-show
-show --depth 1
-show --depth 1000
-show --depth 0001000
-take --depth 1000 w
-check --depth 1001
-check --depth 65536
-rewrite --depth 65536
-show --item 0
-show --item 18446744073709551615
-show --depth 5 --item 6
-show --";
+show a
+show --depth 1 a
+show --depth 1000 a
+show --depth 0001000 a
+take --depth 1000 w a
+check --depth 1001 a
+check --depth 65536 a
+rewrite --depth 65536 a
+show --item 0 a
+show --item 18446744073709551615 a
+show --depth 5 --item 6 a
+show -- a";
 
 const HELPS: &str = "\
 help
@@ -143,62 +132,62 @@ enum Ending {
     Order,
     Help,
     Refused,
+    Memory,
 }
 
 fn end_of(alloc: Global, words: &[&str]) -> Ending {
     match order_of(alloc, words) {
         Ok(_) => Ending::Order,
         Err(OrderFault::Help(_)) => Ending::Help,
+        Err(OrderFault::Memory) => Ending::Memory,
         Err(_) => Ending::Refused,
     }
 }
 
-// How the words of a line end, with these words behind them.
-fn end_of_line(alloc: Global, line: &str, behind: &[&str]) -> Result<Ending, AllocError> {
-    let mut words = Vec::new(alloc);
-    words.push("gob")?;
-    for word in line.split_whitespace() {
-        words.push(word)?;
+// How those of the line end.
+fn end_of_line(alloc: Global, line: &str) -> Ending {
+    match words_of(alloc, line) {
+        Ok(words) => end_of(alloc, &words),
+        Err(_) => Ending::Memory,
     }
-    for word in behind {
-        words.push(*word)?;
+}
+
+// The first of the lines that ends otherwise.
+fn otherwise_ended(alloc: Global, lines: &'static str, end: Ending) -> Option<&'static str> {
+    for line in lines.split('\n') {
+        if end_of_line(alloc, line) != end {
+            return Some(line);
+        }
     }
-    Ok(end_of(alloc, &words))
+    None
 }
 
 #[test]
-fn some_words_are_refused(rt: HostRuntime) -> Result<(), Fail> {
-    let alloc = rt.alloc();
-    for line in REFUSED.split('\n') {
-        let end = end_of_line(alloc, line, &[])?;
-        assert!(rt; end == Ending::Refused, "{line}");
+fn some_words_are_refused(rt: HostRuntime) {
+    let otherwise = otherwise_ended(rt.alloc(), REFUSED, Ending::Refused);
+    assert!(rt; otherwise.is_none(), "{otherwise:?}");
+}
+
+// No word, no name of a program, and empty words and one with a space, which no line has.
+const ODD: [&[&str]; 5] = [
+    &[],
+    &["show"],
+    &["gob", ""],
+    &["gob", "show", "--depth", ""],
+    &["gob", "show", "--depth", "5 "],
+];
+
+#[test]
+fn words_that_no_line_has_are_refused(rt: HostRuntime) {
+    for words in &ODD {
+        assert!(rt; end_of(rt.alloc(), words) == Ending::Refused, "{words:?}");
     }
-    assert!(rt; end_of(alloc, &[]) == Ending::Refused, "no word");
-    assert!(rt;
-        end_of(alloc, &["show"]) == Ending::Refused,
-        "no name of a program"
-    );
-    assert!(rt;
-        end_of(alloc, &["gob", ""]) == Ending::Refused,
-        "an empty command"
-    );
-    let end = end_of(alloc, &["gob", "show", "--depth", ""]);
-    assert!(rt; end == Ending::Refused, "an empty depth");
-    let end = end_of(alloc, &["gob", "show", "--depth", "5 "]);
-    assert!(rt; end == Ending::Refused, "a depth with a space");
-    Ok(())
 }
 
 #[test]
-fn other_words_are_taken(rt: HostRuntime) -> Result<(), Fail> {
-    let alloc = rt.alloc();
-    for line in ALLOWED.split('\n') {
-        let end = end_of_line(alloc, line, &["a"])?;
-        assert!(rt; end == Ending::Order, "{line}");
-    }
-    for line in HELPS.split('\n') {
-        let end = end_of_line(alloc, line, &[])?;
-        assert!(rt; end == Ending::Help, "{line}");
-    }
-    Ok(())
+fn other_words_are_taken(rt: HostRuntime) {
+    let otherwise = otherwise_ended(rt.alloc(), ALLOWED, Ending::Order);
+    assert!(rt; otherwise.is_none(), "{otherwise:?}");
+    let otherwise = otherwise_ended(rt.alloc(), HELPS, Ending::Help);
+    assert!(rt; otherwise.is_none(), "{otherwise:?}");
 }

@@ -2,7 +2,7 @@
 use Rattle.std.proofs.Common.{◌∙◌, ap, subst}
 use Rattle.std.specs.Io.Buffered.{writer_contents}
 use Rattle.gob_stream.specs.Calls.Ends.{reader_of, writer_of}
-use Rattle.gob_views.specs.Running.{ViewAnswers, view_explained, view_limits, view_style}
+use Rattle.gob_views.specs.Running.{ViewAnswers}
 use Rattle.gob.proofs.show_out.Goals as goal
 
 pub returns : goal.returns
@@ -20,9 +20,9 @@ returns g c = λ bytes known.
       tells = settled.tells;
       answered = settled.answered;
       now = now;
-      does = subst (λ n. ViewAnswers view.command (view_limits view) (view_style view) (view_explained view) bytes now
+      does = subst (λ n. ViewAnswers view bytes now
           (writer_contents (λ pipe. g.W.Write.contents pipe.writer) c.args.writer) n run.result) settled.all
-          (subst (λ w. ViewAnswers view.command (view_limits view) (view_style view) (view_explained view) bytes now
+          (subst (λ w. ViewAnswers view bytes now
           (writer_contents (λ pipe. g.W.Write.contents pipe.writer) w)
           (writer_contents (λ pipe. g.W.Write.contents pipe.writer) left) run.result) c.new-output.ensures.writer
           shows);

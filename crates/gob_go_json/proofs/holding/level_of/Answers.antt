@@ -4,6 +4,7 @@ use Rattle.gob_value.specs.Tree.{Tree}
 use Rattle.gob_value.specs.Top.{SpellsTop}
 use Rattle.gob_tape.specs.Meaning.{Means}
 use Rattle.gob_go_json.specs.Machine.Holding.{GapsShow}
+use Rattle.gob_go_json.proofs.GapsLaws.{gaps_show}
 use Rattle.gob_go_json.proofs.LevelLaws.{level_at}
 use Rattle.gob_go_json.proofs.holding.level_of.Goals as goal
 
@@ -15,7 +16,7 @@ returns c =
             let read = level_at c.deref-2.ensures.value c.deref-3.ensures.value
             (subst (λ b. (v : Tree) → SpellsTop T c.args.id v b → Means c.in_ok-tape.tape v)
             (c.deref.ensures.value ∙ sym c.deref-2.ensures.value) c.in_ok-tape.ensures)
-            c.in_ok-gaps.ensures f s in (
+            (λ fs M a shows. gaps_show c.in_ok-gaps.ensures a shows) f s in (
               read.0,
               record {
                 table = refl;

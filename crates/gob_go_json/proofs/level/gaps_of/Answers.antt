@@ -7,8 +7,8 @@ use Rattle.gob_read.proofs.PublicLaws.{usable}
 use Rattle.gob_read.specs.Calls.Builders.{check_building}
 use Rattle.gob_read.specs.Calls.UnderWay.{HasReadBody}
 use Rattle.gob_go.specs.declared.filled.Filling.{Filling, out-Filling}
-use Rattle.gob_go_json.specs.Machine.Holding.{GapsShow}
-use Rattle.gob_go_json.proofs.GapsLaws.{GapsLeft, gaps_on, gaps_end}
+use Rattle.gob_go_json.specs.Gaps.{AreGaps}
+use Rattle.gob_go_json.proofs.GapsLaws.{GapsSoFar, gaps_on, gaps_end}
 use Rattle.gob_go_json.proofs.level.gaps_of.Goals as goal
 
 joined : (i k : ℕ) (xs : List ℕ) → i ≤ length xs → take i xs ++ take k (drop i xs) ≡ take (i + k) xs
@@ -24,17 +24,16 @@ joined_to i j xs h l =
 pub push-requires : goal.push-requires
 push-requires c = usable (record { limit = _; announced = _; bytes = _; after = c.loop-filling.invariant.read })
 
+-- a difference that is a number
+parted : {a b c : ℕ} → (b ≤ a) × (c ≡ a - b) → a ≡ b + c
+parted h = let l = h.0 in let e = h.1 in omega arith
+
 pub loop-filling-init : goal.loop-filling-init
 loop-filling-init c = record {
   read = c.in_ok-reader.ensures (types c.args.table.now) c.requires;
   within = omega arith;
-  left = λ fs N a s. record {
-    fillings = fs;
-    are = a;
-    show = s;
-    back = λ gs g. subst (λ l. GapsShow (types c.args.table.now) 0 c.args.fillings.now (l ++ gs) N)
-        (sym c.new-gaps.ensures.items) g;
-  };
+  gaps = λ gs g. subst (λ l. AreGaps (types c.args.table.now) c.args.id c.args.skeleton.now 0 c.args.fillings.now
+      (l ++ gs)) (sym c.new-gaps.ensures.items) g;
 }
 
 pub loop-filling-preserved : goal.loop-filling-preserved
@@ -58,20 +57,15 @@ loop-filling-preserved c =
     ∙ ap (λ k. k ∷ drop (index + 1) fillings) (sym c.filling-item.is) in record {
       read = read;
       within = c.if-place-skeleton.false;
-      left = λ fs N a s.
-          let left = subst (λ r. GapsLeft T id b from c.loop-filling.number r fillings c.loop-filling.gaps.items N) rest
-          (i.left fs N a s) in
-          let all = c.in_ok-push.ensures.items
-          ∙ ap (λ g. c.loop-filling.gaps.items ++ g ∷ []) c.saturating_sub.ensures in
-          subst (λ g. GapsLeft T id b place c.in-Some.behind (drop (index + 1) fillings) fillings g N) (sym all)
-          (subst (λ n. GapsLeft T id b place n (drop (index + 1) fillings) fillings
-          (c.loop-filling.gaps.items ++ (c.held-begun.result - c.loop-filling.number) ∷ []) N)
-          (sym c.in-Some.ensures.1) (gaps_on left held));
+      gaps = gaps_on c.in-Some.gap c.loop-filling.gaps.items
+          (subst (λ r. GapsSoFar T id b c.loop-filling.number r fillings c.loop-filling.gaps.items) rest
+          i.gaps) held (parted c.in-Some.ensures) c.in-Some-checked_add.ensures.1
+          c.in_ok-push.ensures.items;
     }
 
 pub returns : goal.returns
-returns c = λ fs N a s.
+returns c =
     let T = types c.args.table.now in
     let l = c.loop-filling in
-    gaps_end (subst (λ r. GapsLeft T c.args.id c.args.skeleton.now l.from l.number r c.args.fillings.now l.gaps.items N)
-    (drop_all l.filling-index c.args.fillings.now c.loop-filling-test.false) (l.invariant.left fs N a s))
+    gaps_end (subst (λ r. GapsSoFar T c.args.id c.args.skeleton.now l.number r c.args.fillings.now l.gaps.items)
+    (drop_all l.filling-index c.args.fillings.now c.loop-filling-test.false) l.invariant.gaps)

@@ -1,11 +1,11 @@
--- What fills the nils so far, with what fills the rest, fills all.
+-- What fills the nils of the fillings so far, with what fills those of the rest, fills those of all.
+use Rattle.std.proofs.Common.{drop}
 use Rattle.gob_types.specs.Defined.{types}
-use Rattle.gob_plain.specs.Fillers.{AreFillers}
-use Rattle.gob_go_plain.proofs.HoldingLaws.{SayWithRest}
+use Rattle.gob_go.specs.declared.filled.Filled.{out-Filled}
+use Rattle.gob_go_plain.proofs.FilledLaws.{SayWithRest}
 use Rattle.gob_go_plain.proofs.text.+text.Given as goal
 
-abbrev pub invariant-fillers_of-loop-one : goal.invariant-fillers_of-loop-one
-invariant-fillers_of-loop-one l = record {
-  say : SayWithRest l.tagged l.style (types l.table) l.held.items l.one-index l.fillers.items;
-  json : AreFillers l.fillers.items;
-}
+abbrev pub invariant-fillers_of-loop-filling : goal.invariant-fillers_of-loop-filling
+invariant-fillers_of-loop-filling l =
+    SayWithRest l.tagged l.style (types l.table) (drop l.filling-index (out-Filled l.value).fillings.items)
+    (out-Filled l.value).fillings.items l.fillers.items

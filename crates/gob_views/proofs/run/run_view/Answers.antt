@@ -1,20 +1,16 @@
 -- A view allows no deeper values than the run of its command takes.
-use Rattle.std.proofs.Common.{◌≡◌, ◌≤◌, ap, sym, subst, min, arith}
+use Rattle.std.proofs.Common.{◌≡◌, ap, sym, subst, min, arith}
 use Rattle.gob_stream.specs.Calls.Ends.{failed_writes, reader_of, writer_of}
-use Rattle.gob_stream.specs.Bounds.{no_deeper}
-use Rattle.gob_words.specs.ViewDepths.{most_view_depth}
+use Rattle.gob_stream.specs.Bounds.{greatest_depth, within_trees}
 use Rattle.gob_words.specs.declared.view.View.{View}
-use Rattle.gob_words.specs.declared.view.ViewCommand.{ViewCommand}
-use Rattle.gob_views.specs.Running.{ViewAnswers, version_line, view_explained, view_limits, view_style}
+use Rattle.gob_views.specs.Running.{CommandAnswers, version_line, view_limits}
 use Rattle.gob_views.proofs.SendLaws.{sends_ended}
 use Rattle.gob_views.proofs.run.run_view.Goals as goal
 
 -- a reader that takes what the command allows keeps to the view's limits
-within_view : (view : View) (command : ViewCommand) → view.command ≡ command
-    → no_deeper (most_view_depth command) (view_limits view) ≡ view_limits view
-within_view view command e =
-    let within = subst (λ x. view.depth ≤ most_view_depth x) e view.most in
-    let least : min view.depth (most_view_depth command) ≡ view.depth = omega (arith, within) in
+within_view : (view : View) → within_trees (view_limits view) ≡ view_limits view
+within_view view =
+    let least : min view.depth greatest_depth ≡ view.depth = omega (arith, view.most) in
     ap (λ depth. record (view_limits view) { depth = depth }) least
 
 pub returns-in-Values-clause-shows : goal.returns-in-Values-clause-shows
@@ -23,12 +19,9 @@ returns-in-Values-clause-shows g c = λ bytes known.
     let new = g.W.Write.contents (writer_of c.run_values.new.output) in
     let next = g.R.Read.remaining (reader_of c.run_values.new.input) in
     let view = c.args.view.now in
-    let printed = rw (c.limits_of.ensures, within_view view _ c.in-Values.is, c.style_of.ensures) at
+    let printed = rw (c.limits_of.ensures, within_view view, c.style_of.ensures) at
     c.run_values.ensures.printed in
-    subst (λ x. ViewAnswers x (view_limits view) (view_style view) (view_explained view) bytes next old new
-    c.run_values.result)
-    (sym c.in-Values.is)
-    (printed bytes known)
+    subst (λ x. CommandAnswers x view bytes next old new c.run_values.result) (sym c.in-Values.is) (printed bytes known)
 
 pub returns-in-Types-clause-shows : goal.returns-in-Types-clause-shows
 returns-in-Types-clause-shows g c = λ bytes known.
@@ -36,11 +29,9 @@ returns-in-Types-clause-shows g c = λ bytes known.
     let new = g.W.Write.contents (writer_of c.run_types.new.output) in
     let next = g.R.Read.remaining (reader_of c.run_types.new.input) in
     let view = c.args.view.now in
-    let written = rw (c.limits_of-in-Types.ensures, within_view view _ c.in-Types.is) at c.run_types.ensures.written in
-    subst (λ x. ViewAnswers x (view_limits view) (view_style view) (view_explained view) bytes next old new
-    c.run_types.result)
-    (sym c.in-Types.is)
-    (written bytes known)
+    let written = rw (c.limits_of-in-Types.ensures, within_view view) at
+    c.run_types.ensures.written in
+    subst (λ x. CommandAnswers x view bytes next old new c.run_types.result) (sym c.in-Types.is) (written bytes known)
 
 pub returns-in-Why-clause-shows : goal.returns-in-Why-clause-shows
 returns-in-Why-clause-shows g c = λ bytes known.
@@ -48,11 +39,8 @@ returns-in-Why-clause-shows g c = λ bytes known.
     let new = g.W.Write.contents (writer_of c.run_why.new.output) in
     let next = g.R.Read.remaining (reader_of c.run_why.new.input) in
     let view = c.args.view.now in
-    let told = rw (c.limits_of-in-Why.ensures, within_view view _ c.in-Why.is) at c.run_why.ensures.told in
-    subst (λ x. ViewAnswers x (view_limits view) (view_style view) (view_explained view) bytes next old new
-    c.run_why.result)
-    (sym c.in-Why.is)
-    (told bytes known)
+    let told = rw (c.limits_of-in-Why.ensures, within_view view) at c.run_why.ensures.told in
+    subst (λ x. CommandAnswers x view bytes next old new c.run_why.result) (sym c.in-Why.is) (told bytes known)
 
 pub returns-in-CheckGo-clause-shows : goal.returns-in-CheckGo-clause-shows
 returns-in-CheckGo-clause-shows g c = λ bytes known.
@@ -60,11 +48,8 @@ returns-in-CheckGo-clause-shows g c = λ bytes known.
     let new = g.W.Write.contents (writer_of c.run_check_go.new.output) in
     let next = g.R.Read.remaining (reader_of c.run_check_go.new.input) in
     let view = c.args.view.now in
-    let checked = rw (c.limits_of-in-CheckGo.ensures, within_view view _ c.in-CheckGo.is) at
-    c.run_check_go.ensures.checked in
-    subst (λ x. ViewAnswers x (view_limits view) (view_style view) (view_explained view) bytes next old new
-    c.run_check_go.result)
-    (sym c.in-CheckGo.is)
+    let checked = rw (c.limits_of-in-CheckGo.ensures, within_view view) at c.run_check_go.ensures.checked in
+    subst (λ x. CommandAnswers x view bytes next old new c.run_check_go.result) (sym c.in-CheckGo.is)
     (checked bytes known)
 
 pub returns-in-ShowGo-clause-shows : goal.returns-in-ShowGo-clause-shows
@@ -73,12 +58,20 @@ returns-in-ShowGo-clause-shows g c = λ bytes known.
     let new = g.W.Write.contents (writer_of c.run_show_go.new.output) in
     let next = g.R.Read.remaining (reader_of c.run_show_go.new.input) in
     let view = c.args.view.now in
-    let shown = rw (c.limits_of-in-ShowGo.ensures, within_view view _ c.in-ShowGo.is) at
+    let shown = rw (c.limits_of-in-ShowGo.ensures, within_view view) at
     c.run_show_go.ensures.shown in
-    subst (λ x. ViewAnswers x (view_limits view) (view_style view) (view_explained view) bytes next old new
-    c.run_show_go.result)
-    (sym c.in-ShowGo.is)
-    (shown bytes known)
+    subst (λ x. CommandAnswers x view bytes next old new c.run_show_go.result) (sym c.in-ShowGo.is) (shown bytes known)
+
+pub returns-in-RewriteGo-clause-shows : goal.returns-in-RewriteGo-clause-shows
+returns-in-RewriteGo-clause-shows g c = λ bytes known.
+    let old = g.W.Write.contents (writer_of c.args.output.now) in
+    let new = g.W.Write.contents (writer_of c.run_rewrite_go.new.output) in
+    let next = g.R.Read.remaining (reader_of c.run_rewrite_go.new.input) in
+    let view = c.args.view.now in
+    let rewritten = rw (c.limits_of-in-RewriteGo.ensures, within_view view) at
+    c.run_rewrite_go.ensures.rewritten in
+    subst (λ x. CommandAnswers x view bytes next old new c.run_rewrite_go.result) (sym c.in-RewriteGo.is)
+    (rewritten bytes known)
 
 pub returns-in-Version-clause-shows : goal.returns-in-Version-clause-shows
 returns-in-Version-clause-shows g c = λ bytes known.
@@ -86,8 +79,7 @@ returns-in-Version-clause-shows g c = λ bytes known.
     let mid = g.W.Write.contents (writer_of c.write_version.new.output) in
     let new = g.W.Write.contents (writer_of c.end_run.new.output) in
     let view = c.args.view.now in
-    subst (λ x. ViewAnswers x (view_limits view) (view_style view) (view_explained view) bytes (g.R.Read.remaining
-    (reader_of c.args.input.now)) old new
+    subst (λ x. CommandAnswers x view bytes (g.R.Read.remaining (reader_of c.args.input.now)) old new
     c.end_run.result) (sym c.in-Version.is)
     (sends_ended old mid new version_line c.write_version.result c.end_run.result c.end_run.ensures.bytes
     c.end_run.ensures.ends c.write_version.ensures.sent)
@@ -102,9 +94,7 @@ returns-in-Explain-clause-shows g c = λ bytes known.
     let new = g.W.Write.contents (writer_of c.run_explain.new.output) in
     let next = g.R.Read.remaining (reader_of c.run_explain.new.input) in
     let view = c.args.view.now in
-    let explained = rw (c.limits_of-in-Explain.ensures, within_view view _ c.in-Explain.is, c.explained_of.ensures) at
+    let explained = rw (c.limits_of-in-Explain.ensures, within_view view, c.explained_of.ensures) at
     c.run_explain.ensures.explained in
-    subst (λ x. ViewAnswers x (view_limits view) (view_style view) (view_explained view) bytes next old new
-    c.run_explain.result)
-    (sym c.in-Explain.is)
+    subst (λ x. CommandAnswers x view bytes next old new c.run_explain.result) (sym c.in-Explain.is)
     (explained bytes known)

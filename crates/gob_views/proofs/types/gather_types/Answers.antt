@@ -1,11 +1,10 @@
 -- From turn to turn the ids are those of what was read, and each end is that of the stream.
 use Rattle.std.proofs.Common.{Bool, ◌∙◌, arith, refl}
-use Rattle.gob_read.specs.Calls.Builders.{skip_building}
-use Rattle.gob_stream.specs.Calls.Session.{taken_of}
 use Rattle.gob_stream.specs.Calls.Ends.{reader_of}
-use Rattle.gob_stream.specs.Calls.Reader.{session_of}
-use Rattle.gob_stream.proofs.PublicLaws.{goes_on, has_ended}
-use Rattle.gob_views.proofs.KeepLaws.{reads_fall}
+use Rattle.gob_go.specs.Calls.Reader.{session_of}
+use Rattle.gob_go.specs.Calls.Session.{taken_of}
+use Rattle.gob_go.proofs.GoReaderLaws.{goes_on, has_ended}
+use Rattle.gob_go_tool.proofs.TextLaws.{texts_fall}
 use Rattle.gob_views.proofs.TypeRuns.{all_at, counts_at, counts_unread, gathers_filled, gathers_first, gathers_stopped}
 use Rattle.gob_views.proofs.TypeRuns.{gathers_whole}
 use Rattle.gob_views.proofs.types.gather_types.Goals as goal
@@ -20,8 +19,8 @@ returns-in_err-more-clause-gathered g c =
     let read = g.R.Read.remaining (reader_of c.args.input.now) in
     let next = g.R.Read.remaining (reader_of c.more.new.input) in
     all_at c.more.new.self read next _ c.from_residual.result e c.from_residual.ensures.1
-    (gathers_stopped c.more.new.self next e s c.in_err-more.ensures.limits c.in_err-more.ensures.types
-    (c.in_err-more.ensures.filled read s.given s.has))
+    (gathers_stopped Bool c.more.new.self next e s.has.gave.table s c.in_err-more.ensures.limits
+    (c.in_err-more.ensures.filled read s.given s.has) (c.in_err-more.ensures.refused read s.given s.has))
 
 pub returns-in_err-more-clause-counted : goal.returns-in_err-more-clause-counted
 returns-in_err-more-clause-counted g c =
@@ -34,7 +33,7 @@ returns-in_err-gather_next-clause-gathered g c =
     let e = c.in_err-gather_next.field-0.0 in
     let read = g.R.Read.remaining (reader_of c.args.input.now) in
     let next = g.R.Read.remaining (reader_of c.more.new.input) in
-    let on = goes_on skip_building (session_of c.items.reader) c.more.new.self read next s.given c.in_ok-more.field-0
+    let on = goes_on (session_of c.items.reader) s.has.gave.table c.more.new.self read next s.given c.in_ok-more.field-0
     c.if-branch.true (c.in_ok-more.ensures.filled read s.given s.has) in
     all_at c.gather_next.new.reader read next _ c.from_residual-in_err-gather_next.result e
     c.from_residual-in_err-gather_next.ensures.1
@@ -51,10 +50,10 @@ items-smaller g c =
     let s = c.items.invariant.2 in
     let read = g.R.Read.remaining (reader_of c.args.input.now) in
     let next = g.R.Read.remaining (reader_of c.more.new.input) in
-    let on = goes_on skip_building (session_of c.items.reader) c.more.new.self read next s.given c.in_ok-more.field-0
+    let on = goes_on (session_of c.items.reader) s.has.gave.table c.more.new.self read next s.given c.in_ok-more.field-0
     c.if-branch.true (c.in_ok-more.ensures.filled read s.given s.has) in
     let gathered = c.in_ok-gather_next.ensures.gathered read next (gathers_filled s on.0) in
-    reads_fall skip_building c.items.reader (taken_of (session_of c.items.reader))
+    texts_fall c.items.reader (taken_of (session_of c.items.reader))
     (c.in_ok-gather_next.ensures.limits ∙ c.in_ok-more.ensures.limits) gathered.0.has (omega (arith, on.1, gathered.1))
 
 pub items-preserved : goal.items-preserved
@@ -63,7 +62,7 @@ items-preserved g c =
     let s = i.2 in
     let read = g.R.Read.remaining (reader_of c.args.input.now) in
     let next = g.R.Read.remaining (reader_of c.more.new.input) in
-    let on = goes_on skip_building (session_of c.items.reader) c.more.new.self read next s.given c.in_ok-more.field-0
+    let on = goes_on (session_of c.items.reader) s.has.gave.table c.more.new.self read next s.given c.in_ok-more.field-0
     c.if-branch.true (c.in_ok-more.ensures.filled read s.given s.has) in (
       c.in_ok-gather_next.ensures.limits ∙ c.in_ok-more.ensures.limits ∙ i.0,
       c.in_ok-more.ensures.counted ∙ i.1,
@@ -75,7 +74,7 @@ returns-clause-gathered g c = λ bytes known.
     let s = c.items.invariant.2 in
     let read = g.R.Read.remaining (reader_of c.args.input.now) in
     let next = g.R.Read.remaining (reader_of c.more.new.input) in
-    let end = has_ended skip_building (session_of c.items.reader) c.more.new.self read next s.given
+    let end = has_ended (session_of c.items.reader) s.has.gave.table c.more.new.self read next s.given
     c.in_ok-more.field-0 c.if-branch.false (c.in_ok-more.ensures.filled read s.given s.has) in
     gathers_whole c.more.new.self next s c.in_ok-more.ensures.limits end.1 (end.0 bytes known)
 

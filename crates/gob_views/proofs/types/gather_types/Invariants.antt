@@ -1,8 +1,8 @@
 -- The ids of the types that were read are gathered.
 use Rattle.std.proofs.Common.{◌≡◌, ◌+◌, ◌-◌}
-use Rattle.gob_stream.specs.Calls.Session.{limits_of, taken_of}
+use Rattle.gob_go.specs.Calls.Session.{limits_of, taken_of}
 use Rattle.gob_stream.specs.Calls.Ends.{failed_reads, reader_of}
-use Rattle.gob_stream.specs.Calls.Reader.{session_of}
+use Rattle.gob_go.specs.Calls.Reader.{session_of}
 use Rattle.gob_views.specs.Machine.Gathered.{GathersSo}
 use Rattle.gob_views.proofs.types.gather_types.Given as goal
 

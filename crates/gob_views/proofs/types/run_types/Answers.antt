@@ -1,11 +1,11 @@
-use Rattle.gob_stream.specs.Bounds.{deepest, no_deeper}
+use Rattle.gob_stream.specs.Bounds.{within_trees}
 use Rattle.gob_stream.specs.Calls.Ends.{failed_writes, reader_of, writer_of}
 use Rattle.gob_views.proofs.TypeRuns.{types_ended}
 use Rattle.gob_views.proofs.types.run_types.Goals as goal
 
 pub returns-clause-written : goal.returns-clause-written
 returns-clause-written g c = λ bytes known.
-    types_ended (no_deeper deepest c.args.limits) bytes (g.R.Read.remaining (reader_of c.write_types.new.input))
+    types_ended (within_trees c.args.limits) bytes (g.R.Read.remaining (reader_of c.write_types.new.input))
     (g.W.Write.contents (writer_of c.args.output.now)) (g.W.Write.contents (writer_of c.write_types.new.output))
     (g.W.Write.contents (writer_of c.end_run.new.output)) c.write_types.result c.end_run.result c.end_run.ensures.bytes
     c.end_run.ensures.ends (c.write_types.ensures.written bytes known)

@@ -3,7 +3,7 @@ use Rattle.std.proofs.Common.{◌∙◌, ap₂}
 use Rattle.std.proofs.KnownBytes.{Appends-nil}
 use Rattle.gob_types.specs.Defined.{types}
 use Rattle.gob_source.specs.Source.{go_source}
-use Rattle.gob_stream.specs.Bounds.{deepest, no_deeper}
+use Rattle.gob_stream.specs.Bounds.{within_trees}
 use Rattle.gob_stream.specs.Calls.Ends.{reader_of, writer_of}
 use Rattle.gob_tool.specs.declared.fault.ToolFault.TheVariants as fault
 use Rattle.gob_tool.proofs.EndLaws.{at_error}
@@ -15,7 +15,7 @@ pub returns-in_err-reader-clause-written : goal.returns-in_err-reader-clause-wri
 returns-in_err-reader-clause-written g c = λ bytes known.
     let out = g.W.Write.contents (writer_of c.args.output.now) in
     let now = g.R.Read.remaining (reader_of c.args.input.now) in
-    at_error (λ r. TypesAnswers (no_deeper deepest c.args.limits) bytes now out out r) c.from_residual.result
+    at_error (λ r. TypesAnswers (within_trees c.args.limits) bytes now out out r) c.from_residual.result
     fault.Memory c.from_residual.ensures.1 (Appends-nil out)
 
 pub returns-in-Ok-clause-written : goal.returns-in-Ok-clause-written
@@ -37,7 +37,7 @@ returns-in_err-send_source-in-Err-Refused-clause-written g c = λ bytes known.
     let now = g.R.Read.remaining (reader_of c.gather_types.new.input) in
     let r = c.gather_types.new.reader in
     let f = c.in_err-send_source-in-Err-Refused.field-0.0 in
-    at_error (λ res. TypesAnswers (no_deeper deepest c.args.limits) bytes now old new res)
+    at_error (λ res. TypesAnswers (within_trees c.args.limits) bytes now old new res)
     c.from_residual-in_err-send_source-in-Err-Refused.result f
     c.from_residual-in_err-send_source-in-Err-Refused.ensures.1
     (refused_unsent c.args.limits r bytes now old new c.gather_types.new.ids.items

@@ -9,7 +9,7 @@ use Rattle.gob_read.proofs.PublicLaws.{usable}
 use Rattle.gob_stream.specs.Bounds.{deepest}
 use Rattle.gob_tape.specs.Flat.{Flat}
 use Rattle.gob_tape.specs.Meaning.{Means}
-use Rattle.gob_views.specs.Machine.Lines.{IsTapeOf}
+use Rattle.gob_views.specs.Machine.Tapes.{IsTapeOf}
 use Rattle.gob_views.proofs.values.tape_of.Goals as goal
 
 -- a tape that is made of as many bytes as the body has is made of the body

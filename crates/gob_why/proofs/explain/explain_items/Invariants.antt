@@ -1,7 +1,6 @@
 -- All that was taken is explained, and the text went out.
-use Rattle.std.proofs.Common.{◌≡◌, ◌+◌, ◌-◌, [], List, ℕ, vec_len, string_bytes}
+use Rattle.std.proofs.Common.{◌≡◌, ◌+◌, ◌-◌, [], vec_len, string_bytes}
 use Rattle.gob_stream.specs.Calls.Ends.{failed_reads, failed_writes, reader_of, writer_of}
-use Rattle.gob_tool.specs.Machine.Tallying.{HasTallied}
 use Rattle.gob_why.specs.Machine.Keeping.{ExplainsSo}
 use Rattle.gob_why.proofs.explain.explain_items.Given as goal
 
@@ -13,8 +12,7 @@ invariant-pieces g l =
     × (vec_len l.piece ≡ 65536)
     × (string_bytes l.kept.lines ≡ [])
     × (l.kept.explained ≡ l.fn.kept.explained)
-    × ((bytes : List ℕ) × HasTallied l.session l.items bytes)
-    × ExplainsSo l.kept.explained l.session (g.R.Read.remaining (reader_of l.fn.input))
+    × ExplainsSo l.kept.explained l.session l.items (g.R.Read.remaining (reader_of l.fn.input))
     (g.R.Read.remaining (reader_of l.input)) (g.W.Write.contents (writer_of l.fn.output))
     (g.W.Write.contents (writer_of l.output)) l.kept.item.items l.kept.begin
 

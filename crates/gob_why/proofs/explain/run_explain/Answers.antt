@@ -1,11 +1,11 @@
-use Rattle.gob_stream.specs.Bounds.{deepest, no_deeper}
+use Rattle.gob_stream.specs.Bounds.{within_trees}
 use Rattle.gob_stream.specs.Calls.Ends.{failed_writes, reader_of, writer_of}
 use Rattle.gob_why.proofs.ExplainLaws.{explain_ended}
 use Rattle.gob_why.proofs.explain.run_explain.Goals as goal
 
 pub returns-clause-explained : goal.returns-clause-explained
 returns-clause-explained g c = λ bytes known.
-    explain_ended c.args.which (no_deeper deepest c.args.limits) bytes
+    explain_ended c.args.which (within_trees c.args.limits) bytes
     (g.R.Read.remaining (reader_of c.explain_stream.new.input)) (g.W.Write.contents (writer_of c.args.output.now))
     (g.W.Write.contents (writer_of c.explain_stream.new.output)) (g.W.Write.contents (writer_of c.end_run.new.output))
     c.explain_stream.result c.end_run.result c.end_run.ensures.bytes c.end_run.ensures.ends

@@ -1,5 +1,5 @@
 -- The program with the exact commands, one after another.
-use Rattle.std.proofs.Common.{◌∙◌, ap, ap₂, refl, true}
+use Rattle.std.proofs.Common.{◌∙◌, ap, ap₂, true}
 use Rattle.std.proofs.lemmas.Result.{IfOk-weaker}
 use Rattle.clap.specs.Words.{App, with_subcommand}
 use Rattle.clap.specs.Simple.{app_of_fields}
@@ -17,6 +17,7 @@ returns c =
     ∙ ap₂ with_subcommand bare (ap (λ (x : App). x.top) c.in_ok-go_stream.ensures.app) in
     let check = c.in_ok-checking.ensures.shape c.in_ok-go_stream-2.ensures.local
     ∙ ap₂ with_subcommand show (ap (λ (x : App). x.top) c.in_ok-go_stream-2.ensures.app) in
-    let rewrite = c.in_ok-rewriting.ensures ∙ ap₂ with_subcommand check refl in
-    IfOk-weaker c.subcommand-3.result _ _ (λ r added. added.shape c.in_ok-two_streams.ensures.local
-    ∙ ap₂ with_subcommand rewrite (ap (λ (x : App). x.top) c.in_ok-two_streams.ensures.app)) c.subcommand-3.ensures
+    let rewrite = c.in_ok-rewriting.ensures.shape c.in_ok-rewrite.ensures.local
+    ∙ ap₂ with_subcommand check (ap (λ (x : App). x.top) c.in_ok-rewrite.ensures.app) in
+    IfOk-weaker c.subcommand-4.result _ _ (λ r added. added.shape c.in_ok-two_streams.ensures.local
+    ∙ ap₂ with_subcommand rewrite (ap (λ (x : App). x.top) c.in_ok-two_streams.ensures.app)) c.subcommand-4.ensures

@@ -2,11 +2,11 @@
 use Rattle.std.proofs.Common.{◌∙◌, sym, subst, codes, arith}
 use Rattle.clap.specs.Words.{found_of, rows_of, subcommand_rows_of}
 use Rattle.clap.proofs.WalkLemmas.{first_value-rows}
-use Rattle.gob_words.specs.Views.{IsAskedFor, IsPlaceOf}
+use Rattle.gob_words.specs.Views.{IsPlaceOf}
 use Rattle.gob_words.proofs.WordLaws.{one_number, writes_alike}
-use Rattle.gob_words.proofs.ViewLaws.{view_meets, views_together}
+use Rattle.gob_words.proofs.ViewLaws.{asked_alike, view_meets, views_together}
 use Rattle.gob_words.proofs.views.view_in.Goals.{then-depth-lt1-via-then-depth-lt1}
-use Rattle.gob_words.proofs.views.view_in.Goals.{then-depth-lt1-via-else-depth-lt1+then-depth-most_depth}
+use Rattle.gob_words.proofs.views.view_in.Goals.{then-depth-lt1-via-else-depth-lt1+then-depth-gt-GREATEST_DEPTH}
 use Rattle.gob_words.proofs.views.view_in.Goals as goal
 
 pub returns-then-not-is_asked : goal.returns-then-not-is_asked
@@ -16,14 +16,15 @@ returns-then-not-is_asked c = λ view h.
     c.in_ok-command.ensures in
     let word = c.get_str.ensures ∙ first_value-rows f (codes "go") in
     let given = view_meets (subcommand_rows_of c.args.matches.now) c.in_ok-command.command (rows_of f) view met h in
-    c.if-not-is_asked.ensures (subst (λ w. IsAskedFor c.in_ok-command.command w) (sym word) given.asked)
+    let hoist = c.get_str-2.ensures ∙ first_value-rows f (codes "hoist") in
+    c.if-not-is_asked.ensures (asked_alike _ _ _ _ _ (sym word) (sym hoist) given.asked)
 
 pub returns-in_err-depth : goal.returns-in_err-depth
 returns-in_err-depth c =
     let f = found_of c.in_ok-name.matches.now in
     let met = views_together _ _ _ _ _ _ c.in_ok-name.ensures.name c.in_ok-name.ensures.rows
     c.in_ok-command.ensures in
-    let word = c.get_str-2.ensures ∙ first_value-rows f (codes "depth") in
+    let word = c.get_str-3.ensures ∙ first_value-rows f (codes "depth") in
     rw c.from_residual-in_err-depth.ensures (λ view h.
     let given = view_meets (subcommand_rows_of c.args.matches.now) c.in_ok-command.command (rows_of f) view met h in
     c.in_err-depth.ensures view.depth (writes_alike _ _ _ _ (sym word) given.depth))
@@ -33,7 +34,7 @@ returns-in_err-item c =
     let f = found_of c.in_ok-name.matches.now in
     let met = views_together _ _ _ _ _ _ c.in_ok-name.ensures.name c.in_ok-name.ensures.rows
     c.in_ok-command.ensures in
-    let word = c.get_str-3.ensures ∙ first_value-rows f (codes "item") in
+    let word = c.get_str-4.ensures ∙ first_value-rows f (codes "item") in
     rw c.from_residual-in_err-item.ensures (λ view h.
     let given = view_meets (subcommand_rows_of c.args.matches.now) c.in_ok-command.command (rows_of f) view met h in
     c.in_err-item.ensures view.item (writes_alike _ _ _ _ (sym word) given.item))
@@ -43,7 +44,7 @@ returns-in_err-at c =
     let f = found_of c.in_ok-name.matches.now in
     let met = views_together _ _ _ _ _ _ c.in_ok-name.ensures.name c.in_ok-name.ensures.rows
     c.in_ok-command.ensures in
-    let word = c.get_str-4.ensures ∙ first_value-rows f (codes "at") in
+    let word = c.get_str-5.ensures ∙ first_value-rows f (codes "at") in
     rw c.from_residual-in_err-at.ensures (λ view h.
     let given = view_meets (subcommand_rows_of c.args.matches.now) c.in_ok-command.command (rows_of f) view met h in
     c.in_err-at.ensures view.at (subst (λ w. IsPlaceOf c.in_ok-command.command w view.at) (sym word) given.at))
@@ -53,13 +54,13 @@ returns-then-depth-lt1 c = λ view h.
     let f = found_of c.in_ok-name.matches.now in
     let met = views_together _ _ _ _ _ _ c.in_ok-name.ensures.name c.in_ok-name.ensures.rows
     c.in_ok-command.ensures in
-    let word = c.get_str-2.ensures ∙ first_value-rows f (codes "depth") in
+    let word = c.get_str-3.ensures ∙ first_value-rows f (codes "depth") in
     let given = view_meets (subcommand_rows_of c.args.matches.now) c.in_ok-command.command (rows_of f) view met h in
     let depth = one_number _ _ _ _ given.depth (writes_alike _ _ _ _ word c.in_ok-depth.ensures) in
     elim c.then-depth-lt1.branch [
       | then-depth-lt1-via-then-depth-lt1 w ↦ absurd (omega (arith, depth, given.least, w.if-depth-lt1.true))
-      | then-depth-lt1-via-else-depth-lt1+then-depth-most_depth w ↦
-          absurd (omega (arith, depth, given.most, w.most_depth.ensures, w.if-depth-most_depth.true))
+      | then-depth-lt1-via-else-depth-lt1+then-depth-gt-GREATEST_DEPTH w ↦
+          absurd (omega (arith, depth, given.most, w.if-depth-gt-GREATEST_DEPTH.true))
     ]
 
 pub returns : goal.returns
@@ -69,15 +70,17 @@ returns c =
       rows = rows_of f;
       command = views_together _ _ _ _ _ _ c.in_ok-name.ensures.name c.in_ok-name.ensures.rows
           c.in_ok-command.ensures;
-      asked = subst (λ w. IsAskedFor c.in_ok-command.command w) (c.get_str.ensures
-          ∙ first_value-rows f (codes "go")) c.if-not-is_asked.ensures;
-      input = rw (← c.get_str-5.ensures ∙ first_value-rows f (codes "IN")) c.file_of.ensures;
-      depth = writes_alike _ _ _ _ (c.get_str-2.ensures ∙ first_value-rows f (codes "depth")) c.in_ok-depth.ensures;
-      item = writes_alike _ _ _ _ (c.get_str-3.ensures ∙ first_value-rows f (codes "item")) c.in_ok-item.ensures;
-      zeros = rw (← c.get_str-6.ensures ∙ first_value-rows f (codes "zeros")) c.is_given.ensures;
-      raw = rw (← c.get_str-7.ensures ∙ first_value-rows f (codes "raw")) c.is_given-2.ensures;
-      fault = rw (← c.get_str-8.ensures ∙ first_value-rows f (codes "fault")) c.is_fault_asked.ensures;
-      at = rw (← c.get_str-4.ensures ∙ first_value-rows f (codes "at")) c.in_ok-at.ensures;
+      asked = asked_alike _ _ _ _ _ (c.get_str.ensures ∙ first_value-rows f (codes "go"))
+          (c.get_str-2.ensures ∙ first_value-rows f (codes "hoist")) c.if-not-is_asked.ensures;
+      input = rw (← c.get_str-6.ensures ∙ first_value-rows f (codes "IN")) c.file_of.ensures;
+      depth = writes_alike _ _ _ _ (c.get_str-3.ensures ∙ first_value-rows f (codes "depth")) c.in_ok-depth.ensures;
+      item = writes_alike _ _ _ _ (c.get_str-4.ensures ∙ first_value-rows f (codes "item")) c.in_ok-item.ensures;
+      zeros = rw (← c.get_str-7.ensures ∙ first_value-rows f (codes "zeros")) c.is_given.ensures;
+      raw = rw (← c.get_str-8.ensures ∙ first_value-rows f (codes "raw")) c.is_given-2.ensures;
+      tagged = rw (← c.get_str-9.ensures ∙ first_value-rows f (codes "tagged")) c.is_given-3.ensures;
+      hoist = rw (← c.get_str-10.ensures ∙ first_value-rows f (codes "hoist")) c.is_hoist_asked.ensures;
+      fault = rw (← c.get_str-11.ensures ∙ first_value-rows f (codes "fault")) c.is_fault_asked.ensures;
+      at = rw (← c.get_str-5.ensures ∙ first_value-rows f (codes "at")) c.in_ok-at.ensures;
       least = omega (arith, c.if-depth-lt1.false);
-      most = omega (arith, c.if-depth-most_depth.false, c.most_depth.ensures);
+      most = omega (arith, c.if-depth-gt-GREATEST_DEPTH.false);
     }

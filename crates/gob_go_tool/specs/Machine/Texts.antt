@@ -1,0 +1,67 @@
+-- Where a run stands that writes texts of items. For private clauses.
+use Rattle.std.specs.Prelude.{◌≡◌, ℕ, ◌<◌, List, [], ◌∷◌, ◌++◌, Option, Some, None, Result, Ok, Err}
+use Rattle.std.specs.Io.KnownBytes.{Appends}
+use Rattle.gob_types.specs.Table.{Table}
+use Rattle.gob_stream.specs.Bounds.{within_trees}
+use Rattle.gob_stream.specs.declared.fault.Fault.{Fault}
+use Rattle.gob_filled.specs.Stream.{FilledItem}
+use Rattle.gob_go.specs.Meaning.{ItemMeans}
+use Rattle.gob_go.specs.Calls.Reader.{HasReadFrom, StopsFrom, session_of}
+use Rattle.gob_go.specs.Calls.Session.{limits_of, taken_of}
+use Rattle.gob_go.specs.declared.item.GoItem.{GoItem}
+use Rattle.gob_go.specs.declared.reader.GoReader.{GoReader}
+use Rattle.gob_tool.specs.declared.fault.ToolFault.{ToolFault}
+use Rattle.gob_tool.specs.Showing.{AppendsPrefix}
+use Rattle.gob_go_tool.specs.RunningGo.{RunGoAnswers}
+use Rattle.gob_go_tool.specs.Texts.{OfTexts}
+
+-- it has read some items of some input
+pub record HasReadSome (r : GoReader) : Type 0 where
+  pub read : Option (List ℕ)
+  pub now : Option (List ℕ)
+  pub given : List FilledItem
+  pub has : HasReadFrom r read now given
+
+-- the texts of what was read went out
+pub record WritesSo (Is : Table → FilledItem → List ℕ → Type 0) (r : GoReader) (read now old new : Option (List ℕ))
+    : Type 0 where
+  pub given : List FilledItem
+  pub has : HasReadFrom r read now given
+  pub out : (bytes : List ℕ) → read ≡ Some bytes
+      → OfTexts Is (within_trees (limits_of (session_of r))) bytes (Appends old new) given
+
+-- the texts of no item, or of one
+pub data MadeOf (Is : Table → FilledItem → List ℕ → Type 0) (T : Table) : List FilledItem → List ℕ → Type 0 where
+  made_of_none : MadeOf Is T [] []
+  made_of_one : {i : FilledItem} {made : List ℕ} → Is T i made → MadeOf Is T (i ∷ []) made
+
+-- the texts of the items that are whole with what was taken
+pub record MakesTexts (Is : Table → FilledItem → List ℕ → Type 0) (r r' : GoReader) (read now : Option (List ℕ))
+    (given : List FilledItem) (made : List ℕ) : Type 0 where
+  pub more : List FilledItem
+  pub after : HasReadFrom r' read now (given ++ more)
+  pub onward : taken_of (session_of r) < taken_of (session_of r')
+  pub made_of : (bytes : List ℕ) → read ≡ Some bytes → MadeOf Is after.gave.table more made
+
+abbrev pub MakesNext : (Is : Table → FilledItem → List ℕ → Type 0) → (r r' : GoReader)
+    → (read now : Option (List ℕ)) → List FilledItem → (made : List ℕ) → Result (Unit {0}) Fault → Type 0
+MakesNext Is r r' read now given made (Ok _) = MakesTexts Is r r' read now given made
+MakesNext Is r r' read now given made (Err e) = (T : Table) × StopsFrom (session_of r) T read now given e
+
+-- the text of what a step gave
+abbrev pub TextGiven : (Is : Table → FilledItem → List ℕ → Type 0) → Table → Option GoItem → (made : List ℕ)
+    → Type 0
+TextGiven Is T None made = made ≡ []
+TextGiven Is T (Some given) made = (i : FilledItem) → ItemMeans T given i → Is T i made
+
+-- the texts went out, or a prefix of them
+abbrev pub WritesNext : (Is : Table → FilledItem → List ℕ → Type 0) → (r r' : GoReader)
+    → (read now : Option (List ℕ)) → List FilledItem → (old new : Option (List ℕ))
+    → Result (Unit {0}) ToolFault → Type 0
+WritesNext Is r r' read now given old new (Ok _) = (made : List ℕ) × MakesTexts Is r r' read now given made
+    × Appends old new made
+WritesNext Is r r' read now given old new (Err f) = (bytes : List ℕ) → read ≡ Some bytes → (start : Option (List ℕ))
+    → OfTexts Is (within_trees (limits_of (session_of r))) bytes (Appends start old) given
+    → RunGoAnswers (within_trees (limits_of (session_of r))) bytes now
+    (OfTexts Is (within_trees (limits_of (session_of r))) bytes (Appends start new))
+    (OfTexts Is (within_trees (limits_of (session_of r))) bytes (AppendsPrefix start new)) (Err f)
