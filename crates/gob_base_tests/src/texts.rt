@@ -2,7 +2,6 @@
 use gob_num::Memory;
 use gob_types::{Reason, TypeId};
 use std::alloc::{AllocError, Global};
-use std::test::*;
 
 // The reasons in the order of their numbers, the first of which is 1.
 static REASONS: [(Reason, &str); 23] = [
@@ -31,41 +30,32 @@ static REASONS: [(Reason, &str); 23] = [
     (Reason::DoesNotFit, "DoesNotFit"),
 ];
 
-fn is_printed(alloc: Global, reason: Reason, text: &str) -> Result<bool, AllocError> {
-    let printed = format!(in alloc; "{reason}")?;
-    Ok(printed.as_str() == text)
+// Whether the reason has this number, and this is printed of it.
+fn is_told(alloc: Global, reason: Reason, number: usize, text: &str) -> bool {
+    match reason.to_string(alloc) {
+        Ok(printed) => printed.as_str() == text && usize::from(reason.number()) == number,
+        Err(_) => false,
+    }
 }
 
 #[test]
 fn reasons_have_numbers_and_names(rt: HostRuntime) {
     for (i, (reason, text)) in REASONS.iter().enumerate() {
-        assert!(rt;
-            is_printed(rt.alloc(), *reason, text) == Ok(true),
-            "the name {text}"
-        );
-        assert!(rt;
-            usize::from(reason.number()) == i + 1,
-            "the number of {text}"
-        );
+        assert!(rt; is_told(rt.alloc(), *reason, i + 1, text), "{text}");
     }
 }
 
-fn is_id_printed(alloc: Global) -> Result<bool, AllocError> {
+// What is printed of a type id and of want of memory.
+fn are_others_printed(alloc: Global) -> Result<bool, AllocError> {
     let id = TypeId(65);
-    let printed = format!(in alloc; "{id}")?;
-    Ok(printed.as_str() == "65")
-}
-
-fn is_want_of_memory_printed(alloc: Global) -> Result<bool, AllocError> {
-    let printed = format!(in alloc; "{Memory}")?;
-    Ok(printed.as_str() == "out of memory")
+    let printed = format!(in alloc; "{id}: {Memory}")?;
+    Ok(printed.as_str() == "65: out of memory")
 }
 
 #[test]
 fn others_are_printed(rt: HostRuntime) {
-    assert!(rt; is_id_printed(rt.alloc()) == Ok(true), "a type id");
     assert!(rt;
-        is_want_of_memory_printed(rt.alloc()) == Ok(true),
-        "want of memory"
+        are_others_printed(rt.alloc()) == Ok(true),
+        "a type id and want of memory"
     );
 }

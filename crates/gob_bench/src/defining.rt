@@ -1,7 +1,7 @@
 //! How long definitions take.
 
 use crate::fault::Fault;
-use crate::orders::{Definition, Order};
+use crate::orders::{Definition, ORDERS, Order};
 use gob_types::{Table, TypeId};
 use gob_value::{describe, spell};
 use std::alloc::Global;
@@ -11,7 +11,7 @@ use std::time::Instant;
 /// first order.
 pub(crate) fn time_orders(rt: &HostRuntime, times: usize) -> Result<(), Fault> {
     let mut first = 0;
-    for (place, order) in Order::ALL.into_iter().enumerate() {
+    for (place, order) in ORDERS.iter().enumerate() {
         let bytes = length(rt.alloc(), order)?;
         let nanos = best_time(rt, order, times)?;
         let each = nanos / bytes.max(1);
@@ -19,7 +19,7 @@ pub(crate) fn time_orders(rt: &HostRuntime, times: usize) -> Result<(), Fault> {
             first = each;
         }
         let tenths = each.saturating_mul(10).checked_div(first).unwrap_or(0);
-        let name = order.name();
+        let name = order.name;
         println!(rt;
             "{name}: {bytes} bytes, {} ms, ratio {}.{}",
             nanos / 1000000,
@@ -31,7 +31,7 @@ pub(crate) fn time_orders(rt: &HostRuntime, times: usize) -> Result<(), Fault> {
 }
 
 // How many bytes the descriptions are spelled with.
-fn length(alloc: Global, order: Order) -> Result<u128, Fault> {
+fn length(alloc: Global, order: &Order) -> Result<u128, Fault> {
     let table = Table::new(alloc, 0)?;
     let mut out = Vec::new(alloc);
     let mut bytes = 0usize;
@@ -50,7 +50,7 @@ fn length(alloc: Global, order: Order) -> Result<u128, Fault> {
 }
 
 // The shortest of several times, in nanoseconds.
-fn best_time(rt: &HostRuntime, order: Order, times: usize) -> Result<u128, Fault> {
+fn best_time(rt: &HostRuntime, order: &Order, times: usize) -> Result<u128, Fault> {
     let mut best = u128::MAX;
     for _ in 0..times {
         let definitions = order.definitions(rt.alloc())?;

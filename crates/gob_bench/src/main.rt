@@ -44,16 +44,27 @@ fn main(rt: HostRuntime) -> ExitCode {
 
 fn run(rt: &HostRuntime) -> Result<(), Fault> {
     let words = env::args(rt)?.collect::<Vec<String>>(rt.alloc())?;
-    let names = words
-        .iter()
-        .map(|word| word.as_str())
-        .collect::<Vec<&str>>(rt.alloc())?;
-    match names.as_slice() {
-        [_] => count_all(rt),
-        [_, "time"] => time_all(rt),
-        [_, "types"] => time_orders(rt, TIMES),
-        [_, word, name] => go_over(rt, word, Body::named(name).ok_or(Fault::Words)?),
-        _ => Err(Fault::Words),
+    if words.len() > 3 {
+        return Err(Fault::Words);
+    }
+    run_words(rt, word_at(&words, 1), word_at(&words, 2))
+}
+
+// The word in this place; empty where there is none.
+fn word_at(words: &[String], place: usize) -> &str {
+    match words.get(place) {
+        Some(word) => word.as_str(),
+        None => "",
+    }
+}
+
+// Does what the words say.
+fn run_words(rt: &HostRuntime, word: &str, name: &str) -> Result<(), Fault> {
+    match (word, name) {
+        ("", "") => count_all(rt),
+        ("time", "") => time_all(rt),
+        ("types", "") => time_orders(rt, TIMES),
+        _ => go_over(rt, word, Body::named(name).ok_or(Fault::Words)?),
     }
 }
 
@@ -101,15 +112,23 @@ fn time_tidying(rt: &HostRuntime, body: Body) -> Result<(), Fault> {
 fn count_all(rt: &HostRuntime) -> Result<(), Fault> {
     let types = table(rt.alloc())?;
     for body in Body::ALL {
-        let bytes = body.bytes(rt.alloc())?;
-        let counts = count(rt, &types, body, bytes.as_slice())?;
-        let name = body.name();
-        let length = bytes.len();
-        println!(rt;
-            "{name}: {length} bytes, {} parts, {} raw bytes",
-            counts.nodes, counts.raw
-        )?;
+        count_body(rt, &types, body)?;
     }
+    Ok(())
+}
+
+fn count_body(rt: &HostRuntime, types: &Table, body: Body) -> Result<(), Fault> {
+    let bytes = body.bytes(rt.alloc())?;
+    let counts = count(rt, types, body, bytes.as_slice())?;
+    print_counts(rt, body, bytes.len(), counts)
+}
+
+fn print_counts(rt: &HostRuntime, body: Body, length: usize, counts: Counts) -> Result<(), Fault> {
+    let name = body.name();
+    println!(rt;
+        "{name}: {length} bytes, {} parts, {} raw bytes",
+        counts.nodes, counts.raw
+    )?;
     Ok(())
 }
 
@@ -126,26 +145,45 @@ fn count(rt: &HostRuntime, types: &Table, body: Body, bytes: &[u8]) -> Result<Co
     Ok(whole)
 }
 
+// The lengths of the pieces that are timed; 0 stands for the body's own.
+const PIECES: [(&str, usize); 3] = [
+    ("whole", 0),
+    ("pieces of 64 KiB", 65536),
+    ("byte by byte", 1),
+];
+
 // Prints how fast each body is read.
 fn time_all(rt: &HostRuntime) -> Result<(), Fault> {
     let types = table(rt.alloc())?;
     for body in Body::ALL {
-        let bytes = body.bytes(rt.alloc())?;
-        let bytes = bytes.as_slice();
-        for (pieces, length) in [
-            ("whole", bytes.len()),
-            ("pieces of 64 KiB", 65536),
-            ("byte by byte", 1),
-        ] {
-            let counts = speed::<CheckBuilder>(rt, &types, body, bytes, length)?;
-            let tape = speed::<TapeBuilder>(rt, &types, body, bytes, length)?;
-            let tree = speed::<TreeBuilder>(rt, &types, body, bytes, length)?;
-            let name = body.name();
-            println!(rt;
-                "{name}, {pieces}: counts {counts} MB/s, tape {tape} MB/s, tree {tree} MB/s"
-            )?;
-        }
+        time_body(rt, &types, body)?;
     }
+    Ok(())
+}
+
+fn time_body(rt: &HostRuntime, types: &Table, body: Body) -> Result<(), Fault> {
+    let bytes = body.bytes(rt.alloc())?;
+    for (pieces, length) in PIECES {
+        let length = if length == 0 { bytes.len() } else { length };
+        time_pieces(rt, types, body, bytes.as_slice(), pieces, length)?;
+    }
+    Ok(())
+}
+
+// Prints how fast the body is read in pieces of this length.
+fn time_pieces(
+    rt: &HostRuntime,
+    types: &Table,
+    body: Body,
+    bytes: &[u8],
+    pieces: &str,
+    length: usize,
+) -> Result<(), Fault> {
+    let counts = speed::<CheckBuilder>(rt, types, body, bytes, length)?;
+    let tape = speed::<TapeBuilder>(rt, types, body, bytes, length)?;
+    let tree = speed::<TreeBuilder>(rt, types, body, bytes, length)?;
+    let name = body.name();
+    println!(rt; "{name}, {pieces}: counts {counts} MB/s, tape {tape} MB/s, tree {tree} MB/s")?;
     Ok(())
 }
 

@@ -1,6 +1,4 @@
 //! Types that are defined in several orders.
-ghost use Rattle.std.specs.Prelude.{◌<◌, ◌+◌, ◌^◌};
-
 use gob_num::Memory;
 use gob_types::{Field, Fields, Kind, Name, Shape, TypeId};
 use std::alloc::Global;
@@ -26,40 +24,58 @@ impl Definition {
     }
 }
 
-/// An order of definitions.
+// What a type names, as it stands among the others.
 #[derive(Clone, Copy)]
-pub(crate) enum Order {
-    /// Each type names the one before.
-    Before,
-    /// Each names the next one, so that all become ready with the last.
-    After,
-    /// All name the one that comes last.
-    Last,
-    /// Structs of many fields, half of whose types come behind them.
-    Wide,
-    /// Each names the next one, and the last the first.
-    Cycle,
-    /// Each names the one before, and the first the last.
-    Waiting,
-    /// Each names the next one, and one that comes right behind it.
-    Pairs,
-    /// Arrays in a cycle, which have no finite value, and then types that name the first.
-    Bottomless,
-    /// A chain whose last type names many that come later, each before a type that names the chain's first.
-    Users,
-    /// A chain of which each type names one of its own that comes later, the last one's first, each before a type that
-    /// names the chain's first.
-    Owners,
-    /// A chain whose end never comes, then types that wait for others, and these, which name the chain's first.
-    Endless,
-    /// A ring of which each type names one of its own that comes later, which names the ring's first.
-    Exits,
-    /// Such a ring, where the last one's comes first.
-    ExitsBack,
+enum Named {
+    Int,
+    // A type that isn't defined.
+    Missing,
+    // The type of this number.
+    Type(u64),
+    // The one so many behind it, in a ring of so many.
+    Ring(u64, u64),
+    // The one so many behind it; int where its own number is odd.
+    Even(u64),
+}
+
+// What a type is defined as.
+#[derive(Clone, Copy)]
+enum Made {
+    // A struct of these.
+    Record(Named, Named),
+    // An array of one of these.
+    Array(Named),
+    // A struct with a field of each of so many types, from this one on.
+    Fields(u64, u64),
+}
+
+// In which order the types come.
+#[derive(Clone, Copy)]
+enum Arrival {
+    Rising,
+    // The second half from its end.
+    Back,
+    // One of the second third behind each of the first, from the beginning of both.
+    Mixed,
+    // From the end of the second third.
+    MixedBack,
+}
+
+/// An order of definitions.
+pub(crate) struct Order {
+    /// What it is.
+    pub(crate) name: &'static str,
+    arrival: Arrival,
+    // Structs of many fields stand in its middle.
+    is_wide: bool,
+    // What the types below each of these numbers are, those of the parts before it apart.
+    parts: &'static [(u64, Made)],
 }
 
 // How many types there are in an order, the structs of many fields beside them.
 const TYPES: u64 = 10000;
+
+const LAST: u64 = TYPES - 1;
 
 const HALF: u64 = TYPES / 2;
 
@@ -74,144 +90,218 @@ const MISSING: u64 = 5000000;
 
 const INT: u64 = 2;
 
-impl Order {
-    /// Each of them.
-    pub(crate) const ALL: [Order; 13] = [
-        Order::Before,
-        Order::After,
-        Order::Last,
-        Order::Wide,
-        Order::Cycle,
-        Order::Waiting,
-        Order::Pairs,
-        Order::Bottomless,
-        Order::Users,
-        Order::Owners,
-        Order::Endless,
-        Order::Exits,
-        Order::ExitsBack,
-    ];
+// A struct of two ints, one that names the next type, one that names the one before, and one that names the first.
+const PLAIN: Made = Made::Record(Named::Int, Named::Int);
 
-    /// What it is.
-    pub(crate) fn name(self) -> &'static str {
-        match self {
-            Order::Before => "each names the one before",
-            Order::After => "each names the next",
-            Order::Last => "all name the last",
-            Order::Wide => "structs of 10000 fields",
-            Order::Cycle => "a cycle",
-            Order::Waiting => "each names the one before, the first the last",
-            Order::Pairs => "each names the next and one more",
-            Order::Bottomless => "a cycle of arrays, and types that name one",
-            Order::Users => "a chain whose last names many",
-            Order::Owners => "a chain of which each names one of its own",
-            Order::Endless => "a chain without an end, named by many",
-            Order::Exits => "a ring with many exits",
-            Order::ExitsBack => "a ring with many exits, the last first",
+const NEXT: Made = Made::Record(Named::Int, Named::Ring(1, TYPES));
+
+const BEFORE: Made = Made::Record(Named::Int, Named::Ring(LAST, TYPES));
+
+const USER: Made = Made::Record(Named::Int, Named::Type(0));
+
+// A struct in a ring of half the types, which names one of the other half beside.
+const EXIT: Made = Made::Record(Named::Ring(1, HALF), Named::Ring(HALF, TYPES));
+
+/// The orders.
+pub(crate) static ORDERS: [Order; 13] = [
+    Order {
+        name: "each names the one before",
+        arrival: Arrival::Rising,
+        is_wide: false,
+        parts: &[(1, PLAIN), (TYPES, BEFORE)],
+    },
+    Order {
+        name: "each names the next",
+        arrival: Arrival::Rising,
+        is_wide: false,
+        parts: &[(LAST, NEXT)],
+    },
+    Order {
+        name: "all name the last",
+        arrival: Arrival::Rising,
+        is_wide: false,
+        parts: &[(LAST, Made::Record(Named::Int, Named::Type(LAST)))],
+    },
+    Order {
+        name: "structs of 10000 fields",
+        arrival: Arrival::Rising,
+        is_wide: true,
+        parts: &[],
+    },
+    Order {
+        name: "a cycle",
+        arrival: Arrival::Rising,
+        is_wide: false,
+        parts: &[(TYPES, NEXT)],
+    },
+    Order {
+        name: "each names the one before, the first the last",
+        arrival: Arrival::Rising,
+        is_wide: false,
+        parts: &[(LAST, BEFORE)],
+    },
+    Order {
+        name: "each names the next and one more",
+        arrival: Arrival::Rising,
+        is_wide: false,
+        parts: &[(TYPES - 2, Made::Record(Named::Even(1), Named::Even(2)))],
+    },
+    Order {
+        name: "a cycle of arrays, and types that name one",
+        arrival: Arrival::Rising,
+        is_wide: false,
+        parts: &[(HALF, Made::Array(Named::Ring(1, HALF))), (TYPES, USER)],
+    },
+    Order {
+        name: "a chain whose last names many",
+        arrival: Arrival::Mixed,
+        is_wide: false,
+        parts: &[
+            (THIRD - 1, NEXT),
+            (THIRD, Made::Fields(THIRD, THIRD)),
+            (2 * THIRD, PLAIN),
+            (TYPES, USER),
+        ],
+    },
+    Order {
+        name: "a chain of which each names one of its own",
+        arrival: Arrival::MixedBack,
+        is_wide: false,
+        parts: &[
+            (
+                THIRD - 1,
+                Made::Record(Named::Ring(1, TYPES), Named::Ring(THIRD, TYPES)),
+            ),
+            (THIRD, Made::Record(Named::Int, Named::Ring(THIRD, TYPES))),
+            (2 * THIRD, PLAIN),
+            (TYPES, USER),
+        ],
+    },
+    Order {
+        name: "a chain without an end, named by many",
+        arrival: Arrival::Rising,
+        is_wide: false,
+        parts: &[
+            (THIRD - 1, NEXT),
+            (THIRD, Made::Record(Named::Int, Named::Missing)),
+            (
+                2 * THIRD,
+                Made::Record(Named::Int, Named::Ring(THIRD, TYPES)),
+            ),
+            (TYPES, USER),
+        ],
+    },
+    Order {
+        name: "a ring with many exits",
+        arrival: Arrival::Rising,
+        is_wide: false,
+        parts: &[(HALF, EXIT), (TYPES, USER)],
+    },
+    Order {
+        name: "a ring with many exits, the last first",
+        arrival: Arrival::Back,
+        is_wide: false,
+        parts: &[(HALF, EXIT), (TYPES, USER)],
+    },
+];
+
+// The number of what a type of this place names.
+fn number(named: Named, at: u64) -> u64 {
+    match named {
+        Named::Int => INT,
+        Named::Missing => MISSING,
+        Named::Type(number) => FIRST.saturating_add(number),
+        Named::Ring(step, count) => {
+            FIRST.saturating_add(at.saturating_add(step).checked_rem(count).unwrap_or(0))
         }
+        Named::Even(step) if at % 2 == 0 => FIRST.saturating_add(at.saturating_add(step)),
+        Named::Even(_) => INT,
+    }
+}
+
+// Which type comes at this place.
+fn type_at(arrival: Arrival, place: u64) -> u64 {
+    let behind = place.saturating_sub(THIRD);
+    match arrival {
+        Arrival::Back if place >= HALF => (LAST + HALF).saturating_sub(place),
+        Arrival::Mixed if place >= THIRD && behind < 2 * THIRD => {
+            THIRD + behind / 2 + behind % 2 * THIRD
+        }
+        Arrival::MixedBack if place >= THIRD && behind < 2 * THIRD => {
+            2 * THIRD - 1 - behind / 2 + behind % 2 * THIRD
+        }
+        _ => place,
+    }
+}
+
+// The kind of the type of this place.
+fn kind(alloc: Global, made: Made, at: u64) -> Result<Kind, Memory> {
+    match made {
+        Made::Record(one, two) => record(alloc, &[number(one, at), number(two, at)]),
+        Made::Array(elem) => Ok(Kind::Array {
+            elem: TypeId(number(elem, at)),
+            len: 1,
+        }),
+        Made::Fields(first, count) => record_of(alloc, FIRST.saturating_add(first), count),
+    }
+}
+
+impl Order {
+    // What the type of this place is.
+    fn made(&self, at: u64) -> Made {
+        for (end, made) in self.parts {
+            if at < *end {
+                return *made;
+            }
+        }
+        PLAIN
     }
 
     /// The definitions, in this order.
-    pub(crate) fn definitions(self, alloc: Global) -> Result<Vec<Definition>, Memory> {
+    pub(crate) fn definitions(&self, alloc: Global) -> Result<Vec<Definition>, Memory> {
         let mut definitions = Vec::new(alloc);
         for place in 0..TYPES {
-            if matches!(self, Order::Wide) && place == HALF {
+            if self.is_wide && place == HALF {
                 add_structs(alloc, &mut definitions)?;
             }
-            let at = self.type_at(place);
-            let kind = self.kind(alloc, at)?;
-            let id = TypeId(FIRST + at);
-            definitions.push(Definition {
-                id,
-                shape: shape(alloc, kind),
-            })?;
+            let at = type_at(self.arrival, place);
+            let kind = kind(alloc, self.made(at), at)?;
+            add(alloc, &mut definitions, FIRST.saturating_add(at), kind)?;
         }
         Ok(definitions)
     }
+}
 
-    // Which type comes at this place.
-    fn type_at(self, place: u64) -> u64
-        requires { place < 10000 }
-        ensures { result < 10000 }
-    {
-        let behind = place.saturating_sub(THIRD);
-        match self {
-            Order::ExitsBack if place >= HALF => TYPES - 1 - (place - HALF),
-            Order::Users if place >= THIRD && behind < 2 * THIRD => {
-                THIRD + behind / 2 + behind % 2 * THIRD
-            }
-            Order::Owners if place >= THIRD && behind < 2 * THIRD => {
-                2 * THIRD - 1 - behind / 2 + behind % 2 * THIRD
-            }
-            _ => place,
-        }
-    }
-
-    // The kind of this type.
-    fn kind(self, alloc: Global, at: u64) -> Result<Kind, Memory>
-        requires { at < 10000 }
-    {
-        match self {
-            Order::Bottomless if at < HALF => Ok(Kind::Array {
-                elem: TypeId(FIRST + (at + 1) % HALF),
-                len: 1,
-            }),
-            Order::Users if at + 1 == THIRD => record_of(alloc, FIRST + THIRD, THIRD),
-            _ => record(alloc, self.names(at).as_slice()),
-        }
-    }
-
-    // The types that this one names.
-    fn names(self, at: u64) -> [u64; 2]
-        requires { at < 10000 }
-    {
-        let last = TYPES - 1;
-        let next = if at == last { INT } else { FIRST + at + 1 };
-        match self {
-            Order::Before => [INT, if at == 0 { INT } else { FIRST + at - 1 }],
-            Order::After => [INT, next],
-            Order::Last => [INT, if at == last { INT } else { FIRST + last }],
-            Order::Wide => [INT, INT],
-            Order::Cycle => [INT, FIRST + (at + 1) % TYPES],
-            Order::Waiting if at == last => [INT, INT],
-            Order::Waiting => [INT, FIRST + (at + last) % TYPES],
-            Order::Pairs if at % 2 == 1 || at + 2 > last => [INT, INT],
-            Order::Pairs => [FIRST + at + 1, FIRST + at + 2],
-            Order::Bottomless => [INT, FIRST],
-            Order::Users | Order::Owners | Order::Endless if at >= 2 * THIRD => [INT, FIRST],
-            Order::Users | Order::Owners if at >= THIRD => [INT, INT],
-            Order::Users => [INT, next],
-            Order::Owners if at + 1 == THIRD => [INT, FIRST + at + THIRD],
-            Order::Owners => [next, FIRST + at + THIRD],
-            Order::Endless if at >= THIRD => [INT, FIRST + at + THIRD],
-            Order::Endless if at + 1 == THIRD => [INT, MISSING],
-            Order::Endless => [INT, next],
-            Order::Exits | Order::ExitsBack if at >= HALF => [INT, FIRST],
-            Order::Exits | Order::ExitsBack => [FIRST + (at + 1) % HALF, FIRST + at + HALF],
-        }
-    }
+// Adds a definition of this number.
+fn add(
+    alloc: Global,
+    definitions: &mut Vec<Definition>,
+    number: u64,
+    kind: Kind,
+) -> Result<(), Memory> {
+    let shape = Shape {
+        name: Name::new(Vec::new(alloc)),
+        kind,
+    };
+    let id = TypeId(number);
+    definitions.push(Definition { id, shape })?;
+    Ok(())
 }
 
 // Adds the structs, each of which has a field of each type.
 fn add_structs(alloc: Global, definitions: &mut Vec<Definition>) -> Result<(), Memory> {
     for at in 0..STRUCTS {
         let kind = record_of(alloc, FIRST, TYPES)?;
-        let id = TypeId(FIRST + TYPES + at);
-        definitions.push(Definition {
-            id,
-            shape: shape(alloc, kind),
-        })?;
+        add(alloc, definitions, FIRST + TYPES + at, kind)?;
     }
     Ok(())
 }
 
 // A struct with a field of each of so many types from this one on.
-fn record_of(alloc: Global, first: u64, count: u64) -> Result<Kind, Memory>
-    requires { first + count < 2 ^ 64 }
-{
+fn record_of(alloc: Global, first: u64, count: u64) -> Result<Kind, Memory> {
     let mut names = Vec::new(alloc);
     for at in 0..count {
-        names.push(first + at)?;
+        names.push(first.saturating_add(at))?;
     }
     record(alloc, names.as_slice())
 }
@@ -228,11 +318,4 @@ fn record(alloc: Global, names: &[u64]) -> Result<Kind, Memory> {
     Ok(Kind::Struct {
         fields: Fields::new(fields),
     })
-}
-
-fn shape(alloc: Global, kind: Kind) -> Shape {
-    Shape {
-        name: Name::new(Vec::new(alloc)),
-        kind,
-    }
 }

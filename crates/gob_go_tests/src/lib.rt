@@ -3,17 +3,13 @@
 #![tactic(auto)]
 
 #[cfg(test)]
-mod again;
+mod hoisted;
 #[cfg(test)]
-mod hoist_tests;
-#[cfg(test)]
-mod memory_tests;
-#[cfg(test)]
-mod reader_tests;
+mod putting;
 #[cfg(test)]
 mod readers;
 #[cfg(test)]
-mod reading_tests;
+mod refusals;
 #[cfg(test)]
 mod rows;
 #[cfg(test)]
@@ -23,6 +19,8 @@ mod sessions;
 #[cfg(test)]
 mod streams;
 #[cfg(test)]
-mod tidy_tests;
+mod tidied;
 #[cfg(test)]
-mod writing_tests;
+mod walks;
+#[cfg(test)]
+mod written;

@@ -5,8 +5,8 @@
 use gob_stream::Limits;
 use gob_test_rows::{number, part};
 
-/// The rows. Those without limits are read under the standard ones.
-pub(crate) const ROWS: &str = "
+// The rows. Those without limits are read under the standard ones.
+const ROWS: &str = "
 an int in an interface | 0a 10 00 03 69 6e 74 04 02 00 0a | 1 items
 
 definitions in items of their own | 25 ff 81 03 01 01 05 4f 75 74 65 72 01 ff 82 00 01 03 01 01 4e 01 04 00 01 01 49
@@ -215,16 +215,19 @@ failed, and a type that was defined in what never went out | 25 ff 81 03 01 01 0
 0e 00 01 08 00 | 1 items, refused 10 UndefinedType(68) at 53 seen 55
 ";
 
-/// The limits of a row; none where there can be no such limits.
-pub(crate) fn limits_of(row: &str) -> Option<Limits> {
+/// The rows.
+pub(crate) fn rows() -> &'static str {
+    ROWS
+}
+
+/// The limits of a row, which are the standard ones where it has none.
+pub(crate) fn limits_of(row: &str) -> Limits {
     let limits = part(row, 3);
-    if limits.is_empty() {
-        return Some(Limits::standard());
-    }
     Limits::new(
         number(limits, 0),
         number(limits, 1),
         number(limits, 2),
         number(limits, 3),
     )
+    .unwrap_or(Limits::standard())
 }

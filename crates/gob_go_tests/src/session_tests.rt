@@ -1,53 +1,51 @@
 //! Steps of a session, what it says of itself, and that a fault is for good.
 
 use crate::sessions::feed;
-use crate::streams::GO_STREAMS;
-use gob_go::GoSession;
+use gob_go::{GoItem, GoSession};
+use gob_go_writer::PutFault;
 use gob_num::Memory;
 use gob_stream::{Fault, Limits};
 use gob_test_rows::{bytes_of, number, part};
 use gob_types::TypeId;
 use std::alloc::Global;
-use std::test::Fail;
+use std::test::*;
+
+// Takes a step, and counts the item that it ends with. Behind that the stream may end.
+fn take_step(
+    alloc: Global,
+    session: &mut GoSession,
+    piece: &[u8],
+    items: &mut u64,
+) -> Result<usize, Fault> {
+    let step = session.step(alloc, piece)?;
+    let is_item = step.item.is_some();
+    if is_item {
+        *items = items.saturating_add(1);
+    }
+    Ok(step.used)
+}
 
 // How many items come step by step. Behind each of them the stream may end.
-fn count_steps(alloc: Global, bytes: &[u8]) -> Result<u64, Fault> {
-    let mut session = GoSession::new(alloc, Limits::standard())?;
+fn count_steps(alloc: Global, session: &mut GoSession, bytes: &[u8]) -> Result<u64, Fault> {
     let mut taken = 0usize;
     let mut items = 0u64;
     for _ in 0..bytes.len() {
+        let before = items;
         let rest = bytes.get(taken..).unwrap_or(b"");
-        let step = session.step(alloc, rest)?;
-        taken = taken.saturating_add(step.used);
-        if step.item.is_some() {
+        taken = taken.saturating_add(take_step(alloc, session, rest, &mut items)?);
+        if items > before {
             session.finish()?;
-            items = items.saturating_add(1);
         }
     }
     session.finish()?;
     Ok(items)
 }
 
-// Whether so many come as the row says.
-fn are_all(alloc: Global, row: &str) -> Result<bool, Memory> {
+/// Whether so many come as the row says.
+pub(crate) fn is_stepped(alloc: Global, row: &str) -> Result<bool, PutFault> {
     let bytes = bytes_of(alloc, part(row, 1))?;
-    Ok(count_steps(alloc, &bytes) == Ok(number(part(row, 2), 0)))
-}
-
-// The first of the rows of which not so many come, or else nothing.
-fn wrong<'a>(alloc: Global, rows: &'a str) -> Result<&'a str, Memory> {
-    for row in rows.trim().split("\n\n") {
-        if !are_all(alloc, row)? {
-            return Ok(row);
-        }
-    }
-    Ok("")
-}
-
-#[test]
-fn items_end_steps(rt: HostRuntime) -> Result<(), Fail> {
-    assert_eq!(rt; wrong(rt.alloc(), GO_STREAMS)?, "");
-    Ok(())
+    let mut session = GoSession::new(alloc, Limits::standard())?;
+    Ok(count_steps(alloc, &mut session, &bytes) == Ok(number(part(row, 2), 0)))
 }
 
 // A big number in an interface, whose type is defined in front of it.
@@ -66,46 +64,61 @@ fn has_type(alloc: Global, length: usize) -> Result<bool, Memory> {
 }
 
 #[test]
-fn types_are_there_behind_their_definition(rt: HostRuntime) -> Result<(), Fail> {
-    assert!(rt; !has_type(rt.alloc(), 21)?, "within the description");
-    assert!(rt; has_type(rt.alloc(), 22)?, "behind it");
-    assert!(rt; has_type(rt.alloc(), 30)?, "behind the value");
-    Ok(())
+fn types_are_there_behind_their_definition(rt: HostRuntime) {
+    // Within the description, behind it, and behind the value.
+    for (length, due) in [(21usize, false), (22, true), (30, true)] {
+        let has_type = has_type(rt.alloc(), length);
+        assert!(rt; has_type == Ok(due), "{length} bytes");
+    }
 }
 
-// Whether a session that has refused these bytes, in which a bool of 2 is held, takes nothing more.
+// Whether a session that refuses the bytes takes nothing more.
+fn fails_with(alloc: Global, session: &mut GoSession, bytes: &[u8]) -> bool {
+    let mut items = Vec::new(alloc);
+    let first = feed(alloc, session, bytes, usize::MAX, &mut items);
+    let again = session.feed(alloc, bytes, &mut items);
+    let is_stepped = session.step(alloc, bytes).is_ok();
+    let end = session.finish();
+    let is_refused = first.is_err() && first != Err(Fault::Failed) && !is_stepped;
+    is_refused && again == Err(Fault::Failed) && end == Err(Fault::Failed) && items.is_empty()
+}
+
+// Whether a session does that has refused these bytes, in which a bool of 2 is held.
 fn fails_for_good(alloc: Global) -> Result<bool, Memory> {
     let bytes = bytes_of(alloc, "0b 10 00 04 62 6f 6f 6c 02 02 00 02")?;
     let mut session = GoSession::new(alloc, Limits::standard())?;
-    let mut items = Vec::new(alloc);
-    let first = feed(alloc, &mut session, &bytes, usize::MAX, &mut items);
-    let again = session.feed(alloc, &bytes, &mut items);
-    let step = session.step(alloc, &bytes).is_ok();
-    let end = session.finish();
-    let is_first = first.is_err() && first != Err(Fault::Failed);
-    let stays = again == Err(Fault::Failed) && end == Err(Fault::Failed) && !step;
-    Ok(is_first && stays && items.is_empty())
+    Ok(fails_with(alloc, &mut session, &bytes))
 }
 
 #[test]
-fn sessions_fail_for_good(rt: HostRuntime) -> Result<(), Fail> {
-    assert!(rt; fails_for_good(rt.alloc())?, "behind a refusal");
-    Ok(())
+fn sessions_fail_for_good(rt: HostRuntime) {
+    assert!(rt; fails_for_good(rt.alloc()) == Ok(true), "behind a refusal");
+}
+
+// Feeds nothing, and an int in an interface in two pieces with nothing between them. Answers whether a step took
+// nothing there.
+fn feed_with_nothing(
+    alloc: Global,
+    session: &mut GoSession,
+    items: &mut Vec<GoItem>,
+) -> Result<bool, Fault> {
+    session.feed(alloc, b"", items)?;
+    session.finish()?;
+    session.feed(alloc, b"\x0a\x10\x00\x03in", items)?;
+    session.feed(alloc, b"", items)?;
+    let step = session.step(alloc, b"")?;
+    let is_nothing = step.used == 0 && step.item.is_none();
+    session.feed(alloc, b"t\x04\x02\x00\x0a", items)?;
+    session.finish()?;
+    Ok(is_nothing)
 }
 
 // Whether nothing comes of a piece without bytes, also within an item.
-fn takes_nothing(alloc: Global) -> Result<bool, Fault> {
+fn takes_nothing(alloc: Global) -> Result<bool, Memory> {
     let mut session = GoSession::new(alloc, Limits::standard())?;
     let mut items = Vec::new(alloc);
-    session.feed(alloc, b"", &mut items)?;
-    session.finish()?;
-    session.feed(alloc, b"\x0a\x10\x00\x03in", &mut items)?;
-    session.feed(alloc, b"", &mut items)?;
-    let step = session.step(alloc, b"")?;
-    let is_nothing = step.used == 0 && step.item.is_none();
-    session.feed(alloc, b"t\x04\x02\x00\x0a", &mut items)?;
-    session.finish()?;
-    Ok(is_nothing && items.len() == 1)
+    let is_nothing = feed_with_nothing(alloc, &mut session, &mut items);
+    Ok(is_nothing == Ok(true) && items.len() == 1)
 }
 
 #[test]

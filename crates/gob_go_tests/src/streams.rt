@@ -1,7 +1,7 @@
 //! Streams that Go's encoder wrote: what, the stream, and how many items it has. An empty line stands between two rows.
 
-/// Those of interop/filled, in which interfaces hold values or types that encode themselves have ids of their own.
-pub(crate) const GO_STREAMS: &str = "
+// Those of interop/filled, in which interfaces hold values or types that encode themselves have ids of their own.
+const GO_STREAMS: &str = "
 bytes 200 | ff d8 10 00 07 5b 5d 75 69 6e 74 38 0a ff cb 00 ff c8 ab ab ab ab ab ab ab ab ab ab ab ab ab ab ab ab ab
 ab ab ab ab ab ab ab ab ab ab ab ab ab ab ab ab ab ab ab ab ab ab ab ab ab ab ab ab ab ab ab ab ab ab ab ab ab ab ab
 ab ab ab ab ab ab ab ab ab ab ab ab ab ab ab ab ab ab ab ab ab ab ab ab ab ab ab ab ab ab ab ab ab ab ab ab ab ab ab
@@ -158,8 +158,8 @@ types in values | 0c ff 81 02 01 02 ff 82 00 01 10 00 00 1c ff 82 00 03 0a 5b 5d
 00 | 2 items
 ";
 
-/// Those of interop/streams.
-pub(crate) const STREAMS: &str = "
+// Those of interop/streams.
+const STREAMS: &str = "
 addresses | 10 ff 81 06 01 01 04 41 64 64 72 01 ff 82 00 00 00 08 ff 82 00 04 c0 00 02 01 14 ff 82 00 10 00 00 00 00
 00 00 00 00 00 00 00 00 00 00 00 01 04 ff 82 00 00 | 4 items
 
@@ -233,3 +233,13 @@ unused | 25 ff 81 03 01 01 06 55 6e 75 73 65 64 01 ff 82 00 01 02 01 01 4e 01 04
 00 00 23 ff 83 03 01 01 05 49 6e 6e 65 72 01 ff 84 00 01 02 01 04 4e 61 6d 65 01 0c 00 01 02 4f 6b 01 02 00 00 00 05
 ff 82 01 0c 00 | 3 items
 ";
+
+/// The streams in which interfaces hold values or types that encode themselves have ids of their own.
+pub(crate) fn go_streams() -> &'static str {
+    GO_STREAMS
+}
+
+/// Those in which nothing is held.
+pub(crate) fn plain_streams() -> &'static str {
+    STREAMS
+}

@@ -1,15 +1,13 @@
 //! Which types match, and where others clash.
-use crate::rows::{Wrong, table_of, type_of};
 use gob_match::{ClashReason, MatchFault, Step, match_types};
-use gob_test_rows::part;
+use gob_num::Memory;
 use gob_types::{Table, TypeId};
 use std::alloc::Global;
-use std::test::*;
 
-// What is matched, the stream's type, the wanted type, and the number and the steps of the clash, written as in
-// docs/FORMAT.md (none at the top), or nothing where they match. Where several clashes have the fewest steps, each is
-// listed.
-const ROWS: &str = "
+/// What is matched, the stream's type, the wanted type, and the number and the steps of the clash, written as in
+/// docs/FORMAT.md (none at the top), or nothing where they match. Where several clashes have the fewest steps, each is
+/// listed.
+pub(crate) const ROWS: &str = "
 a basic type and itself | 2 | 2
 int and uint | 2 | 3 | 33
 int and float | 2 | 4 | 33
@@ -87,50 +85,24 @@ fn is_among(clashes: &str, reason: ClashReason, path: &[Step]) -> bool {
     false
 }
 
-// Whether the types of these tables are answered so.
-fn is_judged(
+/// Whether the types of these tables match, where no clash is due, or else clash so.
+pub(crate) fn is_judged(
     alloc: Global,
     stream: &Table,
     id: TypeId,
     wanted: &Table,
     wanted_id: TypeId,
     clashes: &str,
-) -> Result<bool, Wrong> {
-    stream.ready(alloc, id)?;
-    wanted.ready(alloc, wanted_id)?;
+) -> Result<bool, Memory> {
+    let Ok(()) = stream.ready(alloc, id) else {
+        return Ok(false);
+    };
+    let Ok(()) = wanted.ready(alloc, wanted_id) else {
+        return Ok(false);
+    };
     match match_types(alloc, stream, id, wanted, wanted_id) {
         Ok(_) => Ok(clashes.is_empty()),
-        Err(MatchFault::Memory) => Err(Wrong::Memory),
+        Err(MatchFault::Memory) => Err(Memory),
         Err(MatchFault::Clash { path, reason }) => Ok(is_among(clashes, reason, &path)),
     }
-}
-
-// Whether this table's type and the wanted one are answered as the row says.
-fn is_answered_for(alloc: Global, stream: &Table, row: &str) -> Result<bool, Wrong> {
-    let text = part(row, 2);
-    let wanted = table_of(alloc, text)?;
-    let id = type_of(part(row, 1));
-    is_judged(alloc, stream, id, &wanted, type_of(text), part(row, 3))
-}
-
-/// Whether the types are answered as the row says.
-pub(crate) fn is_answered(alloc: Global, row: &str) -> Result<bool, Wrong> {
-    let stream = table_of(alloc, part(row, 1))?;
-    is_answered_for(alloc, &stream, row)
-}
-
-#[test]
-fn types_match_or_clash(rt: HostRuntime) {
-    for row in ROWS.trim().lines() {
-        assert!(rt; is_answered(rt.alloc(), row) == Ok(true), "{row}");
-    }
-}
-
-#[test]
-fn want_of_memory_tells_nothing_of_types(rt: HostRuntime) {
-    let row =
-        "a node | 65 struct V 2 Next 65 | 65 struct Next 66; 66 struct V 3 Next 65 | 33 .Next .V";
-    let answer = is_answered(rt.alloc(), row);
-    let is_right = answer == Ok(true) || answer == Err(Wrong::Memory);
-    assert!(rt; is_right, "{row}");
 }

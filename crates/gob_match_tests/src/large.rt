@@ -1,7 +1,6 @@
 //! Structs with many fields.
-use crate::clashes::is_answered;
+use crate::rows::is_answered;
 use std::alloc::{AllocError, Global};
-use std::test::Fail;
 
 // How many fields the structs have.
 const FIELDS: u64 = 10000;
@@ -25,12 +24,15 @@ fn row_of(alloc: Global) -> Result<String, AllocError> {
     Ok(row)
 }
 
+// Whether they do.
+fn is_matched(alloc: Global) -> bool {
+    match row_of(alloc) {
+        Ok(row) => is_answered(alloc, &row) == Ok(true),
+        Err(_) => false,
+    }
+}
+
 #[test]
-fn many_fields_are_matched_by_name(rt: HostRuntime) -> Result<(), Fail> {
-    let row = row_of(rt.alloc())?;
-    assert!(rt;
-        is_answered(rt.alloc(), &row) == Ok(true),
-        "{FIELDS} fields"
-    );
-    Ok(())
+fn many_fields_are_matched_by_name(rt: HostRuntime) {
+    assert!(rt; is_matched(rt.alloc()), "{FIELDS} fields");
 }

@@ -1,160 +1,77 @@
-//! Types that stand in rows as texts.
-//!
-//! A type is the id of a basic type, or definitions of which the first is meant: `65 struct A 2 B 66; 66 slice 65`. The
-//! kinds are `struct` with names and ids, `array` with a length and an id, `slice` with an id, `map` with two, and
-//! `opaque`. The name `0xff` is one byte.
-use gob_match::MatchFault;
+//! Rows, and what judges them. Those that end with the types' clash, or with nothing, say whether the types match, and
+//! those that end with bytes what is received.
+use crate::{clashes, received};
 use gob_num::Memory;
-use gob_test_rows::number;
-use gob_types::{DefineFault, Field, Fields, Kind, Marshal, Name, NotReady, Shape, Table, TypeId};
-use gob_value::{Misfit, SpellFault};
-use std::alloc::{AllocError, AllocFailed, Global};
-use std::str::SplitWhitespace;
+use gob_test_rows::{bytes_of, is_spelled, part, table_of, type_of, value_of};
+use gob_types::Table;
+use gob_value::Value;
+use std::alloc::Global;
 
-/// Why a row isn't answered as it says.
-#[derive(Clone, Copy, Debug, PartialEq, Eq)]
-pub(crate) enum Wrong {
-    /// It is answered otherwise.
-    Row,
-    /// The allocator refused to let something grow.
-    Memory,
-}
+// Rows of which each allocation is refused.
+const WANTING: &str = "
+a node | 65 struct V 2 Next 65 | 65 struct Next 66; 66 struct V 3 Next 65 | 33 .Next .V
+a map | 66 map 6 65; 65 struct A 2 B 6 | 66 map 6 65; 65 struct B 6 | 'a 1 'go fields:0,1 pairs:1 | \
+    01 01 61 01 02 67 6f 00
+";
 
-impl From<Memory> for Wrong {
-    fn from(_: Memory) -> Wrong {
-        Wrong::Memory
+// Whether what is received of the value is spelled as the row says.
+fn is_received(
+    alloc: Global,
+    stream: &Table,
+    wanted: &Table,
+    value: &Value,
+    row: &str,
+) -> Result<bool, Memory> {
+    let (id, wanted_id) = (type_of(part(row, 1)), type_of(part(row, 2)));
+    let due = bytes_of(alloc, part(row, 4))?;
+    match received::received(alloc, stream, id, wanted, wanted_id, value)? {
+        Some(made) => is_spelled(alloc, wanted, wanted_id, &made, 1000, &due),
+        None => Ok(false),
     }
 }
 
-impl From<AllocError> for Wrong {
-    fn from(_: AllocError) -> Wrong {
-        Wrong::Memory
+// Whether the types of these tables are answered as the row says.
+fn is_judged(alloc: Global, stream: &Table, wanted: &Table, row: &str) -> Result<bool, Memory> {
+    if part(row, 4).is_empty() {
+        let (id, wanted_id) = (type_of(part(row, 1)), type_of(part(row, 2)));
+        return clashes::is_judged(alloc, stream, id, wanted, wanted_id, part(row, 3));
     }
+    is_received(alloc, stream, wanted, &value_of(alloc, part(row, 3))?, row)
 }
 
-impl<T: Drop> From<AllocFailed<T>> for Wrong {
-    fn from(_: AllocFailed<T>) -> Wrong {
-        Wrong::Memory
-    }
+// Whether this table's type and the wanted one are.
+fn is_answered_for(alloc: Global, stream: &Table, row: &str) -> Result<bool, Memory> {
+    is_judged(alloc, stream, &table_of(alloc, part(row, 2))?, row)
 }
 
-impl From<NotReady> for Wrong {
-    fn from(fault: NotReady) -> Wrong {
-        match fault {
-            NotReady::Memory => Wrong::Memory,
-            _ => Wrong::Row,
+/// Whether the row's types are answered as it says.
+pub(crate) fn is_answered(alloc: Global, row: &str) -> Result<bool, Memory> {
+    is_answered_for(alloc, &table_of(alloc, part(row, 1))?, row)
+}
+
+// The first row that isn't answered as it says, or no text. Where memory may be refused want of it is no fault.
+fn wrong_row(alloc: Global, rows: &'static str, may_want: bool) -> &'static str {
+    for row in rows.trim().lines() {
+        let answer = is_answered(alloc, row);
+        let is_wanting = may_want && answer.is_err();
+        if answer != Ok(true) && !is_wanting {
+            return row;
         }
     }
+    ""
 }
 
-impl From<Misfit> for Wrong {
-    fn from(_: Misfit) -> Wrong {
-        Wrong::Row
+#[test]
+fn types_match_and_values_are_received(rt: HostRuntime) {
+    for rows in [clashes::ROWS, received::ROWS] {
+        let row = wrong_row(rt.alloc(), rows, false);
+        assert!(rt; row.is_empty(), "{row}");
     }
 }
 
-impl From<SpellFault> for Wrong {
-    fn from(fault: SpellFault) -> Wrong {
-        match fault {
-            SpellFault::Memory => Wrong::Memory,
-            _ => Wrong::Row,
-        }
-    }
-}
-
-impl From<MatchFault> for Wrong {
-    fn from(fault: MatchFault) -> Wrong {
-        match fault {
-            MatchFault::Memory => Wrong::Memory,
-            MatchFault::Clash { .. } => Wrong::Row,
-        }
-    }
-}
-
-// The number that the next word is.
-fn next_number(words: &mut SplitWhitespace<'_>) -> u64 {
-    number(words.next().unwrap_or(""), 0)
-}
-
-// The id that the next word is.
-fn next_id(words: &mut SplitWhitespace<'_>) -> TypeId {
-    TypeId(next_number(words))
-}
-
-fn name_of(alloc: Global, word: &str) -> Result<Name, AllocError> {
-    let bytes = if word == "0xff" {
-        b"\xff".as_slice()
-    } else {
-        word.as_bytes()
-    };
-    Ok(Name::new(bytes.to_vec(alloc)?))
-}
-
-fn fields_of(alloc: Global, words: &mut SplitWhitespace<'_>) -> Result<Fields, AllocError> {
-    let mut fields = Vec::new(alloc);
-    for _ in 0..10000u32 {
-        let Some(word) = words.next() else {
-            break;
-        };
-        let name = name_of(alloc, word)?;
-        let id = next_id(words);
-        fields.push(Field { name, id })?;
-    }
-    Ok(Fields::new(fields))
-}
-
-// The kind that these words describe.
-fn kind_of(alloc: Global, words: &mut SplitWhitespace<'_>) -> Result<Kind, AllocError> {
-    match words.next() {
-        Some("struct") => Ok(Kind::Struct {
-            fields: fields_of(alloc, words)?,
-        }),
-        Some("array") => {
-            let len = next_number(words);
-            let elem = next_id(words);
-            Ok(Kind::Array { elem, len })
-        }
-        Some("map") => {
-            let key = next_id(words);
-            let elem = next_id(words);
-            Ok(Kind::Map { key, elem })
-        }
-        Some("slice") => Ok(Kind::Slice {
-            elem: next_id(words),
-        }),
-        Some("binary") => Ok(Kind::Opaque(Marshal::Binary)),
-        Some("text") => Ok(Kind::Opaque(Marshal::Text)),
-        _ => Ok(Kind::Opaque(Marshal::Gob)),
-    }
-}
-
-/// The type that a text means.
-pub(crate) fn type_of(text: &str) -> TypeId {
-    next_id(&mut text.split_whitespace())
-}
-
-// Defines a type, unless the table refuses it. Then it isn't found later.
-fn define(alloc: Global, table: &mut Table, id: TypeId, shape: Shape) -> Result<(), Memory> {
-    if !shape.definable() {
-        return Ok(());
-    }
-    match table.define(alloc, id, shape) {
-        Err(DefineFault::Memory) => Err(Memory),
-        _ => Ok(()),
-    }
-}
-
-/// The table of a text's definitions.
-pub(crate) fn table_of(alloc: Global, text: &str) -> Result<Table, Wrong> {
-    let mut table = Table::new(alloc, 100)?;
-    for definition in text.split(';') {
-        let mut words = definition.split_whitespace();
-        let id = next_id(&mut words);
-        let shape = Shape {
-            name: Name::new(Vec::new(alloc)),
-            kind: kind_of(alloc, &mut words)?,
-        };
-        define(alloc, &mut table, id, shape)?;
-    }
-    Ok(table)
+// tools/refuse-memory runs this with each allocation refused in turn.
+#[test]
+fn want_of_memory_gives_no_other_answer(rt: HostRuntime) {
+    let row = wrong_row(rt.alloc(), WANTING, true);
+    assert!(rt; row.is_empty(), "{row}");
 }

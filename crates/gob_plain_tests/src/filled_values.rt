@@ -1,4 +1,4 @@
-//! The JSON of values whose nils are filled. What fills them are numbers in the order of the nils.
+//! The JSON of values whose nils are filled. What fills them are numbers.
 
 ghost use Rattle.std.specs.Prelude.{◌≡◌, [], IfOk, string_bytes};
 ghost use Rattle.json.specs.Json.{Json};
@@ -8,25 +8,36 @@ ghost use Rattle.gob_plain.specs.Fillers.{AreFillers, IsFiller};
 
 use gob_num::Memory;
 use gob_plain::{Filler, Fillers, Style, plain_text_with};
-use gob_stream::{Fault, Item, Limits, Session};
-use gob_tape::TapeBuilder;
-use gob_test_rows::bytes_of;
+use gob_stream::{Item, Limits, Session};
+use gob_tape::{Tape, TapeBuilder};
+use gob_test_rows::{bytes_of, part};
+use gob_types::Table;
 use json::Writer;
-use std::alloc::Global;
+use std::alloc::{AllocError, Global};
 use std::test::*;
 
-// A struct P of two interfaces A and B, of type 65.
-const PAIR: &str =
-    "1b ff 81 03 01 01 01 50 01 ff 82 00 01 02 01 01 41 01 10 00 01 01 42 01 10 00 00 00 ";
+// What, a stream, the numbers that fill the nils of its last value, each behind its name where one is shown before it,
+// or - where nothing fills the nil, and the JSON. The name ff is one byte, and no UTF-8. Type 65 is a struct P of two
+// interfaces A and B, a slice of interfaces, a map of interfaces by interfaces, or one by texts. An empty line stands
+// between two rows.
+const ROWS: &str = r#"
+both fields | 1b ff 81 03 01 01 01 50 01 ff 82 00 01 02 01 01 41 01 10 00 01 01 42 01 10 00 00 00
+07 ff 82 01 00 01 00 00 | 1 2 | {"A":1,"B":2}
 
-// A slice of interfaces, of type 65.
-const SLICE: &str = "0c ff 81 02 01 02 ff 82 00 01 10 00 00 ";
+the first field is absent | 1b ff 81 03 01 01 01 50 01 ff 82 00 01 02 01 01 41 01 10 00 01 01 42 01 10 00 00 00
+05 ff 82 02 00 00 | 1 2 | {"B":1}
 
-// A map of interfaces by interfaces, of type 65.
-const MAP: &str = "0e ff 81 04 01 02 ff 82 00 01 10 01 10 00 00 ";
+some of four elements | 0c ff 81 02 01 02 ff 82 00 01 10 00 00 08 ff 82 00 04 00 00 00 00 | 1 - 3 | [1,null,3,null]
 
-// A map of interfaces by texts, of type 65.
-const NAMED: &str = "0e ff 81 04 01 02 ff 82 00 01 0c 01 10 00 00 ";
+keys that are no names | 0e ff 81 04 01 02 ff 82 00 01 10 01 10 00 00
+08 ff 82 00 02 00 00 00 00 | 1 2 - 4 | [[1,2],[null,4]]
+
+keys that are names | 0e ff 81 04 01 02 ff 82 00 01 0c 01 10 00 00
+0a ff 82 00 02 01 61 00 01 62 00 | 1 2 - 4 | {"a":1,"b":2}
+
+a name, and one that is no UTF-8 | 0c ff 81 02 01 02 ff 82 00 01 10 00 00
+06 ff 82 00 02 00 00 | main.T=1 ff=2 | [{"main.T":1},{"0xff":2}]
+"#;
 
 // The text of the number.
 fn number_text(alloc: Global, number: u64) -> Result<String, Memory>
@@ -48,110 +59,80 @@ fn text_of(out: Writer) -> String
     }
 }
 
-// The number fills a nil.
-fn number(alloc: Global, number: u64) -> Result<Option<Filler<'static>>, Memory>
-    ensures { IfOk result IsFiller }
-{
-    let text = number_text(alloc, number)?;
-    Ok(Some(Filler { name: None, text }))
+// The name in a word, and the digits behind it.
+fn name_and_digits<'a>(word: &'a str) -> (Option<&'a [u8]>, &'a str) {
+    match word.split_once('=') {
+        Some(("ff", digits)) => (Some(&[255]), digits),
+        Some((name, digits)) => (Some(name.as_bytes()), digits),
+        None => (None, word),
+    }
 }
 
-// The number fills a nil, and this name is shown before it.
-fn named<'a>(alloc: Global, name: &'a [u8], number: u64) -> Result<Option<Filler<'a>>, Memory>
+// What a word says of a nil.
+fn filler_of<'a>(alloc: Global, word: &'a str) -> Result<Option<Filler<'a>>, Memory>
     ensures { IfOk result IsFiller }
 {
-    let text = number_text(alloc, number)?;
-    Ok(Some(Filler {
-        name: Some(name),
-        text,
-    }))
+    if word == "-" {
+        return Ok(None);
+    }
+    let (name, digits) = name_and_digits(word);
+    let text = number_text(alloc, digits.parse().unwrap_or(0))?;
+    Ok(Some(Filler { name, text }))
 }
 
-// The JSON of the last value of the stream of this type and this value, whose nils these fill.
-fn json_of(
+// What the words say of the nils.
+fn fillers_of<'a>(alloc: Global, words: &'a str) -> Result<Vec<Option<Filler<'a>>>, Memory>
+    ensures { IfOk result (λ all. AreFillers all.items) }
+{
+    let mut all = Vec::new(alloc);
+    'words: for word in words.split_whitespace() {
+        all.push(filler_of(alloc, word)?)?;
+    }
+    Ok(all)
+}
+
+// The JSON of the last of these items, whose nils these fill; nothing where it is no value.
+fn shown(
     alloc: Global,
-    types: &str,
-    value: &str,
+    items: &[Item<Tape>],
+    table: &Table,
     all: &[Option<Filler<'_>>],
-) -> Result<Option<String>, Memory>
+) -> Result<String, AllocError>
+    requires { AreFillers all.now }
+{
+    match items.last() {
+        Some(Item::Put { id, value }) => {
+            let mut nils = Fillers { all, passed: 0 };
+            plain_text_with(alloc, *id, value, table, Style::default(), &mut nils)
+        }
+        _ => Ok(String::new(alloc)),
+    }
+}
+
+// The JSON of the last value of the stream, whose nils these fill; nothing where the stream is refused.
+fn json_of(alloc: Global, bytes: &[u8], all: &[Option<Filler<'_>>]) -> Result<String, Memory>
     requires { AreFillers all.now }
 {
     let mut session = Session::<TapeBuilder>::new(alloc, Limits::standard())?;
     let mut items = Vec::new(alloc);
-    for text in [types, value] {
-        let bytes = bytes_of(alloc, text)?;
-        match session.feed(alloc, &bytes, &mut items) {
-            Ok(()) => {}
-            Err(Fault::Memory) => return Err(Memory),
-            Err(_) => return Ok(None),
-        }
-    }
-    match items.as_slice().last() {
-        Some(Item::Put { id, value }) => {
-            let mut nils = Fillers { all, passed: 0 };
-            let style = Style::default();
-            let text = plain_text_with(alloc, *id, value, session.table(), style, &mut nils)?;
-            Ok(Some(text))
-        }
-        _ => Ok(None),
+    if session.feed(alloc, bytes, &mut items).is_ok() {
+        Ok(shown(alloc, &items, session.table(), all)?)
+    } else {
+        Ok(String::new(alloc))
     }
 }
 
-// Whether it is this.
-fn is_json(found: Result<Option<String>, Memory>, due: &str) -> bool {
-    match found {
-        Ok(Some(text)) => text.as_str() == due,
-        _ => false,
+// Whether the row's last value has the row's JSON.
+fn is_due(alloc: Global, row: &str) -> Result<bool, Memory> {
+    let bytes = bytes_of(alloc, part(row, 1))?;
+    let all = fillers_of(alloc, part(row, 2))?;
+    let text = json_of(alloc, &bytes, &all)?;
+    Ok(text.as_str() == part(row, 3))
+}
+
+#[test]
+fn nils_are_filled(rt: HostRuntime) {
+    for row in ROWS.trim().split("\n\n") {
+        assert!(rt; is_due(rt.alloc(), row) == Ok(true), "{row}");
     }
-}
-
-#[test]
-fn fields_are_filled(rt: HostRuntime) -> Result<(), Fail> {
-    let alloc = rt.alloc();
-    let all = [number(alloc, 1)?, number(alloc, 2)?];
-    let found = json_of(alloc, PAIR, "07 ff 82 01 00 01 00 00", &all);
-    assert!(rt; is_json(found, r#"{"A":1,"B":2}"#), "both fields");
-    let found = json_of(alloc, PAIR, "05 ff 82 02 00 00", &all);
-    assert!(rt; is_json(found, r#"{"B":1}"#), "the first field is absent");
-    Ok(())
-}
-
-#[test]
-fn elements_are_filled(rt: HostRuntime) -> Result<(), Fail> {
-    let alloc = rt.alloc();
-    let all = [number(alloc, 1)?, None, number(alloc, 3)?];
-    let found = json_of(alloc, SLICE, "08 ff 82 00 04 00 00 00 00", &all);
-    assert!(rt; is_json(found, "[1,null,3,null]"), "some of four elements");
-    Ok(())
-}
-
-#[test]
-fn keys_and_elements_of_maps_are_filled(rt: HostRuntime) -> Result<(), Fail> {
-    let alloc = rt.alloc();
-    let all = [
-        number(alloc, 1)?,
-        number(alloc, 2)?,
-        None,
-        number(alloc, 4)?,
-    ];
-    let found = json_of(alloc, MAP, "08 ff 82 00 02 00 00 00 00", &all);
-    assert!(rt;
-        is_json(found, "[[1,2],[null,4]]"),
-        "keys that are no names"
-    );
-    let found = json_of(alloc, NAMED, "0a ff 82 00 02 01 61 00 01 62 00", &all);
-    assert!(rt; is_json(found, r#"{"a":1,"b":2}"#), "keys that are names");
-    Ok(())
-}
-
-#[test]
-fn names_are_shown(rt: HostRuntime) -> Result<(), Fail> {
-    let alloc = rt.alloc();
-    let all = [named(alloc, b"main.T", 1)?, named(alloc, &[255], 2)?];
-    let found = json_of(alloc, SLICE, "06 ff 82 00 02 00 00", &all);
-    assert!(rt;
-        is_json(found, r#"[{"main.T":1},{"0xff":2}]"#),
-        "a name, and one that is no UTF-8"
-    );
-    Ok(())
 }

@@ -1,146 +1,138 @@
 //! The JSON of values.
 
 use crate::opaque_rows::{OPAQUE, RAW};
-use crate::rows::{ROWS, Row};
+use crate::rows::ROWS;
 use crate::zero_rows::ZEROS;
 use gob_num::Memory;
 use gob_plain::{Style, plain_text};
 use gob_stream::{Fault, Item, Limits, Session};
-use gob_tape::TapeBuilder;
-use gob_test_rows::bytes_of;
-use std::alloc::Global;
+use gob_tape::{Tape, TapeBuilder};
+use gob_test_rows::{bytes_of, part};
+use gob_types::Table;
+use std::alloc::{AllocError, Global};
 use std::test::*;
 
-// The JSON of the last value of a stream in this style, where the stream ends with a value.
-fn json_of(alloc: Global, bytes: &[u8], style: Style) -> Result<Option<String>, Memory> {
+// The JSON of the last of these items in this style; nothing where it is no value.
+fn text_of(
+    alloc: Global,
+    items: &[Item<Tape>],
+    table: &Table,
+    style: Style,
+) -> Result<String, AllocError> {
+    match items.last() {
+        Some(Item::Put { id, value }) => plain_text(alloc, *id, value, table, style),
+        _ => Ok(String::new(alloc)),
+    }
+}
+
+// The JSON of the last value of a stream in this style; nothing where the stream is refused or ends with a definition.
+fn json_of(alloc: Global, bytes: &[u8], style: Style) -> Result<String, Memory> {
     let mut session = Session::<TapeBuilder>::new(alloc, Limits::standard())?;
     let mut items = Vec::new(alloc);
     match session.feed(alloc, bytes, &mut items) {
-        Ok(()) => {}
-        Err(Fault::Memory) => return Err(Memory),
-        Err(_) => return Ok(None),
-    }
-    match items.as_slice().last() {
-        Some(Item::Put { id, value }) => {
-            let text = plain_text(alloc, *id, value, session.table(), style)?;
-            Ok(Some(text))
-        }
-        _ => Ok(None),
+        Ok(()) => Ok(text_of(alloc, &items, session.table(), style)?),
+        Err(Fault::Memory) => Err(Memory),
+        Err(_) => Ok(String::new(alloc)),
     }
 }
 
 // Whether the row's last value has the row's JSON in this style.
-fn is_due(alloc: Global, row: &Row, style: Style) -> Result<bool, Memory> {
-    let bytes = bytes_of(alloc, row.stream)?;
-    match json_of(alloc, &bytes, style)? {
-        Some(text) => Ok(text.as_str() == row.json),
-        None => Ok(false),
+fn is_due(alloc: Global, row: &str, style: Style) -> Result<bool, Memory> {
+    let bytes = bytes_of(alloc, part(row, 1))?;
+    let text = json_of(alloc, &bytes, style)?;
+    Ok(text.as_str() == part(row, 2))
+}
+
+// The style, with zeros or raw.
+fn style_of(zeros: bool, raw: bool) -> Style {
+    Style { zeros, raw }
+}
+
+// The first of the rows whose last value has another JSON in this style.
+fn wrong(alloc: Global, rows: &'static str, style: Style) -> Option<&'static str> {
+    for row in rows.trim().split("\n\n") {
+        if is_due(alloc, row, style) != Ok(true) {
+            return Some(row);
+        }
+    }
+    None
+}
+
+#[test]
+fn values_have_their_json(rt: HostRuntime) {
+    for (rows, style) in [
+        (ROWS, style_of(false, false)),
+        (OPAQUE, style_of(false, false)),
+        (RAW, style_of(false, true)),
+        (ZEROS, style_of(true, false)),
+    ] {
+        let wrong = wrong(rt.alloc(), rows, style);
+        assert!(rt; wrong.is_none(), "{wrong:?}");
     }
 }
 
-// Whether a whole number's JSON has so many bytes and these ends: its magnitude is so many bytes of 255, behind the
-// head.
-fn has_ends(
-    alloc: Global,
-    head: &str,
-    count: usize,
-    size: usize,
-    ends: [&str; 2],
-) -> Result<bool, Memory> {
+// The type of a whole number, and what stands before the bytes of its magnitude, of which there are 1024 or 1025.
+const HEAD_OF_1024: &str =
+    "0f ff 81 05 01 01 03 49 6e 74 01 ff 82 00 00 00 fe 04 07 ff 82 00 fe 04 01 02";
+
+const HEAD_OF_1025: &str =
+    "0f ff 81 05 01 01 03 49 6e 74 01 ff 82 00 00 00 fe 04 08 ff 82 00 fe 04 02 02";
+
+// A head, how many bytes of 255 stand behind it, how many bytes the JSON has, and its ends. The first is 2 to the 8192,
+// less 1; the second has too many bytes for a whole number.
+const LONG: [(&str, usize, usize, &str, &str); 2] = [
+    (
+        HEAD_OF_1024,
+        1024,
+        2467,
+        "10907481356194159294",
+        "86505665475715792895",
+    ),
+    (HEAD_OF_1025, 1025, 1370, r#""Av//"#, r#"////""#),
+];
+
+// The bytes of the head, and so many of 255.
+fn filled(alloc: Global, head: &str, count: usize) -> Result<Vec<u8>, Memory> {
     let mut bytes = bytes_of(alloc, head)?;
     for _ in 0..count {
         bytes.push(255)?;
     }
-    match json_of(alloc, &bytes, Style::default())? {
-        Some(text) => {
-            let text = text.as_str();
-            Ok(text.len() == size && text.starts_with(ends[0]) && text.ends_with(ends[1]))
-        }
-        None => Ok(false),
-    }
+    Ok(bytes)
 }
 
-#[test]
-fn values_have_their_json(rt: HostRuntime) -> Result<(), Fail> {
-    for row in &ROWS {
-        assert!(rt;
-            is_due(rt.alloc(), row, Style::default()) == Ok(true),
-            "{}",
-            row.what
-        );
-    }
-    Ok(())
-}
-
-#[test]
-fn opaque_values_are_told_by_their_type(rt: HostRuntime) -> Result<(), Fail> {
-    for row in &OPAQUE {
-        assert!(rt;
-            is_due(rt.alloc(), row, Style::default()) == Ok(true),
-            "{}",
-            row.what
-        );
-    }
-    Ok(())
+// The JSON of a whole number of so many bytes.
+fn long_json(alloc: Global, head: &str, count: usize) -> Result<String, Memory> {
+    let bytes = filled(alloc, head, count)?;
+    json_of(alloc, &bytes, Style::default())
 }
 
 #[test]
 fn whole_numbers_of_1024_bytes_are_the_greatest(rt: HostRuntime) {
-    let head = "0f ff 81 05 01 01 03 49 6e 74 01 ff 82 00 00 00 fe 04 07 ff 82 00 fe 04 01 02";
-    // 2 to the 8192, less 1.
-    let ends = ["10907481356194159294", "86505665475715792895"];
-    assert!(rt;
-        has_ends(rt.alloc(), head, 1024, 2467, ends) == Ok(true),
-        "1024 bytes"
-    );
-    let head = "0f ff 81 05 01 01 03 49 6e 74 01 ff 82 00 00 00 fe 04 08 ff 82 00 fe 04 02 02";
-    let ends = [r#""Av//"#, r#"////""#];
-    assert!(rt;
-        has_ends(rt.alloc(), head, 1025, 1370, ends) == Ok(true),
-        "1025 bytes"
-    );
+    for (head, count, size, front, back) in LONG {
+        let is_right = match long_json(rt.alloc(), head, count) {
+            Ok(text) => text.len() == size && text.starts_with(front) && text.ends_with(back),
+            Err(_) => false,
+        };
+        assert!(rt; is_right, "{count} bytes");
+    }
 }
 
-#[test]
-fn opaque_values_are_bytes_raw(rt: HostRuntime) -> Result<(), Fail> {
-    let mut raw = Style::default();
-    raw.raw = true;
-    for row in &RAW {
-        assert!(rt; is_due(rt.alloc(), row, raw) == Ok(true), "{}", row.what);
-    }
-    Ok(())
-}
-
-#[test]
-fn absent_fields_have_zeros(rt: HostRuntime) -> Result<(), Fail> {
-    let mut zeros = Style::default();
-    zeros.zeros = true;
-    for row in &ZEROS {
-        assert!(rt; is_due(rt.alloc(), row, zeros) == Ok(true), "{}", row.what);
-    }
-    Ok(())
+// The row in this place.
+fn row_at(rows: &'static str, place: usize) -> &'static str {
+    rows.trim().split("\n\n").nth(place).unwrap_or("")
 }
 
 // Run by tools/refuse-memory with each allocation refused in turn: the right JSON, or want of memory.
 #[test]
 fn values_want_memory(rt: HostRuntime) {
     // Each row has some hundreds of allocations, so a few of them are enough.
-    for row in &ROWS[..8] {
-        assert!(rt;
-            is_due(rt.alloc(), row, Style::default()) != Ok(false),
-            "{}",
-            row.what
-        );
+    for row in ROWS.trim().split("\n\n").take(8) {
+        let is_right = is_due(rt.alloc(), row, style_of(false, false));
+        assert!(rt; is_right != Ok(false), "{row}");
     }
-    let mut zeros = Style::default();
-    zeros.zeros = true;
-    assert!(rt;
-        is_due(rt.alloc(), &OPAQUE[0], zeros) != Ok(false),
-        "a time"
-    );
-    assert!(rt;
-        is_due(rt.alloc(), &OPAQUE[25], zeros) != Ok(false),
-        "a whole number"
-    );
-    assert!(rt; is_due(rt.alloc(), &ZEROS[0], zeros) != Ok(false), "zeros");
+    // A time, a whole number, and zeros.
+    for row in [row_at(OPAQUE, 0), row_at(OPAQUE, 25), row_at(ZEROS, 0)] {
+        let is_right = is_due(rt.alloc(), row, style_of(true, false));
+        assert!(rt; is_right != Ok(false), "{row}");
+    }
 }

@@ -1,16 +1,13 @@
-//! Bodies of each shape, whole and in pieces, and bodies that are refused.
+//! Bodies of each shape, whole and in pieces, bodies that are refused, and slices in slices.
 
-use crate::types::table;
 use gob_num::Memory;
-use gob_read::{CheckBuilder, Counts, SkipBuilder, Stop, TreeBuilder};
-use gob_test_rows::{Body, body_of, numbers, part, read};
+use gob_read::{CheckBuilder, Counts, SkipBuilder, TreeBuilder};
+use gob_test_rows::{Body, is_refusal, is_spelled, read};
 use gob_types::{Table, TypeId};
-use gob_value::{SpellFault, Value, spell};
 use std::alloc::Global;
-use std::test::*;
 
-// What, its type, the body, and its parts and raw bytes.
-const ACCEPTED: &str = "
+/// What, its type, the body, and its parts and raw bytes.
+pub(crate) const ACCEPTED: &str = "
 true | 1 | 00 01 | 1 0
 3 | 2 | 00 06 | 1 0
 -129 | 2 | 00 fe 01 01 | 1 0
@@ -39,12 +36,12 @@ an opaque value | 70 | 00 04 01 02 03 04 | 1 4
 a map from slices to structs | 71 | 00 02 01 00 01 02 00 00 00 | 7 0
 a map from an empty slice to a struct | 71 | 00 01 00 01 02 01 04 00 | 5 0
 a field of each kind | 73 | 01 01 01 05 01 07 01 fe 31 40 01 02 67 6f 01 00 01 fe 31 40 00 01 00 01 02 00 09 01 02 01 \
-61 02 01 61 04 01 01 78 01 03 00 00 00 | 20 5
+    61 02 01 61 04 01 01 78 01 03 00 00 00 | 20 5
 ";
 
-// What, its type, announced length and greatest depth, the bytes that come, and the refusal: its number, place and
-// seen.
-const REFUSED: &str = "
+/// What, its type, announced length and greatest depth, the bytes that come, and the refusal: its number, place and
+/// seen.
+pub(crate) const REFUSED: &str = "
 no body | 2 0 1000 |  | 5 0 0
 a tag alone | 2 1 1000 | 00 | 5 1 1
 a number cut off | 2 3 1000 | 00 fe 01 | 5 3 3
@@ -79,126 +76,79 @@ a text cut off | 6 7 1000 | 00 06 68 65 6c 6c 6f | 5 7 7
 bytes cut off | 5 6 1000 | 00 05 68 65 6c 6c | 5 6 6
 ";
 
+/// Slices in slices, as deep as a builder of counts takes them, and one deeper: the body, and its parts and raw bytes,
+/// or the refusal. The tag is one byte, and each slice but the last begins with one byte more.
+pub(crate) const COUNTED: &str = "
+2000 deep, limit 65536 | 68 2001 65536 | 00 01*1999 00 | 2000 0
+65536 deep, limit 65536 | 68 65537 65536 | 00 01*65535 00 | 65536 0
+65536 deep, limit 18446744073709551615 | 68 65537 18446744073709551615 | 00 01*65535 00 | 65536 0
+65537 deep, limit 65536 | 68 65538 65536 | 00 01*65536 00 | 17 65537 65537
+65537 deep, limit 18446744073709551615 | 68 65538 18446744073709551615 | 00 01*65536 00 | 17 65537 65537
+65536 deep, limit 65535 | 68 65537 65535 | 00 01*65535 00 | 17 65536 65536
+2000 deep, limit 1000 | 68 2001 1000 | 00 01*1999 00 | 17 1001 1001
+2000 deep, limit 1 | 68 2001 1 | 00 01*1999 00 | 17 2 2
+";
+
+/// Those as deep as a builder of trees takes them, and one deeper.
+pub(crate) const BUILT: &str = "
+1000 deep, limit 1000 | 68 1001 1000 | 00 01*999 00 | 1000 0
+1000 deep, limit 65536 | 68 1001 65536 | 00 01*999 00 | 1000 0
+1001 deep, limit 65536 | 68 1002 65536 | 00 01*1000 00 | 17 1001 1001
+65536 deep, limit 18446744073709551615 | 68 65537 18446744073709551615 | 00 01*65535 00 | 17 1001 1001
+1000 deep, limit 999 | 68 1001 999 | 00 01*999 00 | 17 1000 1000
+";
+
 // The lengths of the pieces in which each body is read.
 const PIECES: [usize; 3] = [1, 3, usize::MAX];
 
-// Whether each builder reads the body of the row, whole and in pieces.
-fn is_accepted(alloc: Global, table: &Table, row: &str) -> Result<bool, Memory> {
-    let body = body_of(alloc, row)?;
-    let due = numbers(alloc, part(row, 3))?;
-    for piece in PIECES {
-        if !is_counted(alloc, table, &body, &due, piece)?
-            || !is_built(alloc, table, &body, piece)?
-            || !is_skipped(alloc, table, &body, piece)?
-        {
-            return Ok(false);
-        }
-    }
-    Ok(true)
-}
-
-/// Whether these parts and raw bytes are counted.
+/// Whether the parts and raw bytes that are due are counted, or the refusal comes.
 pub(crate) fn is_counted(
     alloc: Global,
     table: &Table,
     body: &Body,
-    due: &[u64],
     piece: usize,
 ) -> Result<bool, Memory> {
     match read::<CheckBuilder>(alloc, table, body, piece) {
-        Ok(Some(Counts { nodes, raw })) => Ok(due == [nodes, raw].as_slice()),
-        Err(Stop::Memory) => Err(Memory),
-        _ => Ok(false),
+        Ok(Some(Counts { nodes, raw })) => Ok(body.due.as_slice() == [nodes, raw].as_slice()),
+        Ok(None) => Ok(false),
+        Err(stop) => is_refusal(stop, &body.due),
     }
 }
 
-// Whether it is read with nothing kept.
+// Whether it is read with nothing kept, or the refusal comes.
 fn is_skipped(alloc: Global, table: &Table, body: &Body, piece: usize) -> Result<bool, Memory> {
     match read::<SkipBuilder>(alloc, table, body, piece) {
-        Ok(Some(())) => Ok(true),
-        Err(Stop::Memory) => Err(Memory),
-        _ => Ok(false),
+        Ok(out) => Ok(out.is_some() && body.due.len() == 2),
+        Err(stop) => is_refusal(stop, &body.due),
     }
 }
 
-/// Whether a value is built whose spelling is the body's, behind its tag.
+/// Whether a value is built whose spelling is the body's, behind its tag, or the refusal comes.
 pub(crate) fn is_built(
     alloc: Global,
     table: &Table,
     body: &Body,
     piece: usize,
 ) -> Result<bool, Memory> {
+    let id = TypeId(body.id);
     match read::<TreeBuilder>(alloc, table, body, piece) {
-        Ok(Some(value)) => is_respelled(alloc, table, body, &value),
-        Err(Stop::Memory) => Err(Memory),
-        _ => Ok(false),
+        Ok(Some(value)) if body.due.len() == 2 => {
+            is_spelled(alloc, table, id, &value, 1000, body.untagged())
+        }
+        Ok(_) => Ok(false),
+        Err(stop) => is_refusal(stop, &body.due),
     }
 }
 
-fn is_respelled(alloc: Global, table: &Table, body: &Body, value: &Value) -> Result<bool, Memory> {
-    let mut out = Vec::new(alloc);
-    match spell(alloc, table, TypeId(body.id), value, 1000, &mut out) {
-        Ok(()) => Ok(body.bytes.ends_with(&out) && out.len() + 1 >= body.bytes.len()),
-        Err(SpellFault::Memory) => Err(Memory),
-        Err(_) => Ok(false),
-    }
-}
-
-// Whether each builder is refused the body of the row so, whole and in pieces.
-fn is_refused(alloc: Global, table: &Table, row: &str) -> Result<bool, Memory> {
-    let body = body_of(alloc, row)?;
-    let due = numbers(alloc, part(row, 3))?;
+/// Whether each builder reads the body, whole and in pieces, or is refused it so.
+pub(crate) fn is_read(alloc: Global, table: &Table, body: &Body) -> Result<bool, Memory> {
     for piece in PIECES {
-        if !is_refusal(read::<CheckBuilder>(alloc, table, &body, piece).err(), &due)?
-            || !is_refusal(read::<TreeBuilder>(alloc, table, &body, piece).err(), &due)?
-            || !is_refusal(read::<SkipBuilder>(alloc, table, &body, piece).err(), &due)?
+        if !is_counted(alloc, table, body, piece)?
+            || !is_built(alloc, table, body, piece)?
+            || !is_skipped(alloc, table, body, piece)?
         {
             return Ok(false);
         }
     }
     Ok(true)
-}
-
-/// Whether it is the refusal with this number, place and seen.
-pub(crate) fn is_refusal(stop: Option<Stop>, due: &[u64]) -> Result<bool, Memory> {
-    match stop {
-        Some(
-            Stop::Refused {
-                place,
-                seen,
-                reason,
-            },
-        ) => Ok(due == [u64::from(reason.number()), place, seen].as_slice()),
-        Some(Stop::Memory) => Err(Memory),
-        _ => Ok(false),
-    }
-}
-
-#[test]
-fn bodies_are_read(rt: HostRuntime) -> Result<(), Fail> {
-    let table = table(rt.alloc())?;
-    for row in ACCEPTED.trim().lines() {
-        assert!(rt; is_accepted(rt.alloc(), &table, row) == Ok(true), "{row}");
-    }
-    Ok(())
-}
-
-#[test]
-fn bodies_are_refused(rt: HostRuntime) -> Result<(), Fail> {
-    let table = table(rt.alloc())?;
-    for row in REFUSED.trim().lines() {
-        assert!(rt; is_refused(rt.alloc(), &table, row) == Ok(true), "{row}");
-    }
-    Ok(())
-}
-
-// Run by tools/refuse-memory with each allocation refused in turn: the right answer, or want of memory.
-#[test]
-fn reading_wants_memory(rt: HostRuntime) {
-    let Ok(table) = table(rt.alloc()) else {
-        return;
-    };
-    for row in ACCEPTED.trim().lines() {
-        assert!(rt; is_accepted(rt.alloc(), &table, row) != Ok(false), "{row}");
-    }
 }

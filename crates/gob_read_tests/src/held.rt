@@ -4,18 +4,16 @@ ghost use Rattle.std.specs.Prelude.{OnOk};
 ghost use Rattle.gob_types.specs.Defined.{types};
 ghost use Rattle.gob_read.specs.Calls.UnderWay.{FitsTable};
 
-use crate::types::table;
 use gob_num::Memory;
 use gob_read::{BodyReader, Builder, CheckBuilder, SkipBuilder, Stop, TreeBuilder};
-use gob_test_rows::{body_of, numbers, part, reader};
+use gob_test_rows::{Body, number, reader};
 use gob_types::Table;
 use std::alloc::Global;
-use std::test::*;
 
-// What, its type, the body, and what is held after each of its bytes by a builder of trees and by one that counts: each
-// part from its first byte on, the tag being in none, and by trees each raw byte. With the last byte the reader ends:
-// it has the value, or refuses the body.
-const ROWS: &str = "
+/// What, its type, the body, and what is held after each of its bytes by a builder of trees and by one that counts:
+/// each part from its first byte on, the tag being in none, and by trees each raw byte. With the last byte the reader
+/// ends: it has the value, or refuses the body.
+pub(crate) const ROWS: &str = "
 a complex number | 7 | 00 fe 31 40 fe f0 3f | 0 1 1 1 1 1 0 | 0 1 1 1 1 1 0
 a text | 6 | 00 05 68 65 6c 6c 6f | 0 1 2 3 4 5 0 | 0 1 1 1 1 1 0
 a text of as many as may be | 6 10 | 00 f8 ff ff ff ff ff ff ff ff | 0 1 1 1 1 1 1 1 1 0 | 0 1 1 1 1 1 1 1 1 0
@@ -23,24 +21,10 @@ V 1, Next (V 2, Next (no field)) | 66 | 01 02 01 01 04 01 00 00 00 | 1 2 2 3 4 4
 slices in slices | 68 | 00 01 01 01 01 01 01 02 00 00 | 0 1 2 3 4 5 6 7 8 0 | 0 1 2 3 4 5 6 7 8 0
 a map with a key twice | 69 | 00 02 01 61 02 01 61 04 | 0 1 2 3 4 5 6 0 | 0 1 2 2 3 4 4 0
 a field of each kind | 73 | 01 01 01 05 01 07 01 fe 31 40 01 02 67 6f 01 00 01 fe 31 40 00 01 00 01 02 00 09 01 02 01 \
-61 02 01 61 04 01 01 78 01 03 00 00 00 | 1 2 2 3 3 4 4 5 5 5 5 6 7 8 8 9 9 10 10 10 10 10 11 11 12 13 14 14 15 16 17 \
-18 19 20 21 21 22 23 23 24 25 25 0 | 1 2 2 3 3 4 4 5 5 5 5 6 6 6 6 7 7 8 8 8 8 8 9 9 10 11 12 12 13 14 14 15 16 16 17 \
-17 18 18 18 19 20 20 0
+    61 02 01 61 04 01 01 78 01 03 00 00 00 | 1 2 2 3 3 4 4 5 5 5 5 6 7 8 8 9 9 10 10 10 10 10 11 11 12 13 14 14 15 16 \
+    17 18 19 20 21 21 22 23 23 24 25 25 0 | 1 2 2 3 3 4 4 5 5 5 5 6 6 6 6 7 7 8 8 8 8 8 9 9 10 11 12 12 13 14 14 15 \
+    16 16 17 17 18 18 18 19 20 20 0
 ";
-
-// Whether this part of the row says what is held after each byte, and the reader has ended then.
-fn is_held<B: Builder>(
-    alloc: Global,
-    table: &Table,
-    row: &str,
-    number: usize,
-) -> Result<bool, Stop> {
-    let body = body_of(alloc, row)?;
-    let mut reader: BodyReader<B> = reader(alloc, table, &body)?;
-    let held = held_after_each(alloc, table, &mut reader, &body.bytes)?;
-    let ended = reader.push(alloc, table, b"\x00").err() == Some(Stop::Failed);
-    Ok(ended && held == numbers(alloc, part(row, number))?)
-}
 
 fn held_after_each<B: Builder>(
     alloc: Global,
@@ -59,28 +43,43 @@ fn held_after_each<B: Builder>(
     Ok(held)
 }
 
-// Whether the row says what each builder holds.
-fn is_right(alloc: Global, table: &Table, row: &str) -> Result<bool, Stop> {
-    Ok(
-        is_held::<TreeBuilder>(alloc, table, row, 3)?
-            && is_held::<CheckBuilder>(alloc, table, row, 4)?
-            && holds_nothing(alloc, table, row)?,
-    )
-}
-
-// Whether a builder that keeps nothing holds nothing after each byte.
-fn holds_nothing(alloc: Global, table: &Table, row: &str) -> Result<bool, Stop> {
-    let body = body_of(alloc, row)?;
-    let mut reader: BodyReader<SkipBuilder> = reader(alloc, table, &body)?;
-    let held = held_after_each(alloc, table, &mut reader, &body.bytes)?;
-    Ok(held.iter().all(|held| *held == 0))
-}
-
-#[test]
-fn so_much_is_held_after_each_byte(rt: HostRuntime) -> Result<(), Fail> {
-    let table = table(rt.alloc())?;
-    for row in ROWS.trim().lines() {
-        assert!(rt; is_right(rt.alloc(), &table, row) == Ok(true), "{row}");
+// Whether these are the numbers of the text, or zeros where there is no text.
+fn are_numbers(numbers: &[u64], text: &str) -> bool {
+    let mut words = text.split_whitespace();
+    for found in numbers {
+        let word = words.next().unwrap_or("");
+        let due = if text.is_empty() { 0 } else { number(word, 0) };
+        if *found != due {
+            return false;
+        }
     }
-    Ok(())
+    words.next().is_none()
+}
+
+// Whether the text says what is held after each byte, and the reader has ended then.
+fn is_held<B: Builder>(
+    alloc: Global,
+    table: &Table,
+    body: &Body,
+    text: &str,
+) -> Result<bool, Stop> {
+    let mut reader: BodyReader<B> = reader(alloc, table, body)?;
+    let held = held_after_each(alloc, table, &mut reader, &body.bytes)?;
+    let ended = reader.push(alloc, table, b"\x00").err() == Some(Stop::Failed);
+    Ok(ended && are_numbers(&held, text))
+}
+
+/// Whether the texts say what is held by builders of trees and of counts, and one that keeps nothing holds nothing.
+pub(crate) fn is_right(
+    alloc: Global,
+    table: &Table,
+    body: &Body,
+    by_trees: &str,
+    by_counts: &str,
+) -> Result<bool, Stop> {
+    Ok(
+        is_held::<TreeBuilder>(alloc, table, body, by_trees)?
+            && is_held::<CheckBuilder>(alloc, table, body, by_counts)?
+            && is_held::<SkipBuilder>(alloc, table, body, "")?,
+    )
 }

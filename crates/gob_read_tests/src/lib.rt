@@ -12,12 +12,10 @@
 #[cfg(test)]
 mod bodies;
 #[cfg(test)]
-mod deep;
-#[cfg(test)]
 mod held;
+#[cfg(test)]
+mod lists;
 #[cfg(test)]
 mod skipped;
 #[cfg(test)]
 mod to_nil;
-#[cfg(test)]
-mod types;

@@ -1,17 +1,14 @@
 //! Lists and maps of which parts stand whole in a piece. A reader that goes over these answers as one that counts them.
 
-use crate::bodies::is_refusal;
-use crate::types::table;
 use gob_num::Memory;
 use gob_read::{BodyReader, Builder, CheckBuilder, Progress, SkipBuilder, Stop};
-use gob_test_rows::{Body, body_of, numbers, part, reader};
+use gob_test_rows::{Body, is_refusal, reader};
 use gob_types::Table;
 use std::alloc::Global;
-use std::test::*;
 
-// What, its type, announced length and greatest depth, the bytes that come, and the refusal, if there is one: its
-// number, place and seen.
-const ROWS: &str = "
+/// What, its type, announced length and greatest depth, the bytes that come, and the refusal, if there is one: its
+/// number, place and seen.
+pub(crate) const ROWS: &str = "
 an empty slice of structs | 74 | 00 00
 three structs | 74 | 00 03 01 2c 01 42 00 02 42 00 01 02 01 04 00
 structs, some with no field | 74 | 00 05 00 00 01 fe 01 00 00 00 00
@@ -61,33 +58,27 @@ fn read_cut<B: Builder>(
     }
 }
 
-// Whether it is answered as the row says.
-fn is_answered(answer: Result<bool, Stop>, due: &[u64]) -> Result<bool, Memory> {
-    match answer {
-        Ok(whole) => Ok(whole && due.is_empty()),
-        Err(stop) => is_refusal(Some(stop), due),
+// Whether the body, cut there, is answered as is due.
+fn is_answered<B: Builder>(
+    alloc: Global,
+    table: &Table,
+    body: &Body,
+    at: usize,
+) -> Result<bool, Memory> {
+    match read_cut::<B>(alloc, table, body, at) {
+        Ok(is_whole) => Ok(is_whole && body.due.is_empty()),
+        Err(stop) => is_refusal(stop, &body.due),
     }
 }
 
-// Whether both builders answer so, wherever the body is cut.
-fn is_right(alloc: Global, table: &Table, row: &str) -> Result<bool, Memory> {
-    let body = body_of(alloc, row)?;
-    let due = numbers(alloc, part(row, 3))?;
+/// Whether both builders answer so, wherever the body is cut.
+pub(crate) fn is_skipped(alloc: Global, table: &Table, body: &Body) -> Result<bool, Memory> {
     for at in 0..=body.bytes.len() {
-        if !is_answered(read_cut::<SkipBuilder>(alloc, table, &body, at), &due)?
-            || !is_answered(read_cut::<CheckBuilder>(alloc, table, &body, at), &due)?
+        if !is_answered::<SkipBuilder>(alloc, table, body, at)?
+            || !is_answered::<CheckBuilder>(alloc, table, body, at)?
         {
             return Ok(false);
         }
     }
     Ok(true)
-}
-
-#[test]
-fn whole_parts_are_skipped(rt: HostRuntime) -> Result<(), Fail> {
-    let table = table(rt.alloc())?;
-    for row in ROWS.trim().lines() {
-        assert!(rt; is_right(rt.alloc(), &table, row) == Ok(true), "{row}");
-    }
-    Ok(())
 }

@@ -1,24 +1,22 @@
 //! Bodies read up to the number of an interface, which is filled then.
 
-use crate::types::table;
 use gob_num::Memory;
 use gob_read::{BodyReader, CheckBuilder, Counts, Progress, Reached, Stop};
-use gob_test_rows::{Body, body_of, bytes_of, numbers, part, reader};
+use gob_test_rows::{Body, bytes_of, reader};
 use gob_types::Table;
 use std::alloc::Global;
-use std::test::*;
 
-// What, its type, the body with 0 for what fills its interface, the bytes that come up to what fills it and some of
-// that, and what is due: the offset of the interface, and the parts and raw bytes of the body.
-const ROWS: &str = "
-nil | 8 | 00 00 | 00 00 | 1 1 0
-an int | 8 | 00 00 | 00 03 69 6e 74 04 02 00 0a | 1 1 0
-a field, of which nothing comes | 75 | 01 02 01 00 01 08 00 | 01 02 01 | 3 4 0
-a field, of which a name comes | 75 | 01 02 01 00 01 08 00 | 01 02 01 09 6d 61 69 6e 2e 57 72 61 70 | 3 4 0
-a bad number in a field | 75 | 01 02 01 00 01 08 00 | 01 02 01 f7 | 3 4 0
-the last field | 75 | 02 00 00 | 02 03 69 6e 74 | 1 2 0
-an element | 76 | 00 01 00 | 00 01 03 69 6e 74 | 2 2 0
-behind a key | 77 | 00 01 02 67 6f 00 | 00 01 02 67 6f 03 | 5 3 2
+/// What, its type, the body with 0 for what fills its interface, what is due: the offset of the interface, and the
+/// parts and raw bytes of the body; and the bytes that come up to what fills it and some of that.
+pub(crate) const ROWS: &str = "
+nil | 8 | 00 00 | 1 1 0 | 00 00
+an int | 8 | 00 00 | 1 1 0 | 00 03 69 6e 74 04 02 00 0a
+a field, of which nothing comes | 75 | 01 02 01 00 01 08 00 | 3 4 0 | 01 02 01
+a field, of which a name comes | 75 | 01 02 01 00 01 08 00 | 3 4 0 | 01 02 01 09 6d 61 69 6e 2e 57 72 61 70
+a bad number in a field | 75 | 01 02 01 00 01 08 00 | 3 4 0 | 01 02 01 f7
+the last field | 75 | 02 00 00 | 1 2 0 | 02 03 69 6e 74
+an element | 76 | 00 01 00 | 2 2 0 | 00 01 03 69 6e 74
+behind a key | 77 | 00 01 02 67 6f 00 | 5 3 2 | 00 01 02 67 6f 03
 ";
 
 // Where the reader stops before an interface, and what it makes of the body behind that. None where it goes past it.
@@ -46,27 +44,19 @@ fn filled(
     }
 }
 
-fn is_right(alloc: Global, table: &Table, row: &str) -> Result<bool, Memory> {
-    let body = body_of(alloc, row)?;
-    let come = bytes_of(alloc, part(row, 3))?;
-    let due = numbers(alloc, part(row, 4))?;
-    match filled(alloc, table, &body, &come) {
-        Ok(Some((place, counts))) => Ok(
-            due.get(0) == Some(&(place as u64))
-                && due.get(1) == Some(&counts.nodes)
-                && due.get(2) == Some(&counts.raw),
-        ),
-        Ok(None) => Ok(false),
+/// Whether the reader stops where it is due, when these bytes come, and makes of the body what is due.
+pub(crate) fn is_filled(
+    alloc: Global,
+    table: &Table,
+    body: &Body,
+    come: &str,
+) -> Result<bool, Memory> {
+    let come = bytes_of(alloc, come)?;
+    match filled(alloc, table, body, &come) {
+        Ok(Some((place, counts))) => {
+            Ok(body.due.as_slice() == [place as u64, counts.nodes, counts.raw].as_slice())
+        }
         Err(Stop::Memory) => Err(Memory),
-        Err(_) => Ok(false),
+        _ => Ok(false),
     }
-}
-
-#[test]
-fn interfaces_are_filled(rt: HostRuntime) -> Result<(), Fail> {
-    let table = table(rt.alloc())?;
-    for row in ROWS.trim().lines() {
-        assert!(rt; is_right(rt.alloc(), &table, row) == Ok(true), "{row}");
-    }
-    Ok(())
 }

@@ -3,20 +3,20 @@
 #![tactic(auto)]
 
 #[cfg(test)]
-mod deep_tests;
-#[cfg(test)]
 mod devices;
 #[cfg(test)]
-mod memory_tests;
+mod lists;
 #[cfg(test)]
-mod reading_tests;
+mod memory;
+#[cfg(test)]
+mod readers;
+#[cfg(test)]
+mod reading;
 #[cfg(test)]
 mod rows;
 #[cfg(test)]
-mod sessions;
-#[cfg(test)]
 mod values;
 #[cfg(test)]
-mod whole_tests;
+mod whole;
 #[cfg(test)]
-mod writing_tests;
+mod writing;

@@ -2,8 +2,9 @@
 //! how many items it begins with and what is refused behind these, and the limits: for an item, for the depth, for
 //! types and for the stream.
 
-use gob_stream::Limits;
+use gob_stream::{Fault, Limits, Refusal};
 use gob_test_rows::{number, part};
+use std::alloc::Global;
 
 /// The rows. Those without limits are read under the standard ones.
 pub(crate) const ROWS: &str = "
@@ -71,16 +72,70 @@ two items as long as the limit | 03 04 00 06 03 02 00 01 | 2 items | 18446744073
 a definition too many | 04 ff 81 00 00 | 0 items, refused 9 TooManyTypes at 1 seen 3 | 18446744073709551615 1000 0 9
 ";
 
+/// Items that are longer than what is read at a time.
+pub(crate) const LONG: &str = "
+a text of 10000 bytes | fe 27 15 0c 00 fe 27 10 61*10000 | 1 items
+";
+
+/// A stream whose items are given wherever it is cut in two.
+pub(crate) const IN_TWO: &str = "
+a definition and two values | POINT 07 ff 82 01 2c 01 42 00 03 04 00 06 | 3 items
+";
+
+/// Slices in slices, under limits that allow it.
+pub(crate) const COUNTED: &str = "
+2000 deep | LIST fe 07 d3 ff 82 00 01*1999 00 | 2 items | 18446744073709551615 65536 1 9223372036854775807
+2000 deep, as deep as may be | LIST fe 07 d3 ff 82 00 01*1999 00 | 2 items | \
+    18446744073709551615 2000 1 9223372036854775807
+2000 deep, limit 1000 | LIST fe 07 d3 ff 82 00 01*1999 00 | 1 items, refused 17 TooDeep at 1020 seen 1020 | \
+    18446744073709551615 1000 1 9223372036854775807
+65536 deep | LIST fd 01 00 03 ff 82 00 01*65535 00 | 2 items | 18446744073709551615 65536 1 9223372036854775807
+65537 deep | LIST fd 01 00 04 ff 82 00 01*65536 00 | 1 items, refused 17 TooDeep at 65557 seen 65557 | \
+    18446744073709551615 65536 1 9223372036854775807
+";
+
+/// Such slices that are built as trees, under limits that allow more than trees are made of.
+pub(crate) const BUILT: &str = "
+1000 deep | LIST fe 03 eb ff 82 00 01*999 00 | 2 items | 18446744073709551615 65536 1 9223372036854775807
+2000 deep | LIST fe 07 d3 ff 82 00 01*1999 00 | 1 items, refused 17 TooDeep at 1020 seen 1020 | \
+    18446744073709551615 65536 1 9223372036854775807
+65537 deep | LIST fd 01 00 04 ff 82 00 01*65536 00 | 1 items, refused 17 TooDeep at 1021 seen 1021 | \
+    18446744073709551615 65536 1 9223372036854775807
+";
+
 /// The limits of a row; none where there can be no such limits.
 pub(crate) fn limits_of(row: &str) -> Option<Limits> {
     let limits = part(row, 3);
     if limits.is_empty() {
         return Some(Limits::standard());
     }
-    Limits::new(
+    Limits::deep(
         number(limits, 0),
         number(limits, 1),
         number(limits, 2),
         number(limits, 3),
     )
+}
+
+fn is_printed(alloc: Global, refusal: Refusal, text: &str) -> bool {
+    match refusal.to_string(alloc) {
+        Ok(printed) => printed.as_str() == text,
+        Err(_) => false,
+    }
+}
+
+/// Whether these are so many items as the text says, and what it says is refused behind them.
+pub(crate) fn is_outcome(
+    alloc: Global,
+    text: &str,
+    items: usize,
+    answer: Result<(), Fault>,
+) -> bool {
+    let refused = text.split(" items, ").nth(1).unwrap_or("");
+    let is_stopped = match answer {
+        Ok(()) => refused.is_empty(),
+        Err(Fault::Refused(refusal)) => is_printed(alloc, refusal, refused),
+        Err(_) => false,
+    };
+    is_stopped && number(text, 0) == items as u64
 }

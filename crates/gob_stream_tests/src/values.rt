@@ -3,7 +3,7 @@
 use crate::devices::{Device, Small, Wrong};
 use gob_num::Memory;
 use gob_stream::{Limits, Output, StreamWriter, WriteFault};
-use gob_test_rows::{bytes_of, number, part, value_of};
+use gob_test_rows::Row;
 use gob_types::{Table, TypeId};
 use gob_value::{Value, spell};
 use std::alloc::Global;
@@ -18,6 +18,12 @@ the least int | 2 | -9223372036854775808 | 0b 04 00 f8 ff ff ff ff ff ff ff ff
 17.0 | 4 | float:4031000000000000 | 05 08 00 fe 31 40
 bytes | 5 | bytes:00,ff | 05 0a 00 02 00 ff
 text that is no UTF-8 | 6 | str:ff | 04 0c 00 01 ff
+17.0 and 0.0 | 7 | complex:4031000000000000,0 | 06 0e 00 fe 31 40 00
+a CommonType, Name Point, Id 65 | 18 | 'Point 65 fields:0,1 | 0c 24 01 05 50 6f 69 6e 74 01 ff 82 00
+";
+
+/// Two of them, of which one has a tag: each allocation of their writing by the spelling is refused.
+pub(crate) const SPELLED: &str = "
 17.0 and 0.0 | 7 | complex:4031000000000000,0 | 06 0e 00 fe 31 40 00
 a CommonType, Name Point, Id 65 | 18 | 'Point 65 fields:0,1 | 0c 24 01 05 50 6f 69 6e 74 01 ff 82 00
 ";
@@ -43,54 +49,6 @@ fn put_spelled<W: Write>(
     writer.put_spelled(alloc, output, TypeId(id), &spelling)
 }
 
-// The type of a row.
-fn id_of(row: &str) -> u64 {
-    number(part(row, 1), 0)
-}
-
-/// Whether the value of this row is written as its bytes. Nothing is written for want of memory.
-pub(crate) fn is_written(alloc: Global, row: &str) -> Result<bool, Memory> {
-    let value = value_of(alloc, part(row, 2))?;
-    let bytes = bytes_of(alloc, part(row, 3))?;
-    let mut small = Small::new();
-    let answer = put_one(alloc, &mut small, id_of(row), &value);
-    is_right(answer, &small, &bytes)
-}
-
-/// Whether it is so by its spelling.
-pub(crate) fn is_written_spelled(alloc: Global, row: &str) -> Result<bool, Memory> {
-    let value = value_of(alloc, part(row, 2))?;
-    let bytes = bytes_of(alloc, part(row, 3))?;
-    let mut small = Small::new();
-    let mut output = Output::new(&mut small);
-    let answer = put_spelled(alloc, &mut output, id_of(row), &value);
-    drop(output);
-    is_right(answer, &small, &bytes)
-}
-
-/// Whether the writing of the value of this row by its spelling, a byte at a time, ends with the write behind so many
-/// of its bytes, which goes wrong so and is counted. None goes wrong behind all of them.
-pub(crate) fn is_cut_spelled(
-    alloc: Global,
-    row: &str,
-    out: usize,
-    wrong: Wrong,
-) -> Result<bool, Memory> {
-    let value = value_of(alloc, part(row, 2))?;
-    let bytes = bytes_of(alloc, part(row, 3))?;
-    let mut device = Device::slow(alloc, (out as u64).saturating_add(1), wrong);
-    let mut output = Output::new(&mut device);
-    let answer = put_spelled(alloc, &mut output, id_of(row), &value);
-    let failures = output.failures();
-    drop(output);
-    let is_told = if out < bytes.len() {
-        answer == Err(WriteFault::Write) && failures == 1
-    } else {
-        answer.is_ok() && failures == 0
-    };
-    Ok(is_told && bytes.get(..out) == Some(device.taken.as_slice()))
-}
-
 // Whether these bytes were written, or none for want of memory.
 fn is_right(answer: Result<(), WriteFault>, small: &Small, bytes: &[u8]) -> Result<bool, Memory> {
     match answer {
@@ -98,4 +56,48 @@ fn is_right(answer: Result<(), WriteFault>, small: &Small, bytes: &[u8]) -> Resu
         Err(WriteFault::Memory) if small.taken() == Some(&[]) => Err(Memory),
         Err(_) => Ok(false),
     }
+}
+
+/// Whether the row's value is written as its bytes. Nothing is written for want of memory.
+pub(crate) fn is_written(alloc: Global, row: &Row) -> Result<bool, Memory> {
+    let mut small = Small::new();
+    let answer = put_one(alloc, &mut small, row.number(0), &row.value);
+    is_right(answer, &small, &row.bytes)
+}
+
+/// Whether it is so by its spelling.
+pub(crate) fn is_written_spelled(alloc: Global, row: &Row) -> Result<bool, Memory> {
+    let mut small = Small::new();
+    let answer = put_spelled(
+        alloc,
+        &mut Output::new(&mut small),
+        row.number(0),
+        &row.value,
+    );
+    is_right(answer, &small, &row.bytes)
+}
+
+// Whether the writing of the row's value by its spelling, a byte at a time, ends with the write behind so many of its
+// bytes, which goes wrong so and is counted. None goes wrong behind all of them.
+fn is_cut(alloc: Global, row: &Row, out: usize, wrong: Wrong) -> bool {
+    let mut device = Device::slow(alloc, (out as u64).saturating_add(1), wrong);
+    let mut output = Output::new(&mut device);
+    let answer = put_spelled(alloc, &mut output, row.number(0), &row.value);
+    let failures = output.failures();
+    let is_told = if out < row.bytes.len() {
+        answer == Err(WriteFault::Write) && failures == 1
+    } else {
+        answer.is_ok() && failures == 0
+    };
+    is_told && row.bytes.get(..out) == Some(device.taken.as_slice())
+}
+
+/// Whether it ends so behind each number of bytes, of all of them too.
+pub(crate) fn is_cut_anywhere(alloc: Global, row: &Row, wrong: Wrong) -> bool {
+    for out in 0..=row.bytes.len() {
+        if !is_cut(alloc, row, out, wrong) {
+            return false;
+        }
+    }
+    true
 }

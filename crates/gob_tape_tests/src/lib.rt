@@ -14,17 +14,13 @@
 #![tactic(auto)]
 
 #[cfg(test)]
-mod deep;
-#[cfg(test)]
 mod flat;
 #[cfg(test)]
-mod summed;
+mod lists;
 pub mod sums;
 #[cfg(test)]
 mod tapes;
 #[cfg(test)]
 mod tidied;
-#[cfg(test)]
-mod types;
 #[cfg(test)]
 mod views;

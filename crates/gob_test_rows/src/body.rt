@@ -1,10 +1,6 @@
 //! Bodies to read.
 
-use gob_num::Memory;
-use std::alloc::Global;
-
-/// A body, or as much of one as comes.
-#[derive(Drop)]
+/// A body, or as much of one as comes, and what is due of it.
 pub struct Body {
     /// The type of its value.
     pub id: u64,
@@ -14,23 +10,30 @@ pub struct Body {
     pub depth: u64,
     /// The bytes that come.
     pub bytes: Vec<u8>,
+    /// What is due, in numbers: what they say is the list's.
+    pub due: Vec<u64>,
+}
+
+// Not derived, so that a drop is one call in the proofs of what owns one.
+impl Drop for Body {
+    fn drop(self) {
+        let Body {
+            id: _,
+            length: _,
+            depth: _,
+            bytes: _,
+            due: _,
+        } = self;
+    }
 }
 
 impl Body {
-    /// The body of so many slices, each but the innermost with the next one as its element. The type is a slice of
-    /// itself.
-    pub fn nested(alloc: Global, id: u64, slices: u64, depth: u64) -> Result<Body, Memory> {
-        let mut bytes = Vec::new(alloc);
-        bytes.push(0)?;
-        for _ in 1..slices {
-            bytes.push(1)?;
+    /// The bytes of its value: those behind the tag, unless it is a struct's, which has none and begins with no 0 but
+    /// that at its end.
+    pub fn untagged(&self) -> &[u8] {
+        match self.bytes.split_first() {
+            Some((0, value)) if !value.is_empty() => value,
+            _ => &self.bytes,
         }
-        bytes.push(0)?;
-        Ok(Body {
-            id,
-            length: bytes.len() as u64,
-            depth,
-            bytes,
-        })
     }
 }

@@ -1,15 +1,17 @@
-//! What tests share: rows in the notation of docs/FORMAT.md, with values and bodies, tables of types, and the reading
-//! of bodies in pieces.
+//! What tests share: rows in the notation of docs/FORMAT.md, with types, values and bodies, the spelling of values, and
+//! the reading of bodies in pieces.
 #![tactic(auto)]
 
 mod body;
-mod form;
 mod reading;
 mod row;
+mod spelling;
+mod types;
 mod value;
 
 pub use body::Body;
-pub use form::{Form, table_of};
-pub use reading::{read, reader};
-pub use row::{body_of, bytes_of, number, numbers, part};
+pub use reading::{is_refusal, read, reader};
+pub use row::{Row, body_of, bytes_of, number, numbers, part};
+pub use spelling::is_spelled;
+pub use types::{define, shape_of, table_of, type_of};
 pub use value::value_of;

@@ -5,6 +5,7 @@ ghost use Rattle.gob_types.specs.Defined.{types};
 ghost use Rattle.gob_read.specs.Calls.UnderWay.{HasReadBody};
 
 use crate::body::Body;
+use gob_num::Memory;
 use gob_read::{BodyReader, Builder, Progress, Stop};
 use gob_types::{NotReady, Table, TypeId};
 use std::alloc::Global;
@@ -45,4 +46,17 @@ pub fn read<B: Builder>(
         }
     }
     Ok(None)
+}
+
+/// Whether it is the refusal that is due: its number, its place and what was seen.
+pub fn is_refusal(stop: Stop, due: &[u64]) -> Result<bool, Memory> {
+    match stop {
+        Stop::Refused {
+            place,
+            seen,
+            reason,
+        } => Ok(due == [u64::from(reason.number()), place, seen].as_slice()),
+        Stop::Memory => Err(Memory),
+        Stop::Failed => Ok(false),
+    }
 }

@@ -8,8 +8,10 @@
 //! 1 2 fields:0,1                         a struct of two ints, by the numbers of its fields
 //! 1 2 3 many:3                           a list of three
 //! 'a 1 'b 2 pairs:2                      a map of two keys and their elements
+//! many:0 many:1*999                      an empty list in lists, 1000 deep
 //! ```
 
+use crate::row::repeated;
 use gob_value::Value;
 use std::alloc::{AllocError, Global};
 
@@ -17,10 +19,19 @@ use std::alloc::{AllocError, Global};
 pub fn value_of(alloc: Global, text: &str) -> Result<Value, AllocError> {
     let mut made = Vec::new(alloc);
     for word in text.split_whitespace() {
-        let value = made_of(alloc, &mut made, word)?;
-        made.push(value)?;
+        make(alloc, &mut made, word)?;
     }
     Ok(last(&mut made))
+}
+
+// Makes the values that a word says, each of those before it.
+fn make(alloc: Global, made: &mut Vec<Value>, word: &str) -> Result<(), AllocError> {
+    let (word, times) = repeated(word);
+    for _ in 0..times {
+        let value = made_of(alloc, made, word)?;
+        made.push(value)?;
+    }
+    Ok(())
 }
 
 // The last value that was made, or nil.

@@ -61,29 +61,41 @@ fn named(alloc: Global, name: &[u8]) -> Result<Step, AllocError> {
     Ok(Step::Named(Name::new(Vec::from_slice(alloc, name)?)))
 }
 
-fn next_v(alloc: Global) -> Result<Vec<Step>, AllocError> {
+// The steps that the words are: [] an element, {} a key, else a field of this name.
+fn path_of(alloc: Global, words: &[&[u8]]) -> Result<Vec<Step>, AllocError> {
     let mut path = Vec::new(alloc);
-    path.push(named(alloc, b"Next")?)?;
-    path.push(named(alloc, b"V")?)?;
+    for word in words {
+        match *word {
+            b"[]" => path.push(Step::Element)?,
+            b"{}" => path.push(Step::Key)?,
+            name => path.push(named(alloc, name)?)?,
+        }
+    }
     Ok(path)
 }
 
-fn no_text(alloc: Global) -> Result<Vec<Step>, AllocError> {
-    let mut path = Vec::new(alloc);
-    path.push(Step::Element)?;
-    path.push(Step::Key)?;
-    path.push(named(alloc, b"\xff\x0a")?)?;
-    Ok(path)
-}
+// Paths, why types clash there, and the lines.
+const CLASHES: [(&[&[u8]], ClashReason, &str); 3] = [
+    (
+        &[],
+        ClashReason::RepeatedName,
+        "gob: clash 31 RepeatedName at top",
+    ),
+    (
+        &[b"Next", b"V"],
+        ClashReason::DifferentKind,
+        "gob: clash 33 DifferentKind at .Next.V",
+    ),
+    (
+        &[b"[]", b"{}", b"\xff\x0a"],
+        ClashReason::DifferentLength,
+        "gob: clash 34 DifferentLength at []{}.0xff0a",
+    ),
+];
 
 // Whether a clash at the path has this line.
-fn is_clash(
-    alloc: Global,
-    path: Result<Vec<Step>, AllocError>,
-    reason: ClashReason,
-    line: &str,
-) -> bool {
-    match path {
+fn is_clash(alloc: Global, words: &[&[u8]], reason: ClashReason, line: &str) -> bool {
+    match path_of(alloc, words) {
         Ok(path) => is_said(alloc, &ToolFault::Clash { path, reason }, line, 1),
         Err(_) => false,
     }
@@ -91,14 +103,7 @@ fn is_clash(
 
 #[test]
 fn clashes_have_lines(rt: HostRuntime) {
-    let alloc = rt.alloc();
-    let line = "gob: clash 31 RepeatedName at top";
-    let is_right = is_clash(alloc, Ok(Vec::new(alloc)), ClashReason::RepeatedName, line);
-    assert!(rt; is_right, "{line}");
-    let line = "gob: clash 33 DifferentKind at .Next.V";
-    let is_right = is_clash(alloc, next_v(alloc), ClashReason::DifferentKind, line);
-    assert!(rt; is_right, "{line}");
-    let line = "gob: clash 34 DifferentLength at []{}.0xff0a";
-    let is_right = is_clash(alloc, no_text(alloc), ClashReason::DifferentLength, line);
-    assert!(rt; is_right, "{line}");
+    for (words, reason, line) in CLASHES {
+        assert!(rt; is_clash(rt.alloc(), words, reason, line), "{line}");
+    }
 }

@@ -1,9 +1,9 @@
 //! Runs of `take` over a large item, of which no tree is made.
 
+use crate::commands::{Command, is_run};
 use crate::devices::PieceReader;
-use crate::large::repeated;
-use crate::large_items::records;
-use crate::takes::is_taken;
+use crate::large::{RECORDS, repeated};
+use gob_stream::Limits;
 use std::alloc::{AllocError, Global};
 use std::test::*;
 
@@ -22,26 +22,30 @@ const HEAD_LINE: &[u8] = b"{\"type\":65,\"value\":[[]";
 // Behind the records stands an int, which clashes.
 const DUE: &[u8] = b"gob: clash 33 DifferentKind at top";
 
+// What, the wanted stream, and the text of each of the records.
+const ROWS: [(&str, &[u8], &[u8]); 2] = [
+    ("one field", B_ALONE, b",[[0,\"B\",\"x\\\"y\"]]"),
+    (
+        "another order",
+        B_AND_A,
+        b",[[0,\"B\",\"x\\\"y\"],[1,\"A\",5]]",
+    ),
+];
+
 // Whether the records are received as values of the wanted type, each with this text, from so many bytes a read.
 fn are_taken(alloc: Global, wanted: &[u8], text: &[u8], most: usize) -> Result<bool, AllocError> {
     let lines = repeated(alloc, HEAD_LINE, text, b"]}\n")?;
-    let reader = PieceReader::new(records(alloc)?, most, usize::MAX);
-    Ok(is_taken(alloc, wanted, reader, &lines, DUE))
+    let bytes = RECORDS.stream(alloc)?;
+    let (limits, reader) = (Limits::standard(), PieceReader::new(&bytes, most));
+    Ok(is_run(alloc, Command::Take(wanted), limits, reader, &lines, DUE))
 }
 
 #[test]
-fn a_large_item_is_taken(rt: HostRuntime) -> Result<(), Fail> {
-    let alloc = rt.alloc();
-    for most in [7usize, 65536] {
-        assert!(rt;
-            are_taken(alloc, B_ALONE, b",[[0,\"B\",\"x\\\"y\"]]", most)?,
-            "one field, {most} a read"
-        );
-        let text = b",[[0,\"B\",\"x\\\"y\"],[1,\"A\",5]]";
-        assert!(rt;
-            are_taken(alloc, B_AND_A, text, most)?,
-            "another order, {most} a read"
-        );
+fn a_large_item_is_taken(rt: HostRuntime) {
+    for (what, wanted, text) in ROWS {
+        for most in [7usize, 65536] {
+            let is_right = are_taken(rt.alloc(), wanted, text, most);
+            assert!(rt; is_right == Ok(true), "{what}, {most} a read");
+        }
     }
-    Ok(())
 }

@@ -3,13 +3,13 @@
 #![tactic(auto)]
 
 #[cfg(test)]
-mod check_faults;
-#[cfg(test)]
 mod checks;
 #[cfg(test)]
-mod devices;
+mod commands;
 #[cfg(test)]
-mod endings;
+mod device_faults;
+#[cfg(test)]
+mod devices;
 #[cfg(test)]
 mod faults;
 #[cfg(test)]
@@ -17,25 +17,23 @@ mod flushes;
 #[cfg(test)]
 mod large;
 #[cfg(test)]
-mod large_items;
-#[cfg(test)]
 mod large_rewrites;
+#[cfg(test)]
+mod large_shows;
 #[cfg(test)]
 mod large_takes;
 #[cfg(test)]
 mod lines;
 #[cfg(test)]
-mod nested;
+mod memory;
 #[cfg(test)]
-mod rewrite_faults;
+mod nested;
 #[cfg(test)]
 mod rewrites;
 #[cfg(test)]
 mod runs;
 #[cfg(test)]
 mod streams;
-#[cfg(test)]
-mod take_faults;
 #[cfg(test)]
 mod takes;
 #[cfg(test)]

@@ -7,6 +7,7 @@ ghost use Rattle.gob_stream.specs.Item.{puts, ItemMeans};
 ghost use Rattle.gob_tape.specs.Meaning.{Means};
 
 use crate::streams::EVERY;
+use gob_num::Memory;
 use gob_stream::{Input, Item, Limits, Session, read_stream};
 use gob_tape::{Tape, TapeBuilder};
 use gob_tool::{json_of, json_of_tape};
@@ -51,19 +52,18 @@ fn is_line(alloc: Global, item: &Item<Value>, table: &Table, line: &str) -> bool
     }
 }
 
-// The first line that isn't that of its item.
-fn first_wrong<'a>(
-    alloc: Global,
-    items: &[Item<Value>],
-    table: &Table,
-    lines: &'a str,
-) -> Option<&'a str> {
-    for (item, line) in items.iter().zip(lines.lines()) {
+// The first line that isn't that of its item, also where there are more or fewer items than lines.
+fn wrong_line(alloc: Global, items: &[Item<Value>], table: &Table) -> Option<&'static str> {
+    for (item, line) in items.iter().zip(BASE_LINES.lines()) {
         if !is_line(alloc, item, table, line) {
             return Some(line);
         }
     }
-    None
+    if items.len() == 20 {
+        None
+    } else {
+        Some("how many items")
+    }
 }
 
 // The items of `EVERY`, where memory suffices.
@@ -74,37 +74,35 @@ fn every(alloc: Global) -> Vec<Item<Value>> {
     items
 }
 
-#[test]
-fn items_of_each_shape_have_lines(rt: HostRuntime) -> Result<(), Fail> {
-    let table = Table::new(rt.alloc(), 0)?;
-    let items = every(rt.alloc());
-    assert!(rt; items.len() == 20, "how many items");
-    let wrong = first_wrong(rt.alloc(), &items, &table, BASE_LINES);
-    assert!(rt; wrong.is_none(), "{}", wrong.unwrap_or(""));
-    Ok(())
+// The first line that isn't that of its item of `EVERY`.
+fn wrong_line_of_every(alloc: Global) -> Result<Option<&'static str>, Memory> {
+    let table = Table::new(alloc, 0)?;
+    let items = every(alloc);
+    Ok(wrong_line(alloc, &items, &table))
 }
 
-// Whether the type has this line when it is defined.
-fn is_definition(alloc: Global, table: &Table, id: u64, line: &str) -> bool {
+#[test]
+fn items_of_each_shape_have_lines(rt: HostRuntime) {
+    let wrong = wrong_line_of_every(rt.alloc());
+    assert!(rt; wrong == Ok(None), "{wrong:?}");
+}
+
+// Whether the base type has this line when it is defined.
+fn is_definition(alloc: Global, id: u64, line: &str) -> Result<bool, Memory> {
+    let table = Table::new(alloc, 0)?;
     let item = Item::Define {
         id: TypeId(id),
         described: Value::Nil,
     };
-    is_line(alloc, &item, table, line)
+    Ok(is_line(alloc, &item, &table, line))
 }
 
 #[test]
-fn definitions_of_base_types_have_lines(rt: HostRuntime) -> Result<(), Fail> {
-    let table = Table::new(rt.alloc(), 0)?;
-    assert!(rt;
-        is_definition(rt.alloc(), &table, 18, COMMON_TYPE),
-        "CommonType"
-    );
-    assert!(rt;
-        is_definition(rt.alloc(), &table, 22, FIELD_TYPES),
-        "the slice of fieldType"
-    );
-    Ok(())
+fn definitions_of_base_types_have_lines(rt: HostRuntime) {
+    for (id, line) in [(18u64, COMMON_TYPE), (22, FIELD_TYPES)] {
+        let is_right = is_definition(rt.alloc(), id, line);
+        assert!(rt; is_right == Ok(true), "{line}");
+    }
 }
 
 // The items of `EVERY` with tapes for values, where memory suffices.
@@ -112,7 +110,6 @@ fn every_on_tapes(alloc: Global) -> Vec<Item<Tape>> {
     let mut items = Vec::new(alloc);
     if let Ok(mut session) = Session::<TapeBuilder>::new(alloc, Limits::standard()) {
         let _ = session.feed(alloc, EVERY, &mut items);
-        drop(session);
     }
     items
 }
@@ -138,13 +135,29 @@ fn is_line_of_tape(alloc: Global, item: &Item<Tape>, table: &Table, line: &str) 
     }
 }
 
-#[test]
-fn tapes_of_each_shape_have_lines(rt: HostRuntime) -> Result<(), Fail> {
-    let table = Table::new(rt.alloc(), 0)?;
-    let items = every_on_tapes(rt.alloc());
-    assert!(rt; items.len() == 20, "how many items");
+// The first line that isn't that of its item, also where there are more or fewer items than lines.
+fn wrong_line_of_tapes(alloc: Global, items: &[Item<Tape>], table: &Table) -> Option<&'static str> {
     for (item, line) in items.iter().zip(BASE_LINES.lines()) {
-        assert!(rt; is_line_of_tape(rt.alloc(), item, &table, line), "{line}");
+        if !is_line_of_tape(alloc, item, table, line) {
+            return Some(line);
+        }
     }
-    Ok(())
+    if items.len() == 20 {
+        None
+    } else {
+        Some("how many items")
+    }
+}
+
+// The first line that isn't that of its item of `EVERY`.
+fn wrong_line_of_every_tape(alloc: Global) -> Result<Option<&'static str>, Memory> {
+    let table = Table::new(alloc, 0)?;
+    let items = every_on_tapes(alloc);
+    Ok(wrong_line_of_tapes(alloc, &items, &table))
+}
+
+#[test]
+fn tapes_of_each_shape_have_lines(rt: HostRuntime) {
+    let wrong = wrong_line_of_every_tape(rt.alloc());
+    assert!(rt; wrong == Ok(None), "{wrong:?}");
 }

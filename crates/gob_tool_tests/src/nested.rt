@@ -9,7 +9,7 @@ const NEST: &[u8] = b"\x0d\xff\x81\x02\x01\x02\xff\x82\x00\x01\xff\x82\x00\x00";
 
 /// The definition of a slice of itself, and a value that is so many slices deep: each but the last begins with the
 /// byte 1, and the last is the byte 0.
-pub fn nested(alloc: Global, depth: u64) -> Result<Vec<u8>, Memory> {
+pub(crate) fn nested(alloc: Global, depth: u64) -> Result<Vec<u8>, Memory> {
     let mut bytes = NEST.to_vec(alloc)?;
     write_uint(alloc, depth.saturating_add(3), &mut bytes)?;
     bytes.extend_from_slice(b"\xff\x82\x00")?;
@@ -20,7 +20,13 @@ pub fn nested(alloc: Global, depth: u64) -> Result<Vec<u8>, Memory> {
     Ok(bytes)
 }
 
-/// The standard limits, but for values of the greatest depth of all.
-pub fn deep_limits() -> Option<Limits> {
-    Limits::deep(67108864, Limits::DEEPEST, 10000, 68719476736)
+/// The standard limits, but for values of the greatest depth of all where these are asked for.
+pub(crate) fn limits_of(is_deep: bool) -> Limits {
+    let standard = Limits::standard();
+    if is_deep {
+        let deepest = Limits::DEEPEST;
+        Limits::deep(67108864, deepest, 10000, 68719476736).unwrap_or(standard)
+    } else {
+        standard
+    }
 }

@@ -3,7 +3,7 @@
 use std::alloc::{AllocError, Global};
 
 /// Items of each shape.
-pub const EVERY: &[u8] = b"\
+pub(crate) const EVERY: &[u8] = b"\
     \x03\x02\x00\x01\
     \x0b\x04\x00\xf8\xff\xff\xff\xff\xff\xff\xff\xff\
     \x03\x06\x00\x07\
@@ -27,7 +27,7 @@ pub const EVERY: &[u8] = b"\
     \x06\xff\x8a\x00\x02\x0a\x0b";
 
 /// Their lines.
-pub const EVERY_LINES: &str = "\
+pub(crate) const EVERY_LINES: &str = "\
     {\"type\":1,\"value\":true}\n\
     {\"type\":2,\"value\":-9223372036854775808}\n\
     {\"type\":3,\"value\":7}\n\
@@ -50,22 +50,22 @@ pub const EVERY_LINES: &str = "\
     {\"type\":69,\"value\":{\"opaque\":\"0a0b\"}}\n";
 
 /// A struct, its value, and an int: items of 32, 8 and 4 bytes.
-pub const THREE: &[u8] = b"\
+pub(crate) const THREE: &[u8] = b"\
     \x1f\xff\x81\x03\x01\x01\x05\x50\x6f\x69\x6e\x74\x01\xff\x82\x00\
     \x01\x02\x01\x01\x58\x01\x04\x00\x01\x01\x59\x01\x04\x00\x00\x00\
     \x07\xff\x82\x01\x2c\x01\x42\x00\
     \x03\x04\x00\x06";
 
 /// Their lines.
-pub const THREE_LINES: &[u8] = b"\
+pub(crate) const THREE_LINES: &[u8] = b"\
     {\"define\":65,\"fields\":[[\"X\",2],[\"Y\",2]],\"kind\":\"struct\",\"name\":\"Point\"}\n\
     {\"type\":65,\"value\":[[0,\"X\",22],[1,\"Y\",33]]}\n\
     {\"type\":2,\"value\":3}\n";
 
 /// The value of the struct, and its line.
-pub const POINT_VALUE: &[u8] = b"\x07\xff\x82\x01\x2c\x01\x42\x00";
+pub(crate) const POINT_VALUE: &[u8] = b"\x07\xff\x82\x01\x2c\x01\x42\x00";
 
-pub const POINT_VALUE_LINE: &[u8] = b"{\"type\":65,\"value\":[[0,\"X\",22],[1,\"Y\",33]]}\n";
+pub(crate) const POINT_VALUE_LINE: &[u8] = b"{\"type\":65,\"value\":[[0,\"X\",22],[1,\"Y\",33]]}\n";
 
 /// The lines of a row, which have ` / ` between them, each with its line feed.
 pub(crate) fn lines_of(alloc: Global, text: &str) -> Result<Vec<u8>, AllocError> {

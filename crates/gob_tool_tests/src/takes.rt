@@ -1,12 +1,11 @@
 //! Values received as values of a type of another stream.
 
-use crate::endings::ends_so;
+use crate::commands::{Command, is_run};
 use crate::streams::lines_of;
-use gob_stream::{Input, Limits, Output};
+use gob_num::Memory;
+use gob_stream::Limits;
 use gob_test_rows::{bytes_of, part};
-use gob_tool::{ToolFault, run_take};
 use std::alloc::{AllocError, Global};
-use std::io::{Read, Write};
 use std::test::*;
 
 /// A struct of A and B, both int, and a value of A 1, B 2: items of 28 and 8 bytes.
@@ -26,33 +25,6 @@ pub(crate) const B_LINE: &[u8] = b"{\"type\":65,\"value\":[[0,\"B\",2]]}\n";
 pub(crate) const X_TWICE: &[u8] = b"\
     \x1b\xff\x81\x03\x01\x01\x01W\x01\xff\x82\x00\x01\x02\x01\x01X\x01\x04\x00\x01\x01X\x01\x04\x00\x00\x00\
     \x03\xff\x82\x00";
-
-// How a run over these devices ends.
-fn take<Q: Read + Drop, R: Read + Drop, W: Write + Drop>(
-    alloc: Global,
-    wanted: Q,
-    reader: R,
-    writer: W,
-) -> Result<(), ToolFault> {
-    let mut wanted = Input::new(wanted);
-    let mut input = Input::new(reader);
-    let mut output = Output::new(writer);
-    let limits = Limits::standard();
-    run_take(alloc, &mut wanted, &mut input, &mut output, limits)
-}
-
-/// Whether these readers give these lines, and the run ends by a fault of this line.
-pub(crate) fn is_taken<Q: Read + Drop, R: Read + Drop>(
-    alloc: Global,
-    wanted: Q,
-    reader: R,
-    lines: &[u8],
-    due: &[u8],
-) -> bool {
-    let mut held = Vec::new(alloc);
-    let result = take(alloc, wanted, reader, &mut held);
-    ends_so(alloc, &result, due) && held.as_slice() == lines
-}
 
 // What is received, the wanted stream, the input, the lines with ` / ` between them, and the line of the fault. A
 // stream stands as its bytes, or by its name here. Empty parts at the end of a row are left out.
@@ -102,18 +74,24 @@ fn stream_of(alloc: Global, text: &str) -> Result<Vec<u8>, AllocError> {
 }
 
 // Whether the run of the row writes its lines and ends by its fault.
-fn is_right(alloc: Global, row: &str) -> Result<bool, AllocError> {
+fn is_right(alloc: Global, row: &str) -> Result<bool, Memory> {
     let wanted = stream_of(alloc, part(row, 1))?;
     let bytes = stream_of(alloc, part(row, 2))?;
     let lines = lines_of(alloc, part(row, 3))?;
-    let due = part(row, 4).as_bytes();
-    Ok(is_taken(alloc, wanted.as_slice(), bytes.as_slice(), &lines, due))
+    let (limits, due) = (Limits::standard(), part(row, 4).as_bytes());
+    Ok(is_run(
+        alloc,
+        Command::Take(&wanted),
+        limits,
+        bytes.as_slice(),
+        &lines,
+        due,
+    ))
 }
 
 #[test]
-fn values_are_received_or_refused(rt: HostRuntime) -> Result<(), Fail> {
+fn values_are_received_or_refused(rt: HostRuntime) {
     for row in ROWS.trim().lines() {
-        assert!(rt; is_right(rt.alloc(), row)?, "{row}");
+        assert!(rt; is_right(rt.alloc(), row) == Ok(true), "{row}");
     }
-    Ok(())
 }

@@ -1,26 +1,15 @@
-//! What is tried of each command: readers and writers that fail in one of their calls, and want of memory.
+//! What is tried with devices that fail and with want of memory: each command over a short stream.
 
-use crate::devices::{SlowReader, SlowWriter, Trouble};
-use crate::endings::ends_so;
-use gob_stream::{Input, Limits, Output};
-use gob_tool::{ToolFault, run_check, run_rewrite, run_show, run_take};
-use std::alloc::Global;
-use std::io::{ErrorKind, Read, Write};
-use std::process::Abort;
-
-/// A command, with the wanted stream where it takes one.
-#[derive(Clone, Copy)]
-pub(crate) enum Command {
-    Show,
-    Check,
-    Rewrite,
-    Take(&'static [u8]),
-}
+use crate::commands::Command;
+use crate::streams::{THREE, THREE_LINES};
+use crate::takes::{A_AND_B, B_AND_C, B_LINE};
 
 /// What is tried: a command, and a stream that it goes through to the end.
 #[derive(Clone, Copy)]
 pub(crate) struct Trial {
-    pub(crate) command: Command,
+    /// What it is.
+    pub(crate) what: &'static str,
+    pub(crate) command: Command<'static>,
     pub(crate) stream: &'static [u8],
     /// All that is written.
     pub(crate) written: &'static [u8],
@@ -29,32 +18,9 @@ pub(crate) struct Trial {
     pub(crate) ends: &'static [(usize, usize)],
 }
 
-impl Command {
-    // How a run over these devices ends.
-    fn run<R: Read + Drop, W: Write + Drop>(
-        self,
-        alloc: Global,
-        reader: R,
-        writer: W,
-    ) -> Result<(), ToolFault> {
-        let mut input = Input::new(reader);
-        let mut output = Output::new(writer);
-        let limits = Limits::standard();
-        match self {
-            Command::Show => run_show(alloc, &mut input, &mut output, limits),
-            Command::Check => run_check(alloc, &mut input, &mut output, limits),
-            Command::Rewrite => run_rewrite(alloc, &mut input, &mut output, limits),
-            Command::Take(wanted) => {
-                let mut wanted = Input::new(wanted);
-                run_take(alloc, &mut wanted, &mut input, &mut output, limits)
-            }
-        }
-    }
-}
-
 impl Trial {
-    // What is written of so many bytes of the stream, behind which a reader fails.
-    fn written_within(&self, bytes: usize) -> &'static [u8] {
+    /// What is written of so many bytes of the stream, behind which a reader fails.
+    pub(crate) fn written_within(&self, bytes: usize) -> &'static [u8] {
         let mut count = 0usize;
         for (end, written) in self.ends {
             if *end <= bytes {
@@ -65,112 +31,54 @@ impl Trial {
     }
 }
 
-/// How readers fail.
-pub(crate) const KINDS: [ErrorKind; 2] = [ErrorKind::Interrupted, ErrorKind::Other];
-
-// What trouble writers make.
-const TROUBLES: [Trouble; 3] = [
-    Trouble::Error(ErrorKind::Interrupted),
-    Trouble::Error(ErrorKind::Other),
-    Trouble::TakesNothing,
+// The trials.
+const TRIALS: [Trial; 5] = [
+    Trial {
+        what: "three items shown: whole lines are written",
+        command: Command::Show,
+        stream: THREE,
+        written: THREE_LINES,
+        ends: &[(32, 72), (40, 116), (44, 137)],
+    },
+    Trial {
+        what: "three items counted: the line is written whole, or not at all",
+        command: Command::Check,
+        stream: THREE,
+        written: b"ok: 3 items, 1 types, 44 bytes\n",
+        ends: &[],
+    },
+    Trial {
+        what: "three tidy items written again: whole items are written",
+        command: Command::Rewrite,
+        stream: THREE,
+        written: THREE,
+        ends: &[(32, 32), (40, 40), (44, 44)],
+    },
+    Trial {
+        what: "a struct, a value of it with X 0 and Y 33, and an int: the value's tidy form is made from its bytes",
+        command: Command::Rewrite,
+        stream: b"\
+            \x1f\xff\x81\x03\x01\x01\x05\x50\x6f\x69\x6e\x74\x01\xff\x82\x00\
+            \x01\x02\x01\x01\x58\x01\x04\x00\x01\x01\x59\x01\x04\x00\x00\x00\
+            \x07\xff\x82\x01\x00\x01\x42\x00\
+            \x03\x04\x00\x06",
+        written: b"\
+            \x1f\xff\x81\x03\x01\x01\x05\x50\x6f\x69\x6e\x74\x01\xff\x82\x00\
+            \x01\x02\x01\x01\x58\x01\x04\x00\x01\x01\x59\x01\x04\x00\x00\x00\
+            \x05\xff\x82\x02\x42\x00\
+            \x03\x04\x00\x06",
+        ends: &[(32, 32), (40, 38), (44, 42)],
+    },
+    Trial {
+        what: "the value of A and B received as one of B and C: its line is written whole, or not at all",
+        command: Command::Take(B_AND_C),
+        stream: A_AND_B,
+        written: B_LINE,
+        ends: &[(36, 32)],
+    },
 ];
 
-// Whether this is written where a reader fails in this call, and the run ends by a fault of this line.
-fn reader_fails_so(
-    alloc: Global,
-    trial: &Trial,
-    reader: SlowReader,
-    written: &[u8],
-    due: &[u8],
-) -> bool {
-    let mut held = Vec::new(alloc);
-    let result = trial.command.run(alloc, reader, &mut held);
-    ends_so(alloc, &result, due) && held.as_slice() == written
-}
-
-/// Has readers fail once, in each call and behind the last one: what is due of the bytes before is written.
-pub(crate) fn readers_fail(rt: &impl Abort, alloc: Global, trial: &Trial) {
-    for kind in KINDS {
-        // A call for each byte, one for the end of the stream, and none behind it.
-        for fails_at in 0..=trial.stream.len() {
-            let reader = SlowReader::new(trial.stream, fails_at, kind);
-            let written = trial.written_within(fails_at);
-            let is_right = reader_fails_so(alloc, trial, reader, written, b"gob: read fault");
-            assert!(rt; is_right, "fails at {fails_at}");
-        }
-        let reader = SlowReader::new(trial.stream, trial.stream.len() + 1, kind);
-        let is_right = reader_fails_so(alloc, trial, reader, trial.written, b"");
-        assert!(rt; is_right, "fails behind the end");
-    }
-}
-
-// Whether a writer that makes trouble in this call ends the run so, and a byte was written in each call before.
-fn writer_fails_so(
-    alloc: Global,
-    trial: &Trial,
-    fails_at: usize,
-    trouble: Trouble,
-    due: &[u8],
-) -> bool {
-    let mut device = SlowWriter::new(alloc, fails_at, trouble, false);
-    let result = trial.command.run(alloc, trial.stream, &mut device);
-    let written = trial.written.get(..fails_at).unwrap_or(trial.written);
-    ends_so(alloc, &result, due) && device.held.as_slice() == written
-}
-
-/// Has writers fail once, in each call, of which there is one for each byte, and behind the last one.
-pub(crate) fn writers_fail(rt: &impl Abort, alloc: Global, trial: &Trial) {
-    let calls = trial.written.len();
-    for trouble in TROUBLES {
-        for fails_at in 0..calls {
-            let is_right = writer_fails_so(alloc, trial, fails_at, trouble, b"gob: write fault");
-            assert!(rt; is_right, "fails at {fails_at}");
-        }
-        for fails_at in [calls, calls + 1] {
-            let is_right = writer_fails_so(alloc, trial, fails_at, trouble, b"");
-            assert!(rt; is_right, "fails at {fails_at}, behind the end");
-        }
-    }
-}
-
-/// Whether a run over these bytes, whose writer fails to be flushed, ends by a fault of this line.
-pub(crate) fn flush_fails_so(alloc: Global, command: Command, bytes: &[u8], due: &[u8]) -> bool {
-    let mut device = SlowWriter::new(alloc, 1000, Trouble::TakesNothing, true);
-    let result = command.run(alloc, bytes, &mut device);
-    ends_so(alloc, &result, due)
-}
-
-/// Has a flush fail, which comes last: a run that is refused ends by the refusal all the same.
-pub(crate) fn flushes_fail(rt: &impl Abort, alloc: Global, trial: &Trial) {
-    let is_right = flush_fails_so(alloc, trial.command, trial.stream, b"gob: write fault");
-    assert!(rt; is_right, "behind three items");
-    let is_right = flush_fails_so(
-        alloc,
-        trial.command,
-        b"\x00",
-        b"gob: refused 5 Short at 1 seen 1",
-    );
-    assert!(rt; is_right, "behind a refusal");
-}
-
-/// Whether the run's result and what was written go together where each call may lack memory. The device takes memory
-/// too.
-pub(crate) fn is_right_without_memory(alloc: Global, trial: &Trial) -> bool {
-    let mut device = SlowWriter::new(alloc, 1000, Trouble::TakesNothing, false);
-    let result = trial.command.run(alloc, trial.stream, &mut device);
-    go_together(trial, &result, &device.held)
-}
-
-fn go_together(trial: &Trial, ended: &Result<(), ToolFault>, written: &[u8]) -> bool {
-    match ended {
-        Ok(()) => written == trial.written,
-        Err(ToolFault::Memory) => is_begun(trial, written),
-        Err(ToolFault::Write) => true,
-        Err(_) => false,
-    }
-}
-
-// Whether that is written of fewer bytes than the stream has.
-fn is_begun(trial: &Trial, written: &[u8]) -> bool {
-    (0..trial.stream.len()).any(|bytes| trial.written_within(bytes) == written)
+/// The trials.
+pub(crate) fn trials() -> [Trial; 5] {
+    TRIALS
 }

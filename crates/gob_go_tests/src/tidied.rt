@@ -1,14 +1,14 @@
 //! The tidy forms of items: what Go wrote is tidy, and rows that were worked out by hand.
 
-use crate::again::write_items;
-use crate::streams::{GO_STREAMS, STREAMS};
-use gob_go::GoSession;
+use crate::putting::put_all;
+use gob_go::{GoItem, GoSession};
 use gob_go_tidy::tidy_item;
+use gob_go_writer::PutFault;
 use gob_num::Memory;
 use gob_stream::Limits;
 use gob_test_rows::{bytes_of, part};
+use gob_types::Table;
 use std::alloc::Global;
-use std::test::Fail;
 
 // What, a stream, and the stream of its items in their tidy form. Type 65 is Outer { N int, I interface, M int } where
 // it isn't a list or a map; type 66 is Reg { A int }, or Outer, or a slice of it.
@@ -48,63 +48,42 @@ zeros in two elements whose interfaces hold ints | 25 ff 81 03 01 01 05 4f 75 74
 00 00 02 01 62 04 02 00 04 01 06 00
 ";
 
+/// The rows that were worked out by hand.
+pub(crate) fn by_hand() -> &'static str {
+    ROWS
+}
+
+// Gives each of the items its tidy form.
+fn tidy_all(alloc: Global, table: &Table, items: &mut [GoItem]) -> Result<(), Memory> {
+    for item in items {
+        tidy_item(alloc, table, item)?;
+    }
+    Ok(())
+}
+
 // The items of a stream, tidied and written.
-fn tidied(alloc: Global, bytes: &[u8]) -> Result<Vec<u8>, Memory> {
+fn tidied(alloc: Global, bytes: &[u8]) -> Result<Vec<u8>, PutFault> {
     let mut session = GoSession::new(alloc, Limits::standard())?;
     let mut items = Vec::new(alloc);
-    let Ok(()) = session.feed(alloc, bytes, &mut items) else {
-        return Err(Memory);
-    };
-    let mut tidy = Vec::new(alloc);
-    for mut item in items {
-        tidy_item(alloc, session.table(), &mut item)?;
-        tidy.push(item)?;
-    }
-    write_items(alloc, &tidy)
+    let _ = session.feed(alloc, bytes, &mut items);
+    tidy_all(alloc, session.table(), items.as_mut_slice())?;
+    put_all(alloc, &items, Limits::standard())
 }
 
-// Whether the tidy form of the stream of a row, which is its second part, are these bytes.
-fn becomes(alloc: Global, row: &str, due: &[u8]) -> Result<bool, Memory> {
+// Whether the tidy form of these bytes are those.
+fn becomes(alloc: Global, bytes: &[u8], due: &[u8]) -> Result<bool, PutFault> {
+    Ok(tidied(alloc, bytes)?.as_slice() == due)
+}
+
+/// Whether the stream of a row is tidy.
+pub(crate) fn is_tidy(alloc: Global, row: &str) -> Result<bool, PutFault> {
     let bytes = bytes_of(alloc, part(row, 1))?;
-    Ok(tidied(alloc, &bytes)?.as_slice() == due)
+    becomes(alloc, &bytes, &bytes)
 }
 
-// The first of the rows whose stream isn't tidy, or else nothing.
-fn untidy<'a>(alloc: Global, rows: &'a str) -> Result<&'a str, Memory> {
-    for row in rows.trim().split("\n\n") {
-        let bytes = bytes_of(alloc, part(row, 1))?;
-        if !becomes(alloc, row, &bytes)? {
-            return Ok(row);
-        }
-    }
-    Ok("")
-}
-
-// The first of the rows that aren't right, or else nothing.
-fn wrong<'a>(alloc: Global, rows: &'a str) -> Result<&'a str, Memory> {
-    for row in rows.trim().split("\n\n") {
-        let due = bytes_of(alloc, part(row, 2))?;
-        if !becomes(alloc, row, &due)? {
-            return Ok(row);
-        }
-    }
-    Ok("")
-}
-
-#[test]
-fn what_go_wrote_is_tidy(rt: HostRuntime) -> Result<(), Fail> {
-    assert_eq!(rt; untidy(rt.alloc(), GO_STREAMS)?, "");
-    Ok(())
-}
-
-#[test]
-fn what_go_wrote_without_held_values_is_tidy(rt: HostRuntime) -> Result<(), Fail> {
-    assert_eq!(rt; untidy(rt.alloc(), STREAMS)?, "");
-    Ok(())
-}
-
-#[test]
-fn zeros_are_left_out_at_each_level(rt: HostRuntime) -> Result<(), Fail> {
-    assert_eq!(rt; wrong(rt.alloc(), ROWS)?, "");
-    Ok(())
+/// Whether the tidy form of the stream of a row by hand is the stream that is due.
+pub(crate) fn is_tidied(alloc: Global, row: &str) -> Result<bool, PutFault> {
+    let bytes = bytes_of(alloc, part(row, 1))?;
+    let due = bytes_of(alloc, part(row, 2))?;
+    becomes(alloc, &bytes, &due)
 }

@@ -1,14 +1,12 @@
 //! Items that are hoisted: by hand, and those of Go's streams.
 
-use crate::again::write_items;
-use crate::streams::GO_STREAMS;
-use gob_go::{Filled, GoItem, GoSession};
-use gob_go_writer::hoist_item;
+use crate::putting::{items_of, put_all};
+use gob_go::{Filled, GoItem};
+use gob_go_writer::{PutFault, hoist_item};
 use gob_num::Memory;
 use gob_stream::Limits;
 use gob_test_rows::{bytes_of, part};
 use std::alloc::Global;
-use std::test::Fail;
 
 // What, a stream, and the stream of its items as they are hoisted, worked out by hand. An empty line stands between two
 // rows.
@@ -32,37 +30,32 @@ two fillings | 0c ff 81 02 01 02 ff 82 00 01 10 00 00 10 ff 82 00 02 01 61 04 02
 02 | 0c ff 81 02 01 02 ff 82 00 01 10 00 00 10 ff 82 00 02 01 61 04 02 00 02 01 61 04 02 00 02
 ";
 
-// The items of a stream.
-fn items_of(alloc: Global, bytes: &[u8]) -> Result<Vec<GoItem>, Memory> {
-    let mut session = GoSession::new(alloc, Limits::standard())?;
-    let mut items = Vec::new(alloc);
-    match session.feed(alloc, bytes, &mut items) {
-        Ok(()) => Ok(items),
-        Err(_) => Err(Memory),
-    }
+/// The rows that were worked out by hand.
+pub(crate) fn by_hand() -> &'static str {
+    HOISTED
 }
 
 // The items of a stream, hoisted.
 fn hoisted(alloc: Global, bytes: &[u8]) -> Result<Vec<GoItem>, Memory> {
     let mut out = Vec::new(alloc);
-    for item in items_of(alloc, bytes)? {
+    for item in items_of(alloc, bytes, Limits::standard())? {
         hoist_item(alloc, item, &mut out)?;
     }
     Ok(out)
 }
 
-// Whether the hoisted items of a row have the bytes that are due.
-fn is_due(alloc: Global, row: &str) -> Result<bool, Memory> {
-    let items = hoisted(alloc, &bytes_of(alloc, part(row, 1))?)?;
+/// Whether the hoisted items of a row by hand have the bytes that are due.
+pub(crate) fn is_hoisted(alloc: Global, row: &str) -> Result<bool, PutFault> {
+    let bytes = bytes_of(alloc, part(row, 1))?;
     let due = bytes_of(alloc, part(row, 2))?;
-    Ok(write_items(alloc, &items)?.as_slice() == due.as_slice())
+    let again = hoisted_bytes(alloc, &bytes)?;
+    Ok(again.as_slice() == due.as_slice())
 }
 
-#[test]
-fn items_are_hoisted_as_by_hand(rt: HostRuntime) {
-    for row in HOISTED.trim().split("\n\n") {
-        assert!(rt; is_due(rt.alloc(), row) == Ok(true), "{row}");
-    }
+// The bytes of the hoisted items of a stream.
+fn hoisted_bytes(alloc: Global, bytes: &[u8]) -> Result<Vec<u8>, PutFault> {
+    let items = hoisted(alloc, bytes)?;
+    put_all(alloc, &items, Limits::standard())
 }
 
 // Whether a definition stands in the value.
@@ -75,25 +68,23 @@ fn defines(value: &Filled) -> bool {
     false
 }
 
-// Whether the hoisted items of a row are read back, as many, and no definition stands in their values.
-fn stays_hoisted(alloc: Global, row: &str) -> Result<bool, Memory> {
-    let items = hoisted(alloc, &bytes_of(alloc, part(row, 1))?)?;
-    let bytes = write_items(alloc, &items)?;
-    let again = items_of(alloc, &bytes)?;
-    for item in &again {
+// Whether one stands in a value of the items.
+fn any_defines(items: &[GoItem]) -> bool {
+    for item in items {
         if let GoItem::Put { value, .. } = item {
             if defines(value) {
-                return Ok(false);
+                return true;
             }
         }
     }
-    Ok(again.len() == items.len())
+    false
 }
 
-#[test]
-fn items_of_go_are_hoisted(rt: HostRuntime) -> Result<(), Fail> {
-    for row in GO_STREAMS.trim().split("\n\n") {
-        assert!(rt; stays_hoisted(rt.alloc(), row) == Ok(true), "{row}");
-    }
-    Ok(())
+/// Whether the hoisted items of a row are read back, as many, and no definition stands in their values.
+pub(crate) fn stays_hoisted(alloc: Global, row: &str) -> Result<bool, PutFault> {
+    let bytes = bytes_of(alloc, part(row, 1))?;
+    let items = hoisted(alloc, &bytes)?;
+    let hoisted = put_all(alloc, &items, Limits::standard())?;
+    let again = items_of(alloc, &hoisted, Limits::standard())?;
+    Ok(again.len() == items.len() && !any_defines(&again))
 }

@@ -1,12 +1,10 @@
 //! The rows on reading, where each value that stands whole is passed: a session that passes none would keep its
 //! contract too.
 
-use crate::rows::{ROWS, limits_of};
-use gob_read::CheckBuilder;
+use gob_read::{CheckBuilder, Counts};
 use gob_stream::{Item, Limits, Session};
-use gob_test_rows::{bytes_of, number, part};
-use std::alloc::{AllocError, Global};
-use std::test::Fail;
+use gob_test_rows::number;
+use std::alloc::Global;
 
 // What came of the front of a stream: how many of its bytes were taken, and how many items they were.
 #[derive(Clone, Copy)]
@@ -40,10 +38,18 @@ fn further(
     let Ok(step) = session.step(alloc, rest) else {
         return None;
     };
-    match &step.item {
+    match definitions(&step.item) {
+        Some(items) => Some(beyond(prefix, step.used, items)),
+        None => None,
+    }
+}
+
+// How many definitions the item is; none where it is a value.
+fn definitions(item: &Option<Item<Counts>>) -> Option<u64> {
+    match item {
         Some(Item::Put { .. }) => None,
-        Some(Item::Define { .. }) => Some(beyond(prefix, step.used, 1)),
-        None => Some(beyond(prefix, step.used, 0)),
+        Some(Item::Define { .. }) => Some(1),
+        None => Some(0),
     }
 }
 
@@ -66,21 +72,9 @@ fn passed(alloc: Global, bytes: &[u8], limits: Limits) -> Prefix {
     prefix
 }
 
-// Whether the items of the row are read so, and up to their end where nothing is refused behind them.
-fn is_passed(alloc: Global, row: &str) -> Result<bool, AllocError> {
-    let bytes = bytes_of(alloc, part(row, 1))?;
-    let Some(limits) = limits_of(row) else {
-        return Ok(false);
-    };
-    let prefix = passed(alloc, &bytes, limits);
-    let is_refused = part(row, 2).contains("refused");
-    Ok(prefix.items == number(part(row, 2), 0) && (is_refused || prefix.bytes == bytes.len()))
-}
-
-#[test]
-fn values_that_stand_whole_are_passed(rt: HostRuntime) -> Result<(), Fail> {
-    for row in ROWS.trim().lines() {
-        assert!(rt; is_passed(rt.alloc(), row)?, "{row}");
-    }
-    Ok(())
+/// Whether the items are passed so, and up to their end where nothing is refused behind them.
+pub(crate) fn is_passed(alloc: Global, bytes: &[u8], limits: Limits, text: &str) -> bool {
+    let prefix = passed(alloc, bytes, limits);
+    let is_refused = text.contains("refused");
+    prefix.items == number(text, 0) && (is_refused || prefix.bytes == bytes.len())
 }

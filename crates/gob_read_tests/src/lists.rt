@@ -1,0 +1,106 @@
+//! The lists of rows, and who judges the rows of each.
+
+use crate::{bodies, held, skipped, to_nil};
+use gob_num::Memory;
+use gob_read::Stop;
+use gob_test_rows::{Body, body_of, part, table_of};
+use gob_types::Table;
+use std::alloc::Global;
+
+// A struct of two ints, one of an int and another such struct, an array of two ints, a slice of itself, a map from
+// strings to ints, an opaque type, a map from those slices to the first structs, a slice of uints, a struct with a
+// field of each kind, of which the last is the struct's own, a slice of the first structs, a struct of an int, an
+// interface and an int, a slice of interfaces, and a map from strings to interfaces.
+const TYPES: &str =
+    "65 struct A 2 B 2; 66 struct A 2 B 66; 67 array 2 2; 68 slice 68; 69 map 6 2; 70 opaque; 71 map 68 65;
+72 slice 3; 73 struct A 1 B 2 C 3 D 4 E 5 F 6 G 7 H 8 I 72 J 69 K 70 L 73; 74 slice 65; 75 struct A 2 B 8 C 2;
+76 slice 8; 77 map 6 8";
+
+// What is judged of a row.
+#[derive(Clone, Copy)]
+enum Judged {
+    Read,
+    Counted,
+    Built,
+    Skipped,
+    Filled,
+    Held,
+}
+
+// A list of rows.
+struct List(Judged, &'static str);
+
+static LISTS: [List; 7] = [
+    List(Judged::Read, bodies::ACCEPTED),
+    List(Judged::Read, bodies::REFUSED),
+    List(Judged::Counted, bodies::COUNTED),
+    List(Judged::Built, bodies::BUILT),
+    List(Judged::Skipped, skipped::ROWS),
+    List(Judged::Filled, to_nil::ROWS),
+    List(Judged::Held, held::ROWS),
+];
+
+// Whether the row's body is read as it says.
+fn is_as_said(
+    alloc: Global,
+    table: &Table,
+    judged: Judged,
+    text: &str,
+    body: &Body,
+) -> Result<bool, Memory> {
+    match judged {
+        Judged::Read => bodies::is_read(alloc, table, body),
+        Judged::Counted => bodies::is_counted(alloc, table, body, usize::MAX),
+        Judged::Built => bodies::is_built(alloc, table, body, usize::MAX),
+        Judged::Skipped => skipped::is_skipped(alloc, table, body),
+        Judged::Filled => to_nil::is_filled(alloc, table, body, part(text, 4)),
+        Judged::Held => {
+            match held::is_right(alloc, table, body, part(text, 3), part(text, 4)) {
+                Ok(is_right) => Ok(is_right),
+                Err(Stop::Memory) => Err(Memory),
+                Err(_) => Ok(false),
+            }
+        }
+    }
+}
+
+fn is_right(alloc: Global, table: &Table, judged: Judged, text: &str) -> Result<bool, Memory> {
+    let body = body_of(alloc, text)?;
+    is_as_said(alloc, table, judged, text, &body)
+}
+
+// The first row that isn't read as it says, or no text. Where memory may be refused want of it is no fault.
+fn wrong_row(alloc: Global, list: &List, may_want: bool) -> Result<&'static str, Memory> {
+    let List(judged, rows) = list;
+    let table = table_of(alloc, TYPES)?;
+    for row in rows.trim().lines() {
+        let answer = is_right(alloc, &table, *judged, row);
+        let is_wanting = may_want && answer.is_err();
+        if answer != Ok(true) && !is_wanting {
+            return Ok(row);
+        }
+    }
+    Ok("")
+}
+
+#[test]
+fn bodies_are_read_as_rows_say(rt: HostRuntime) {
+    for list in &LISTS {
+        let row = wrong_row(rt.alloc(), list, false).unwrap_or("want of memory");
+        assert!(rt; row.is_empty(), "{row}");
+    }
+}
+
+// Run by tools/refuse-memory with each allocation refused in turn: the right answer, or want of memory.
+#[test]
+fn reading_wants_memory(rt: HostRuntime) {
+    let row = wrong_row(rt.alloc(), &LISTS[0], true).unwrap_or("");
+    assert!(rt; row.is_empty(), "{row}");
+}
+
+// Run so too.
+#[test]
+fn deep_reading_wants_memory(rt: HostRuntime) {
+    let row = wrong_row(rt.alloc(), &LISTS[2], true).unwrap_or("");
+    assert!(rt; row.is_empty(), "{row}");
+}
