@@ -14,11 +14,12 @@ use std::test::*;
 const LIST: &str = "0c ff 81 02 01 02 ff 82 00 01 10 00 00";
 
 // What is put behind LIST: the type of a value, its skeleton, the limits where they aren't the standard ones, what
-// fills its nils, and the reason for which it is refused; * is any reason, and - none. A filling is the place of the
-// nil, the name, which is - where it has no bytes, and the type and the skeleton of what is held.
+// fills its nils, and the reason for which it is refused, - where it is put. A filling is the place of the nil, the
+// name, which is - where it has no bytes, and the type and the skeleton of what is held.
 const VALUES: &str = "
 70 | 00 |  |  | UndefinedType(70)
-18446744073709551615 | 00 |  |  | UndefinedType(18446744073709551615)
+9223372036854775807 | 00 |  |  | UndefinedType(9223372036854775807)
+9223372036854775808 | 00 |  |  | DoesNotFit
 2 |  |  |  | Short
 2 | 00 |  |  | Short
 2 | 01 02 |  |  | SingleTag
@@ -30,12 +31,17 @@ const VALUES: &str = "
 65 | 00 02 00 00 |  | 4 int 2 00 0a | DoesNotFit
 65 | 00 02 00 00 |  | 18446744073709551615 int 2 00 0a | DoesNotFit
 65 | 00 02 01 00 |  | 2 int 2 00 0a | DoesNotFit
-65 | 00 02 00 00 |  | 0 int 2 00 0a | *
-65 | 00 02 00 00 |  | 1 int 2 00 0a | *
-65 | 00 01 00 |  | 2 - 2 00 0a | *
-65 | 00 02 00 00 |  | 2 - 2 00 0a | *
+65 | 00 02 00 00 |  | 0 int 2 00 0a | SingleTag
+65 | 00 02 00 00 |  | 1 int 2 00 0a | Short
+65 | 00 01 00 |  | 2 - 2 00 0a | Extra
+65 | 00 02 00 00 |  | 2 - 2 00 0a | Short
 65 | 00 01 00 |  | 2 int 70 00 | UndefinedType(70)
-65 | 00 01 00 |  | 2 int 2 00 02 02 | *
+65 | 00 01 00 |  | 2 int 9223372036854775808 00 | DoesNotFit
+65 | 00 01 00 |  | 2 int 2 00 02 02 | Extra
+65 | 00 01 03 69 6e 74 04 02 00 0a |  |  | DoesNotFit
+65 | 00 01 03 69 6e 74 ff 83 02 01 02 ff 84 00 01 10 00 00 |  |  | Ended
+65 | 00 01 00 | 12 5 1 100 | 2 integer 2 00 0a | ItemTooLong
+65 | 00 01 00 | 20 4 1 100 | 2 W 16 02 01 02 ff 82 00 01 10 00 00 | TooDeep
 65 | 00 01 00 | 12 5 1 26 | 2 int 2 00 0a | -
 65 | 00 01 00 | 12 5 1 25 | 2 int 2 00 0a | StreamTooLong
 ";
@@ -85,11 +91,11 @@ fn value_of(alloc: Global, row: &str) -> Result<GoItem, PutFault> {
     })
 }
 
-// Whether this is the reason: * is any, and - none.
+// Whether this is the reason, which is - for none.
 fn is_reason(alloc: Global, reason: Option<Reason>, due: &str) -> bool {
     match reason {
         None => due == "-",
-        Some(reason) => due == "*" || is_printed(alloc, reason, due),
+        Some(reason) => is_printed(alloc, reason, due),
     }
 }
 
@@ -168,7 +174,9 @@ const DEFINITIONS: &str = "
 66 WrongId
 65 DefinedTwice(65)
 20 ReservedType(20)
-18446744073709551615 ReservedType(18446744073709551615)
+9223372036854775807 ReservedType(9223372036854775807)
+9223372036854775808 DoesNotFit
+0 DoesNotFit
 ";
 
 // The first of the items as the definition of another type.

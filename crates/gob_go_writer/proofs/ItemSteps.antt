@@ -1,121 +1,86 @@
--- The letters of an item.
-use Rattle.std.proofs.Common.{◌≡◌, ℕ, pos, ◌≤◌, List, ◌++◌, length, refl, sym, subst}
-use Rattle.gob_num.specs.Unsigned.{IsUnsigned, AreBytes}
+-- The letters of an item, and the spelling that they are.
+use Rattle.std.proofs.Common.{◌≡◌, ℕ, ◌<◌, ◌^◌, List, ◌∷◌, ◌++◌, refl, sym, subst, arith, to_z, w64}
+use Rattle.gob_num.specs.Spelled.{IsSpelled}
+use Rattle.gob_num.specs.Unsigned.{AreBytes}
 use Rattle.gob_num.specs.Signed.{IsSigned}
+use Rattle.gob_num.proofs.PublicLaws.{bytes_rest}
 use Rattle.gob_types.specs.declared.id.TypeId.{TypeId}
-use Rattle.gob_types.specs.Base.{base_table}
 use Rattle.gob_types.specs.Table.{Table}
 use Rattle.gob_value.specs.View.{view}
 use Rattle.gob_value.specs.declared.value.Value.{Value}
-use Rattle.gob_stream.specs.Bounds.{Bounds, greatest_depth}
-use Rattle.gob_filled.specs.Filled.{AreSegments, last_segment}
-use Rattle.gob_filled.specs.Stream.{FilledItem, IsFilledItem, of_definition, of_value}
-use Rattle.gob_filled.proofs.Items.{segments_of}
-use Rattle.gob_go.specs.Meaning.{ItemMeans, means_definition, means_value}
+use Rattle.gob_filled.specs.Filled.{cut, AreSegments, last_segment, next_segment}
 use Rattle.gob_go.specs.declared.filled.Filled.{Filled}
 use Rattle.gob_go.specs.declared.item.GoItem.{GoItem}
 use Rattle.gob_go.specs.declared.item.GoItem.TheVariants as item
-use Rattle.gob_go_writer.specs.Item.{IsGrown, IsItemOf}
-use Rattle.gob_go_writer.specs.Machine.Letters.{Takes, TakesSegments}
-use Rattle.gob_go_writer.specs.Machine.Parts.{AreOfDefinition, AreOfValue, IsItemUnder}
-use Rattle.gob_go_writer.specs.Machine.Parts.{SharesDescriptions}
+use Rattle.gob_go_writer.specs.Machine.Letters.{AreOfItem, of_definition, of_value, AreSpelledBytes, IsSegment}
+use Rattle.gob_go_writer.specs.Machine.Letters.{TakesSpelled}
+use Rattle.gob_go_writer.specs.Spelling.{SpellsDefinition, SpellsValue, IsSpelling}
+use Rattle.gob_go_writer.specs.Spelling as spelling
 use Rattle.gob_go_writer.specs.declared.segments.Segments.{Segments}
 use Rattle.gob_go_writer.proofs.LetterLaws.{takes_then}
+use Rattle.gob_go_writer.proofs.PartSteps.{small_number, type_number}
+
+-- bytes are one segment
+one_segment : {ls bytes : List ℕ} → AreBytes ls → AreSegments ls bytes → IsSegment ls bytes
+one_segment o (last_segment {c = c} s o' u) = record { count = c; are_bytes = o; counts = u; whole = refl }
+one_segment o (next_segment {ls = ls} s o' u k) =
+    absurd (let rest = bytes_rest s (cut ∷ ls) o in omega (arith, rest.0))
+
+pub letters_spelled : {T : Table} {kept : GoItem} {ls bytes : List ℕ} → AreOfItem T kept ls → AreSegments ls bytes
+    → IsSpelling T kept bytes
+letters_spelled {T = T} (of_definition {id = id} {described = described} d) k =
+    let one = one_segment d.are_bytes k in
+    subst (IsSpelling T (item.Define id described)) (sym one.whole) (spelling.of_definition d.spelled one.counts)
+letters_spelled (of_value n v) k = spelling.of_value n v k
 
 -- ---- a definition
 
-pub record DefinitionLetters (here : Table) (id : TypeId) (described : Value) (bytes : List ℕ) : Type 0 where
-  pub count : List ℕ
-  pub letters : List ℕ
-  pub counts : IsUnsigned (length letters) count
-  pub whole : bytes ≡ count ++ letters
-  pub are : AreOfDefinition here id (view described) letters
-
-pub definition_letters : {here : Table} {id : TypeId} {described : Value} {bytes : List ℕ}
-    → IsItemUnder here (item.Define id described) bytes → DefinitionLetters here id described bytes
-definition_letters {here = here} a = by a.is.means a.is.is a.is.grown a.shares a.is.shallow
-  where
-    by : {id : TypeId} {described : Value} {L : Bounds} {now T V : Table} {offset : ℕ} {i : FilledItem}
-        {bytes : List ℕ}
-        → ItemMeans now (item.Define id described) i → IsFilledItem base_table L T offset i bytes V → IsGrown V now
-        → SharesDescriptions now here → L.depth ≤ greatest_depth → DefinitionLetters here id described bytes
-    by {L = L} {now = now} {T = T} {V = V} means_definition (of_definition {c = c} {d = d} counts few short def) grown
-        shares shallow =
-        record {
-          count = c;
-          letters = d;
-          counts = counts;
-          whole = refl;
-          are = record {
-            limits = L;
-            before = T;
-            behind = V;
-            now = now;
-            defines = def;
-            grown = grown;
-            shares = shares;
-            shallow = shallow;
-          };
-        }
-
-pub definition_taken : {here : Table} {id : TypeId} {described : Value} {bytes : List ℕ} {old new : Segments}
-    (d : DefinitionLetters here id described bytes) → Takes old new d.letters → AreBytes d.letters
-    → TakesSegments old new bytes
-definition_taken d t o = record {
-  letters = d.letters;
-  takes = t;
-  are_segments = subst (AreSegments d.letters) (sym d.whole) (last_segment d.letters o d.counts);
+pub definition_taken : {T : Table} {kept : GoItem} {id : TypeId} {described : Value} {old new : Segments}
+    → kept ≡ item.Define id described
+    → TakesSpelled (AreSpelledBytes (SpellsDefinition T id (view described))) old new
+    → TakesSpelled (AreOfItem T kept) old new
+definition_taken {T = T} e t = record {
+  letters = t.letters;
+  spelled = subst (λ i. AreOfItem T i t.letters) (sym e) (of_definition t.spelled);
+  takes = t.takes;
 }
+
+pub no_definition : {T : Table} {kept : GoItem} {id : TypeId} {described : Value} → kept ≡ item.Define id described
+    → ¬ IsSpelled (SpellsDefinition T id (view described)) → ¬ IsSpelled (IsSpelling T kept)
+no_definition {T = T} {id = id} {described = described} e never s =
+    by (subst (λ i. IsSpelling T i s.bytes) e s.spelled)
+  where
+    by : {b : List ℕ} → IsSpelling T (item.Define id described) b → ⊥
+    by (spelling.of_definition {ls = ls} d u) = never (record { bytes = ls; spelled = d })
 
 -- ---- a value
 
-pub record ValueLetters (here : Table) (id : TypeId) (value : Filled) (bytes : List ℕ) : Type 0 where
-  pub number : List ℕ
-  pub letters : List ℕ
-  pub numbered : IsSigned (pos id.0) number
-  pub are : AreOfValue here value letters
-  pub are_segments : AreSegments (number ++ letters) bytes
-
-pub value_letters : {here : Table} {id : TypeId} {value : Filled} {bytes : List ℕ}
-    → IsItemUnder here (item.Put id value) bytes → ValueLetters here id value bytes
-value_letters {here = here} a = by a.is.means a.is.is a.is.grown a.shares a.is.shallow
-  where
-    by : {id : TypeId} {value : Filled} {L : Bounds} {now T V : Table} {offset : ℕ} {i : FilledItem} {bytes : List ℕ}
-        → ItemMeans now (item.Put id value) i → IsFilledItem base_table L T offset i bytes V → IsGrown V now
-        → SharesDescriptions now here → L.depth ≤ greatest_depth → ValueLetters here id value bytes
-    by {id = id} {L = L} {now = now} {T = T} {V = V} (means_value {w = w} m) (of_value {a = a} {ls = ls} may sg k cs)
-        grown shares shallow = record {
-          number = a;
-          letters = ls;
-          numbered = sg;
-          are = record {
-            limits = L;
-            before = T;
-            behind = V;
-            now = now;
-            type = id;
-            limit = L.depth;
-            value = w;
-            means = m;
-            spells = k;
-            grown = grown;
-            shares = shares;
-            shallow = shallow;
-          };
-          are_segments = segments_of cs;
-        }
-
-pub value_taken : {here : Table} {id : TypeId} {value : Filled} {bytes : List ℕ} {old mid new : Segments}
-    (v : ValueLetters here id value bytes) → Takes old mid v.number → Takes mid new v.letters
-    → TakesSegments old new bytes
-value_taken v t u = record {
-  letters = v.number ++ v.letters;
-  takes = takes_then t u;
-  are_segments = v.are_segments;
+pub value_taken : {T : Table} {kept : GoItem} {id : TypeId} {value : Filled} {old mid new : Segments}
+    → kept ≡ item.Put id value → id.0 < 2 ^ 63 → TakesSpelled (IsSigned (to_z w64 id.0)) old mid
+    → TakesSpelled (SpellsValue T value) mid new → TakesSpelled (AreOfItem T kept) old new
+value_taken {T = T} e small n v = record {
+  letters = n.letters ++ v.letters;
+  spelled = subst (λ i. AreOfItem T i (n.letters ++ v.letters)) (sym e)
+      (of_value (type_number small n.spelled) v.spelled);
+  takes = takes_then n.takes v.takes;
 }
 
--- ---- under the types that it is one of
+record ValueParts (T : Table) (id : TypeId) (value : Filled) : Type 0 where
+  pub small : id.0 < 2 ^ 63
+  pub spelled : IsSpelled (SpellsValue T value)
 
-pub under_itself : {here : Table} {kept : GoItem} {bytes : List ℕ} → IsItemOf here kept bytes
-    → IsItemUnder here kept bytes
-under_itself {here = here} a = record { now = here; is = a; shares = λ v b s. s }
+value_parts : {T : Table} {kept : GoItem} {id : TypeId} {value : Filled} → kept ≡ item.Put id value
+    → IsSpelled (IsSpelling T kept) → ValueParts T id value
+value_parts {T = T} {id = id} {value = value} e s = by (subst (λ i. IsSpelling T i s.bytes) e s.spelled)
+  where
+    by : {b : List ℕ} → IsSpelling T (item.Put id value) b → ValueParts T id value
+    by (spelling.of_value {ls = ls} n v k) =
+        record { small = small_number n; spelled = record { bytes = ls; spelled = v } }
+
+pub no_number : {T : Table} {kept : GoItem} {id : TypeId} {value : Filled} → kept ≡ item.Put id value
+    → ¬ (id.0 < 2 ^ 63) → ¬ IsSpelled (IsSpelling T kept)
+no_number e never s = never (value_parts e s).small
+
+pub no_value : {T : Table} {kept : GoItem} {id : TypeId} {value : Filled} → kept ≡ item.Put id value
+    → ¬ IsSpelled (SpellsValue T value) → ¬ IsSpelled (IsSpelling T kept)
+no_value e never s = never (value_parts e s).spelled

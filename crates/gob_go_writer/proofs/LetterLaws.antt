@@ -1,14 +1,12 @@
 -- Segments under way, step by step.
-use Rattle.std.proofs.Common.{◌≡◌, ℕ, ℤ, List, [], ◌∷◌, ◌++◌, length, sym, ap, subst, ◌∙◌, append_assoc}
+use Rattle.std.proofs.Common.{◌≡◌, ℕ, List, [], ◌∷◌, ◌++◌, length, refl, sym, ap, subst, ◌∙◌, append_assoc}
 use Rattle.std.proofs.lemmas.List.{append-nil}
 use Rattle.gob_num.specs.Unsigned.{IsUnsigned}
-use Rattle.gob_num.specs.Signed.{IsSigned}
 use Rattle.gob_num.specs.Spelled.{Appends}
-use Rattle.gob_num.proofs.PublicLaws.{signed_unique, unsigned_unique}
 use Rattle.gob_filled.specs.Filled.{cut, AreSegments, last_segment, next_segment}
-use Rattle.gob_filled.proofs.Unique.{one_framed}
 use Rattle.gob_go_writer.specs.Machine.Letters.{IsSegment, AreEnded, none_ended, one_ended, HasLetters, Takes}
-use Rattle.gob_go_writer.specs.Machine.Parts.{AreOfName}
+use Rattle.gob_go_writer.specs.Machine.Letters.{TakesSpelled}
+use Rattle.gob_go_writer.specs.Spelling.{SpellsName}
 use Rattle.gob_go_writer.specs.declared.segments.Segments.{Segments}
 
 -- segments that have ended, and others behind them
@@ -53,16 +51,18 @@ puts {s = s} {b = b} e f = record {
   };
 }
 
-pub puts_number : {s s' : Segments} {i : ℤ} {spelling : List ℕ} → s'.ended.items ≡ s.ended.items
-    → Appends (IsSigned i) s.last.items s'.last.items → IsSigned i spelling → Takes s s' spelling
-puts_number {s = s} e a sp = puts e (a.appended ∙ ap (λ b. s.last.items ++ b) (signed_unique a.spelled sp))
+pub puts_spelled : {s s' : Segments} {Spells : List ℕ → Type 0} → s'.ended.items ≡ s.ended.items
+    → Appends Spells s.last.items s'.last.items → TakesSpelled Spells s s'
+puts_spelled e a = record { letters = a.bytes; spelled = a.spelled; takes = puts e a.appended }
 
-pub puts_name : {s s' : Segments} {name m ls : List ℕ} → s'.ended.items ≡ s.ended.items
-    → Appends (IsUnsigned (length name)) s.last.items m → s'.last.items ≡ m ++ name → AreOfName name ls → Takes s s' ls
-puts_name {s = s} {name = name} e a f n = puts e (f ∙ ap (λ l. l ++ name) a.appended
-    ∙ append_assoc s.last.items a.bytes name
-    ∙ ap (λ b. s.last.items ++ (b ++ name)) (unsigned_unique a.spelled n.counts)
-    ∙ ap (λ l. s.last.items ++ l) (sym n.whole))
+pub puts_name : {s s' : Segments} {name m : List ℕ} → s'.ended.items ≡ s.ended.items
+    → Appends (IsUnsigned (length name)) s.last.items m → s'.last.items ≡ m ++ name
+    → TakesSpelled (SpellsName name) s s'
+puts_name {s = s} {name = name} e a f = record {
+  letters = a.bytes ++ name;
+  spelled = record { count = a.bytes; counts = a.spelled; whole = refl };
+  takes = puts e (f ∙ ap (λ l. l ++ name) a.appended ∙ append_assoc s.last.items a.bytes name);
+}
 
 -- ---- the end of a segment
 
@@ -81,12 +81,16 @@ cuts {s = s} a f = record {
 
 -- ---- all of them
 
-pub all_appended : {s : Segments} {new ls segments : List ℕ} (old : List ℕ)
-    → Appends (IsSegment s.last.items) (old ++ s.ended.items) new → HasLetters s ls → AreSegments ls segments
-    → new ≡ old ++ segments
-all_appended {s = s} old a h p =
+pub all_appended : {s : Segments} {new ls : List ℕ} (old : List ℕ)
+    → Appends (IsSegment s.last.items) (old ++ s.ended.items) new → HasLetters s ls
+    → Appends (AreSegments ls) old new
+all_appended {s = s} {ls = ls} old a h =
     let last = a.spelled in
     let whole : AreSegments (h.ended ++ s.last.items) (s.ended.items ++ (last.count ++ s.last.items)) =
     ended_before h.are_ended (last_segment s.last.items last.are_bytes last.counts) in
-    a.appended ∙ append_assoc old s.ended.items a.bytes
-    ∙ ap (λ l. old ++ l) (ap (λ b. s.ended.items ++ b) last.whole ∙ one_framed whole p (sym h.whole))
+    record {
+      bytes = s.ended.items ++ a.bytes;
+      spelled = subst (λ b. AreSegments ls (s.ended.items ++ b)) (sym last.whole)
+          (subst (λ l. AreSegments l (s.ended.items ++ (last.count ++ s.last.items))) (sym h.whole) whole);
+      appended = a.appended ∙ append_assoc old s.ended.items a.bytes;
+    }

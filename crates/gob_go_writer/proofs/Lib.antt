@@ -1,6 +1,7 @@
 pub mod LetterLaws
 pub mod PartSteps
 pub mod ValueSteps
+pub mod SpellingLaws
 pub mod ItemSteps
 pub mod AgainSteps
 pub mod AlikeLaws

@@ -2,20 +2,22 @@
 use Rattle.std.proofs.Common.{◌≡◌, ◌≢◌, ℕ, ◌<◌, ◌≤◌, List, [], ◌∷◌, ◌++◌, length, Result, Ok, Err, arith, refl}
 use Rattle.std.proofs.Common.{sym, ap, ◌∙◌, subst, length-append, IsErrAnd, false, get_or}
 use Rattle.std.proofs.lemmas.List.{append-nil}
-use Rattle.gob_num.specs.Spelled.{IsSpelled}
+use Rattle.gob_num.specs.Spelled.{Appends, IsSpelled}
 use Rattle.gob_num.proofs.PublicLaws.{unsigned_length}
 use Rattle.gob_types.specs.Base.{base_table}
 use Rattle.gob_types.specs.Defined.{Defined, types}
-use Rattle.gob_types.specs.Denial.{IsDenial}
+use Rattle.gob_types.specs.declared.reason.Reason.{Reason}
+use Rattle.gob_types.specs.declared.reason.Reason.TheVariants as reason
 use Rattle.gob_types.specs.Table.{Table}
 use Rattle.gob_types.specs.declared.denial.Denial.{Denial}
 use Rattle.gob_types.specs.declared.denial.Denial.TheVariants as denial
 use Rattle.gob_value.proofs.PublicLaws.{spells_on, spells_back}
 use Rattle.gob_stream.specs.Bounds.{Bounds, greatest_depth, within_trees}
 use Rattle.gob_stream.specs.declared.fault.Fault.{Fault}
+use Rattle.gob_stream.specs.declared.fault.Refusal.{Refusal}
 use Rattle.gob_stream.specs.declared.fault.Fault.TheVariants as reading
 use Rattle.gob_stream.proofs.Stream.WireLaws.{wire_ready}
-use Rattle.gob_filled.specs.Outcome.{FilledOutcome, the_end, refused, EndsFilled, at_the_end}
+use Rattle.gob_filled.specs.Outcome.{FilledEnding, FilledOutcome, the_end, refused, EndsFilled, at_the_end}
 use Rattle.gob_filled.specs.Stream.{FilledItem, IsFilledItem, of_definition, of_value, AreCounted, last_counted}
 use Rattle.gob_filled.specs.Stream.{next_counted, FilledStream, no_more}
 use Rattle.gob_filled.proofs.Outcomes.{one_outcome}
@@ -29,14 +31,17 @@ use Rattle.gob_go.specs.declared.stage.Stage.{Stage}
 use Rattle.gob_go.proofs.ItemsLaws.{Grown, grown_on, grown_keeps, item_grown, items_grown, last_of, longest, one_more}
 use Rattle.gob_go.proofs.ItemsLaws.{one_reading}
 use Rattle.gob_go.proofs.FinishSteps.{nothing_expects}
-use Rattle.gob_go_writer.specs.Calls.Writer.{HasReadWhole, IsNoItem, PutsItem}
+use Rattle.gob_go_writer.specs.Calls.Writer.{HasReadWhole, IsNoItem, IsRefused, PutsItem}
 use Rattle.gob_go_writer.specs.Machine.Alike.{AreAlike, ItemDescribed}
-use Rattle.gob_go_writer.specs.Machine.Parts.{IsItemUnder}
 use Rattle.gob_go_writer.specs.Machine.PutFaults.{fault_of_denial, fault_of_session}
 use Rattle.gob_go_writer.specs.Machine.ReadingBack.{ReadBackAnswers, ReadsBack}
+use Rattle.gob_go_writer.specs.Machine.Unfit.{IsUnfit}
+use Rattle.gob_go_writer.specs.PutRefusal.{RefusesPut, RefusesSpelling, refused_spelling, does_not_fit}
+use Rattle.gob_go_writer.specs.Spelling.{IsSpelling}
 use Rattle.gob_go_writer.specs.declared.put_fault.PutFault.{PutFault}
 use Rattle.gob_go_writer.specs.declared.writer.GoWriter.{GoWriter}
 use Rattle.gob_go_writer.proofs.AlikeLaws.{item_described}
+use Rattle.gob_go_writer.proofs.SpellingLaws.{item_spelled, one_kept}
 
 -- the fault that a `?` returns is the callee's, as the caller has it
 pub fault_passed : (r : Result (Unit {0}) PutFault) {f : PutFault} (P : Result (Unit {0}) PutFault → Type 0)
@@ -67,72 +72,76 @@ whole_outcome {T = T} {bytes = bytes} s = record {
 
 -- ---- an item that the stream could go on with
 
-pub item_under : {L : Bounds} {T U : Table} {offset : ℕ} {kept : GoItem} {i : FilledItem} {b : List ℕ}
+-- it is spelled under the types before it
+spelled_before : {L : Bounds} {T U : Table} {offset : ℕ} {kept : GoItem} {i : FilledItem} {b : List ℕ}
     → Grown base_table T → L.depth ≤ greatest_depth → ItemMeans U kept i → IsFilledItem base_table L T offset i b U
-    → IsItemUnder T kept b
-item_under {L = L} {T = T} {U = U} {offset = offset} {i = i} g low m h = record {
-  now = U;
-  is = record {
-    limits = L;
-    before = T;
-    behind = U;
-    offset = offset;
-    item = i;
-    means = m;
-    is = h;
-    grown = λ t s e. e;
-    shallow = low;
-  };
-  shares = λ v b sp. spells_on (grown_keeps g)
-      (spells_back (grown_keeps (grown_on g (item_grown h))) wire_ready sp);
-}
+    → IsSpelling T kept b
+spelled_before g low m h = item_spelled h m (λ t s e. e) (λ v b sp. spells_on (grown_keeps g)
+    (spells_back (grown_keeps (grown_on g (item_grown h))) wire_ready sp)) low
 
--- what is spelled of an item is its bytes, where any bytes are
 abbrev pub IsSpelledAs : SessionState → GoItem → (piece : List ℕ) → Type 0
-IsSpelledAs s kept piece = (b : List ℕ) → IsItemUnder (types s.types) kept b → piece ≡ b
-
--- with it the bytes are a stream of one item more
-pub record GoesOn (s : SessionState) (items : List FilledItem) (z : List ℕ) (i : FilledItem) (piece : List ℕ)
-    (U : Table)
-    : Type 0 where
-  pub stream : FilledStream base_table (within_trees s.limits) (items ++ i ∷ []) (z ++ piece) U
-  pub under : (kept : GoItem) → ItemMeans U kept i → IsItemUnder (types s.types) kept piece
+IsSpelledAs s kept piece = IsSpelling (types s.types) kept piece
 
 pub goes_on : {s : SessionState} {items : List FilledItem} {z piece b : List ℕ} {kept : GoItem} {i : FilledItem}
     {U : Table} → HasReadWhole s items z → IsSpelledAs s kept piece → ItemMeans U kept i
     → IsFilledItem base_table (within_trees s.limits) (types s.types) (length z) i b U
-    → GoesOn s items z i piece U
+    → FilledStream base_table (within_trees s.limits) (items ++ i ∷ []) (z ++ piece) U
 goes_on {s = s} {items = items} {z = z} {piece = piece} {b = b} {i = i} {U = U} w spelled m h =
     let L = within_trees s.limits in
     let low : L.depth ≤ greatest_depth = omega arith in
     let grown = items_grown w.stream in
-    let same : piece ≡ b = spelled b (item_under grown low m h) in
+    let same : piece ≡ b = one_kept spelled (spelled_before grown low m h) in
     let here : IsFilledItem base_table L (types s.types) (length z) i piece U =
     subst (λ b. IsFilledItem base_table L (types s.types) (length z) i b U) (sym same) h in
-    record {
-      stream = one_more w.stream (omega arith) here;
-      under = λ kept m. item_under grown low m here;
-    }
+    one_more w.stream (omega arith) here
 
--- ---- what is refused is no item
+-- ---- what is refused is no item, for one reason
+
+-- the bytes are refused
+refused_there : (s : SessionState) {kept : GoItem} {items : List FilledItem} (z piece : List ℕ) {R : Refusal}
+    → IsSpelledAs s kept piece → FilledOutcome base_table (within_trees s.limits) (z ++ piece) items (refused R)
+    → RefusesPut (within_trees s.limits) (types s.types) z kept R.reason
+refused_there s {items = items} z piece {R = R} spelled o = refused_spelling (record {
+  bytes = piece;
+  items = items;
+  refusal = R;
+  spelled = spelled;
+  outcome = o;
+  told = refl;
+})
+
+-- they are read to their end
+ends_there : (s : SessionState) {kept : GoItem} {items : List FilledItem} (z piece : List ℕ) → IsSpelledAs s kept piece
+    → FilledOutcome base_table (within_trees s.limits) (z ++ piece) items the_end
+    → RefusesPut (within_trees s.limits) (types s.types) z kept reason.DoesNotFit
+ends_there s z piece spelled o = does_not_fit (λ r h.
+    let same = one_kept spelled h.spelled in
+    let e = (one_outcome o (subst (λ b. FilledOutcome base_table (within_trees s.limits) (z ++ b) h.items
+    (refused h.refusal)) (sym same) h.outcome)).1 in
+    absurd (let f : the_end ≡ refused h.refusal = e in cc))
 
 pub not_spelled : (s s' : SessionState) {items : List FilledItem} {z : List ℕ} (kept : GoItem) (bytes : List ℕ)
-    (d : Denial) → HasReadWhole s items z
-    → IsDenial (λ _. ¬ IsSpelled (IsItemUnder (types s.types) kept)) d
+    (d : Denial) → HasReadWhole s items z → IsUnfit (IsSpelled (IsSpelling (types s.types) kept)) d
     → ReadBackAnswers s s' items z kept bytes (Err (fault_of_denial d))
-not_spelled s s' kept bytes (denial.Refused r) w never = λ i b U m h.
-    let low : (within_trees s.limits).depth ≤ greatest_depth = omega arith in
-    never (record { bytes = b; spelled = item_under (items_grown w.stream) low m h })
-not_spelled s s' kept bytes denial.Memory w never = tt
+not_spelled s s' {z = z} kept bytes (denial.Refused r) w unfit = record {
+  none = λ i b U m h.
+      let low : (within_trees s.limits).depth ≤ greatest_depth = omega arith in
+      unfit.1 (record { bytes = b; spelled = spelled_before (items_grown w.stream) low m h });
+  due = subst (RefusesPut (within_trees s.limits) (types s.types) z kept) (sym unfit.0)
+      (does_not_fit (λ r h. unfit.1 (record { bytes = h.bytes; spelled = h.spelled })));
+}
+not_spelled s s' kept bytes denial.Memory w unfit = tt
 
 pub not_fed : (s s' : SessionState) {items : List FilledItem} {z : List ℕ} (kept : GoItem) (bytes piece : List ℕ)
     (given : List GoItem) (f : Fault) → HasReadWhole s items z → IsSpelledAs s kept piece
     → FeedAnswers s s' items z piece given (Err f)
     → ReadBackAnswers s s' items z kept bytes (Err (fault_of_session f))
-not_fed s s' kept bytes piece given (reading.Refused R) w spelled a = λ i b U m h.
-    let g = goes_on w spelled m h in
-    let e = (one_outcome a.0.holds.0.outcome (whole_outcome g.stream)).1 in
-    absurd (let f : refused R ≡ the_end = e in cc)
+not_fed s s' {z = z} kept bytes piece given (reading.Refused R) w spelled a = record {
+  none = λ i b U m h.
+      let e = (one_outcome a.0.holds.0.outcome (whole_outcome (goes_on w spelled m h))).1 in
+      absurd (let f : refused R ≡ the_end = e in cc);
+  due = refused_there s z piece spelled a.0.holds.0.outcome;
+}
 not_fed s s' kept bytes piece given reading.Read w spelled a = absurd a
 not_fed s s' kept bytes piece given reading.Memory w spelled a = tt
 not_fed s s' kept bytes piece given reading.Failed w spelled a = absurd a
@@ -147,18 +156,29 @@ on_limits : (s s' : SessionState) {items : List FilledItem} {bytes : List ℕ} {
 on_limits s s' {items = items} {bytes = bytes} {T = T} e p =
     subst (λ (L : Bounds). FilledStream base_table (within_trees L) items bytes T) (sym e) p
 
+-- the outcome under the limits as they were
+outcome_before : (s s' : SessionState) {items : List FilledItem} {bytes : List ℕ} {e : FilledEnding}
+    → s'.limits ≡ s.limits → FilledOutcome base_table (within_trees s'.limits) bytes items e
+    → FilledOutcome base_table (within_trees s.limits) bytes items e
+outcome_before s s' {items = items} {bytes = bytes} {e = e} l o =
+    subst (λ (L : Bounds). FilledOutcome base_table (within_trees L) bytes items e) l o
+
 pub not_finished : (s s' s'' : SessionState) {items : List FilledItem} {z : List ℕ} (kept : GoItem)
     (bytes piece : List ℕ) (given : List GoItem) (f : Fault) → HasReadWhole s items z → IsSpelledAs s kept piece
     → s'.limits ≡ s.limits → (a : IsFed s' items z piece given)
     → FinishAnswers s' s'' (items ++ a.more) (z ++ piece) (Err f)
     → ReadBackAnswers s s'' items z kept bytes (Err (fault_of_session f))
-not_finished s s' s'' kept bytes piece given (reading.Refused R) w spelled e a r = λ i b U m h.
-    let g = goes_on w spelled m h in
-    let e = (one_outcome r.0 (whole_outcome (on_limits s s' e g.stream))).1 in
-    absurd (let f : refused R ≡ the_end = e in cc)
-not_finished s s' s'' kept bytes piece given reading.Read w spelled e a r = absurd r
-not_finished s s' s'' kept bytes piece given reading.Memory w spelled e a r = tt
-not_finished s s' s'' kept bytes piece given reading.Failed w spelled e a r = absurd r
+not_finished s s' s'' {z = z} kept bytes piece given (reading.Refused R) w spelled l a r =
+    let o = outcome_before s s' l r.0 in
+    record {
+      none = λ i b U m h.
+          let e = (one_outcome o (whole_outcome (goes_on w spelled m h))).1 in
+          absurd (let f : refused R ≡ the_end = e in cc);
+      due = refused_there s z piece spelled o;
+    }
+not_finished s s' s'' kept bytes piece given reading.Read w spelled l a r = absurd r
+not_finished s s' s'' kept bytes piece given reading.Memory w spelled l a r = tt
+not_finished s s' s'' kept bytes piece given reading.Failed w spelled l a r = absurd r
 
 -- ---- what is read to its end
 
@@ -203,8 +223,7 @@ pub fed_one : {s s' : SessionState} {items : List FilledItem} {z piece b : List 
     → ItemMeans U kept i → IsFilledItem base_table (within_trees s.limits) (types s.types) (length z) i b U
     → FedOne s s' items z piece given i U
 fed_one {s = s} {s' = s'} {items = items} {z = z} {piece = piece} {given = given} {i = i} {U = U} w spelled e a o m h =
-    let g = goes_on w spelled m h in
-    let due = on_limits s s' e g.stream in
+    let due = on_limits s s' e (goes_on w spelled m h) in
     let all : items ++ a.more ≡ items ++ i ∷ [] = (one_outcome o (whole_outcome due)).0 in
     let more : a.more ≡ i ∷ [] = same_more items a.more (i ∷ []) all in
     let read = read_whole a.holds o in
@@ -220,8 +239,11 @@ pub not_one : {s s' : SessionState} {items : List FilledItem} {z : List ℕ} {ke
     (given : List GoItem) → HasReadWhole s items z → IsSpelledAs s kept piece
     → s'.limits ≡ s.limits → (a : IsFed s' items z piece given)
     → FilledOutcome base_table (within_trees s'.limits) (z ++ piece) (items ++ a.more) the_end → length given ≢ 1
-    → IsNoItem (within_trees s.limits) (types s.types) (length z) kept
-not_one piece given w spelled e a o n = λ i b U m h. n (mean_one (fed_one w spelled e a o m h).mean)
+    → IsRefused (within_trees s.limits) (types s.types) z kept reason.DoesNotFit
+not_one {s = s} {s' = s'} {z = z} piece given w spelled e a o n = record {
+  none = λ i b U m h. n (mean_one (fed_one w spelled e a o m h).mean);
+  due = ends_there s z piece spelled (outcome_before s s' e o);
+}
 
 only_means : {T : Table} {only : GoItem} {given : List GoItem} {i : FilledItem} → given ≡ only ∷ []
     → ItemsMean T given (i ∷ []) → ItemMeans T only i
@@ -230,7 +252,7 @@ only_means {T = T} {i = i} e m = by (subst (λ l. ItemsMean T l (i ∷ [])) e m)
     by : {only : GoItem} → ItemsMean T (only ∷ []) (i ∷ []) → ItemMeans T only i
     by (mean_more m rest) = m
 
-pub not_same : {s s' : SessionState} {items : List FilledItem} {z : List ℕ} {kept only : GoItem}
+not_same : {s s' : SessionState} {items : List FilledItem} {z : List ℕ} {kept only : GoItem}
     (piece : List ℕ) (given : List GoItem) → HasReadWhole s items z → IsSpelledAs s kept piece
     → s'.limits ≡ s.limits → (a : IsFed s' items z piece given)
     → FilledOutcome base_table (within_trees s'.limits) (z ++ piece) (items ++ a.more) the_end → given ≡ only ∷ []
@@ -290,19 +312,41 @@ pub not_alike : {s s' : SessionState} (s'' : SessionState) {items : List FilledI
     (bytes piece : List ℕ) (given : List GoItem) (d : Denial) → HasReadWhole s items z → IsSpelledAs s kept piece
     → s'.limits ≡ s.limits → (a : IsFed s' items z piece given)
     → FilledOutcome base_table (within_trees s'.limits) (z ++ piece) (items ++ a.more) the_end → given ≡ only ∷ []
-    → IsDenial (λ _. ¬ AreAlike (types s'.types) only kept) d
+    → IsUnfit (AreAlike (types s'.types) only kept) d
     → ReadBackAnswers s s'' items z kept bytes (Err (fault_of_denial d))
-not_alike s'' bytes piece given (denial.Refused r) w spelled e a o one never =
-    not_same piece given w spelled e a o one never
-not_alike s'' bytes piece given denial.Memory w spelled e a o one never = tt
+not_alike {s = s} {s' = s'} s'' {z = z} {kept = kept} bytes piece given (denial.Refused r) w spelled e a o one unfit =
+    record {
+      none = not_same piece given w spelled e a o one unfit.1;
+      due = subst (RefusesPut (within_trees s.limits) (types s.types) z kept) (sym unfit.0)
+          (ends_there s z piece spelled (outcome_before s s' e o));
+    }
+not_alike s'' bytes piece given denial.Memory w spelled e a o one unfit = tt
+
+-- ---- one reason
+
+same_reason : {L : Bounds} {T : Table} {stream : List ℕ} {kept : GoItem} {r s : Reason}
+    → RefusesSpelling L T stream kept r → RefusesSpelling L T stream kept s → r ≡ s
+same_reason {L = L} {stream = stream} p q =
+    let same = one_kept p.spelled q.spelled in
+    let o = (one_outcome p.outcome (subst (λ b. FilledOutcome base_table L (stream ++ b) q.items (refused q.refusal))
+    (sym same) q.outcome)).1 in
+    let e : p.refusal ≡ q.refusal = (let f : refused p.refusal ≡ refused q.refusal = o in cc) in
+    sym p.told ∙ ap (λ (R : Refusal). R.reason) e ∙ q.told
+
+pub one_reason : {L : Bounds} {T : Table} {stream : List ℕ} {kept : GoItem} {r s : Reason}
+    → RefusesPut L T stream kept r → RefusesPut L T stream kept s → r ≡ s
+one_reason (refused_spelling p) (refused_spelling q) = same_reason p q
+one_reason (refused_spelling p) (does_not_fit n) = absurd (n _ p)
+one_reason (does_not_fit n) (refused_spelling q) = absurd (n _ q)
+one_reason (does_not_fit n) (does_not_fit m) = refl
 
 -- ---- what is spelled and given, as the program has it
 
 pub spelled_as : (s : SessionState) {kept : GoItem} {old new piece : List ℕ} {here : Defined} → here ≡ s.types
-    → old ≡ [] → piece ≡ new → ((b : List ℕ) → IsItemUnder (types here) kept b → new ≡ old ++ b)
-    → IsSpelledAs s kept piece
-spelled_as s {kept = kept} {old = old} t e p spelled b a =
-    p ∙ spelled b (subst (λ (d : Defined). IsItemUnder (types d) kept b) (sym t) a) ∙ ap (λ l. l ++ b) e
+    → old ≡ [] → piece ≡ new → Appends (IsSpelling (types here) kept) old new → IsSpelledAs s kept piece
+spelled_as s {kept = kept} {piece = piece} {here = here} t e p a =
+    subst (λ (d : Defined). IsSpelling (types d) kept piece) t
+    (subst (IsSpelling (types here) kept) (sym (p ∙ a.appended ∙ ap (λ l. l ++ a.bytes) e)) a.spelled)
 
 pub all_given : {A : Type 0} {old new given : List A} → old ≡ [] → new ≡ old ++ given → given ≡ new
 all_given {given = given} e p = sym (p ∙ ap (λ l. l ++ given) e)

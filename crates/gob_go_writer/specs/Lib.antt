@@ -3,4 +3,7 @@ pub mod Hoisting
 pub mod HoistingLaws
 pub mod Item
 pub mod Machine
+pub mod PutRefusal
 pub mod PuttingLaws
+pub mod Spelling
+pub mod SpellingLaws

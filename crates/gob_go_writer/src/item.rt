@@ -1,18 +1,18 @@
 //! The bytes of an item.
 
 ghost use Rattle.std.specs.Prelude.{◌≡◌, ℕ, List, ◌++◌, IfErr, OnErr, OnOk};
-ghost use Rattle.gob_num.specs.Spelled.{IsSpelled};
+ghost use Rattle.gob_num.specs.Spelled.{Appends, IsSpelled};
 ghost use Rattle.gob_types.specs.Defined.{types};
-ghost use Rattle.gob_types.specs.Denial.{IsDenial};
 ghost use Rattle.gob_go_writer.specs.Item.{IsItemOf};
-ghost use Rattle.gob_go_writer.specs.Machine.Letters.{TakesSegments};
-ghost use Rattle.gob_go_writer.specs.Machine.Parts.{IsItemUnder};
+ghost use Rattle.gob_go_writer.specs.Machine.Letters.{AreOfItem, TakesSpelled};
+ghost use Rattle.gob_go_writer.specs.Machine.Unfit.{IsUnfit};
+ghost use Rattle.gob_go_writer.specs.Spelling.{IsSpelling};
 
 use crate::segments::Segments;
-use crate::value::{has_number, put_definition, put_value};
+use crate::value::{NO_ITEM, has_number, put_definition, put_value};
 use gob_go::GoItem;
 use gob_num::Memory;
-use gob_types::{Denial, Reason, Table};
+use gob_types::{Denial, Table};
 use std::alloc::Global;
 
 /// Appends the bytes of the item, as they stood in the stream that it was read of: the item must be one that a session
@@ -38,17 +38,16 @@ pub fn write_item(
     }
 }
 
-/// Appends the bytes of an item, whoever made it. Where it is refused, no bytes are that item in any stream that goes
-/// on from the types of the table. After a denial the vector holds what it held.
+/// Appends the spelling of an item, whoever made it. Where it has none, it is refused as `DoesNotFit`. After a denial
+/// the vector holds what it held.
 pub(crate) fn spell_item(
     alloc: Global,
     table: &Table,
     item: &GoItem,
     out: &mut Vec<u8>,
 ) -> Result<(), Denial>
-    ensures ok { OnOk result ((bytes : List ℕ) → IsItemUnder (types table.now) item.now bytes
-        → out.new.items ≡ out.old.items ++ bytes) }
-    ensures refused { IfErr result (IsDenial (λ _. ¬ IsSpelled (IsItemUnder (types table.now) item.now))) }
+    ensures ok { OnOk result (Appends (IsSpelling (types table.now) item.now) out.old.items out.new.items) }
+    ensures refused { IfErr result (IsUnfit (IsSpelled (IsSpelling (types table.now) item.now))) }
     ensures err { OnErr result (out.new.items ≡ out.old.items) }
 {
     let mut segments = Segments::new(alloc);
@@ -70,15 +69,14 @@ fn put_item(
     item: &GoItem,
     segments: &mut Segments,
 ) -> Result<(), Denial>
-    ensures ok { OnOk result ((bytes : List ℕ) → IsItemUnder (types table.now) item.now bytes
-        → TakesSegments segments.old segments.new bytes) }
-    ensures refused { IfErr result (IsDenial (λ _. ¬ IsSpelled (IsItemUnder (types table.now) item.now))) }
+    ensures ok { OnOk result (TakesSpelled (AreOfItem (types table.now) item.now) segments.old segments.new) }
+    ensures refused { IfErr result (IsUnfit (IsSpelled (IsSpelling (types table.now) item.now))) }
 {
     match item {
         GoItem::Define { id, described } => put_definition(alloc, table, *id, described, segments),
         GoItem::Put { id, value } => {
             if !has_number(*id) {
-                return Err(Denial::Refused(Reason::UndefinedType(*id)));
+                return Err(NO_ITEM);
             }
             segments.put_int(alloc, id.0 as i64)?;
             put_value(alloc, table, value, segments)

@@ -9,8 +9,10 @@ use std::alloc::AllocError;
 /// stream, and the writer writes no more: there is no way to take back the types of an item that is refused midway.
 #[derive(Clone, Copy, Debug, PartialEq, Eq)]
 pub enum PutFault {
-    /// The item doesn't continue the stream, for a reason that a session has to refuse its bytes. It is `DoesNotFit`
-    /// where the item has no bytes, or where they would be read as something else.
+    /// The item doesn't continue the stream. The reason is that for which a reader of the stream refuses the item's
+    /// spelling behind it. It is `DoesNotFit` where the item has no spelling, since a place is no byte of the skeleton
+    /// behind the last filling, an id has no type number, or a description is no value of type 16; and where its bytes
+    /// are read to their end, as something else.
     Refused(Reason),
     /// No memory was had.
     Memory,

@@ -2,11 +2,11 @@
 
 ghost use Rattle.std.specs.Prelude.{◌≡◌, MatchBool, IfErr, OnOk};
 ghost use Rattle.gob_types.specs.Defined.{types};
-ghost use Rattle.gob_types.specs.Denial.{IsDenial};
 ghost use Rattle.gob_value.specs.View.{view};
 ghost use Rattle.gob_go.specs.Meaning.{definitions_of};
 ghost use Rattle.gob_go_writer.specs.Machine.Alike.{AreAlike, AreAlikeDescribed, AreFilledAlike, AreDefinedAlike};
 ghost use Rattle.gob_go_writer.specs.Machine.Alike.{FillAlike, FilledAs, FillsAs, MeansAs};
+ghost use Rattle.gob_go_writer.specs.Machine.Unfit.{IsUnfit};
 
 use crate::value::{NO_ITEM, write_description};
 use gob_go::{Definition, Filled, Filling, GoItem};
@@ -22,7 +22,7 @@ pub(crate) fn same_item(
     item: &GoItem,
 ) -> Result<(), Denial>
     ensures ok { OnOk result (MeansAs given.now item.now) }
-    ensures refused { IfErr result (IsDenial (λ _. ¬ AreAlike (types table.now) given.now item.now)) }
+    ensures refused { IfErr result (IsUnfit (AreAlike (types table.now) given.now item.now)) }
 {
     match given {
         GoItem::Define { id, described } => {
@@ -58,7 +58,7 @@ pub(crate) fn same_item(
 #[cycle(same)]
 fn same_value(alloc: Global, table: &Table, given: &Filled, due: &Filled) -> Result<(), Denial>
     ensures ok { OnOk result (FilledAs given.now due.now) }
-    ensures refused { IfErr result (IsDenial (λ _. ¬ AreFilledAlike (types table.now) given.now due.now)) }
+    ensures refused { IfErr result (IsUnfit (AreFilledAlike (types table.now) given.now due.now)) }
 {
     if !same_bytes(&given.skeleton, &due.skeleton) || given.fillings.len() != due.fillings.len() {
         return Err(NO_ITEM);
@@ -73,7 +73,7 @@ fn same_value(alloc: Global, table: &Table, given: &Filled, due: &Filled) -> Res
 #[cycle(same)]
 fn same_filling(alloc: Global, table: &Table, given: &Filling, due: &Filling) -> Result<(), Denial>
     ensures ok { OnOk result (FillsAs given.now due.now) }
-    ensures refused { IfErr result (IsDenial (λ _. ¬ FillAlike (types table.now) given.now due.now)) }
+    ensures refused { IfErr result (IsUnfit (FillAlike (types table.now) given.now due.now)) }
 {
     if given.place != due.place || given.id.0 != due.id.0 || !same_bytes(&given.name, &due.name) {
         return Err(NO_ITEM);
@@ -91,7 +91,7 @@ fn same_definitions(
     due: &[Definition],
 ) -> Result<(), Denial>
     ensures ok { OnOk result (definitions_of given.now ≡ definitions_of due.now) }
-    ensures refused { IfErr result (IsDenial (λ _. ¬ AreDefinedAlike (types table.now) given.now due.now)) }
+    ensures refused { IfErr result (IsUnfit (AreDefinedAlike (types table.now) given.now due.now)) }
 {
     if given.len() != due.len() {
         return Err(NO_ITEM);
@@ -110,8 +110,8 @@ fn same_definitions(
 // Ok exactly where the two descriptions are the same. Equal descriptions have equal spellings.
 fn same_description(alloc: Global, table: &Table, given: &Value, due: &Value) -> Result<(), Denial>
     ensures ok { OnOk result (view given.now ≡ view due.now) }
-    ensures refused { IfErr result (IsDenial (λ _.
-        ¬ AreAlikeDescribed (types table.now) (view given.now) (view due.now))) }
+    ensures refused { IfErr result
+        (IsUnfit (AreAlikeDescribed (types table.now) (view given.now) (view due.now))) }
 {
     let mut spelled = Vec::new(alloc);
     write_description(alloc, table, given, &mut spelled)?;

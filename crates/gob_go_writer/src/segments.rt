@@ -4,8 +4,8 @@ ghost use Rattle.std.specs.Prelude.{◌≡◌, ℕ, List, [], ◌∷◌, ◌++�
 ghost use Rattle.gob_num.specs.Signed.{IsSigned};
 ghost use Rattle.gob_num.specs.Spelled.{Appends};
 ghost use Rattle.gob_filled.specs.Filled.{cut, AreSegments};
-ghost use Rattle.gob_go_writer.specs.Machine.Letters.{HasLetters, IsSegment, Takes};
-ghost use Rattle.gob_go_writer.specs.Machine.Parts.{AreOfName};
+ghost use Rattle.gob_go_writer.specs.Machine.Letters.{HasLetters, IsSegment, Takes, TakesSpelled};
+ghost use Rattle.gob_go_writer.specs.Spelling.{SpellsName};
 
 use gob_num::{Memory, write_int, write_uint};
 use std::alloc::Global;
@@ -46,14 +46,14 @@ impl Segments {
 
     /// Goes on with the spelling of a number.
     pub(crate) fn put_int(&mut self, alloc: Global, number: i64) -> Result<(), Memory>
-        ensures { OnOk result ((spelling : List ℕ) → IsSigned number spelling → Takes self.old self.new spelling) }
+        ensures { OnOk result (TakesSpelled (IsSigned number) self.old self.new) }
     {
         write_int(alloc, number, &mut self.last)
     }
 
     /// Goes on with a name, behind its count.
     pub(crate) fn put_name(&mut self, alloc: Global, name: &[u8]) -> Result<(), Memory>
-        ensures { OnOk result ((letters : List ℕ) → AreOfName name.now letters → Takes self.old self.new letters) }
+        ensures { OnOk result (TakesSpelled (SpellsName name.now) self.old self.new) }
     {
         write_uint(alloc, name.len() as u64, &mut self.last)?;
         self.last.extend_from_slice(name)?;
@@ -71,8 +71,8 @@ impl Segments {
 
     /// Appends all segments, with which the last one ends. After `Memory` the vector may have grown.
     pub(crate) fn append_to(self, alloc: Global, out: &mut Vec<u8>) -> Result<(), Memory>
-        ensures ok { OnOk result ((letters segments : List ℕ) → HasLetters self letters → AreSegments letters segments
-            → out.new.items ≡ out.old.items ++ segments) }
+        ensures ok { OnOk result ((letters : List ℕ) → HasLetters self letters
+            → Appends (AreSegments letters) out.old.items out.new.items) }
         ensures err { OnErr result (Appends (λ _. Unit {0}) out.old.items out.new.items) }
     {
         out.extend_from_slice(&self.ended)?;

@@ -1,25 +1,25 @@
 //! The segments of a value, level by level. Recursion is as deep as interfaces hold others.
 
-ghost use Rattle.std.specs.Prelude.{◌≡◌, ◌^◌, ◌<◌, ℕ, List, IfErr, MatchBool, OnOk};
+ghost use Rattle.std.specs.Prelude.{◌^◌, ◌<◌, IfErr, MatchBool, OnOk};
 ghost use Rattle.gob_num.specs.Spelled.{Appends, IsSpelled};
 ghost use Rattle.gob_num.specs.Unsigned.{AreBytes};
 ghost use Rattle.gob_types.specs.Base.{wire_type};
 ghost use Rattle.gob_types.specs.Defined.{types};
-ghost use Rattle.gob_types.specs.Denial.{IsDenial};
 ghost use Rattle.gob_value.specs.Spelling.{Spells};
 ghost use Rattle.gob_value.specs.View.{view};
-ghost use Rattle.gob_value.specs.Within.{FitsWithin};
+ghost use Rattle.gob_value.specs.Within.{FitsWithin, IsWithin};
 ghost use Rattle.gob_stream.specs.Bounds.{greatest_depth};
-ghost use Rattle.gob_go_writer.specs.Machine.Letters.{Takes, TakesBytes};
-ghost use Rattle.gob_go_writer.specs.Machine.Parts.{AreOfDefinition, AreOfDefinitions, AreOfFilling, AreOfValue};
+ghost use Rattle.gob_go_writer.specs.Machine.Letters.{AreSpelledBytes, TakesSpelled};
+ghost use Rattle.gob_go_writer.specs.Machine.Unfit.{IsUnfit};
+ghost use Rattle.gob_go_writer.specs.Spelling.{SpellDefinitions, SpellsDefinition, SpellsFilling, SpellsValue};
 
 use crate::segments::Segments;
 use gob_go::{Definition, Filled, Filling};
 use gob_types::{Denial, Reason, Table, TypeId};
-use gob_value::{Value, spell};
+use gob_value::{SpellFault, Value, spell};
 use std::alloc::Global;
 
-/// The answer where what is kept is no part of an item.
+/// The answer where what is kept has no spelling, or isn't what was read.
 pub(crate) const NO_ITEM: Denial = Denial::Refused(Reason::DoesNotFit);
 
 // The greatest id that is below 2^63, so that it has a type number.
@@ -33,13 +33,13 @@ pub(crate) fn put_definition(
     described: &Value,
     segments: &mut Segments,
 ) -> Result<(), Denial>
-    ensures ok { OnOk result ((letters : List ℕ) → AreOfDefinition (types table.now) id (view described.now) letters
-        → TakesBytes segments.old segments.new letters) }
-    ensures refused { IfErr result (IsDenial (λ _.
-        ¬ IsSpelled (AreOfDefinition (types table.now) id (view described.now)))) }
+    ensures ok { OnOk result (TakesSpelled
+        (AreSpelledBytes (SpellsDefinition (types table.now) id (view described.now))) segments.old segments.new) }
+    ensures refused { IfErr result
+        (IsUnfit (IsSpelled (SpellsDefinition (types table.now) id (view described.now)))) }
 {
-    if !has_number(id) {
-        return Err(Denial::Refused(Reason::ReservedType(id)));
+    if id.0 == 0 || !has_number(id) {
+        return Err(NO_ITEM);
     }
     segments.put_int(alloc, -(id.0 as i64))?;
     write_description(alloc, table, described, &mut segments.last)?;
@@ -62,12 +62,16 @@ pub(crate) fn write_description(
 ) -> Result<(), Denial>
     ensures spelled { OnOk result (Appends (Spells (types table.now) wire_type (view described.now)) out.old.items
         out.new.items) }
-    ensures bytes { AreBytes out.new.items }
-    ensures refused { IfErr result (IsDenial (λ _.
-        ¬ FitsWithin (types table.now) wire_type greatest_depth (view described.now))) }
+    ensures within { OnOk result (IsWithin greatest_depth (view described.now)) }
+    ensures bytes { OnOk result (AreBytes out.new.items) }
+    ensures refused { IfErr result
+        (IsUnfit (FitsWithin (types table.now) wire_type greatest_depth (view described.now))) }
 {
-    spell(alloc, table, TypeId::WIRE_TYPE, described, 1000, out)?;
-    Ok(())
+    match spell(alloc, table, TypeId::WIRE_TYPE, described, 1000, out) {
+        Ok(()) => Ok(()),
+        Err(SpellFault::Memory) => Err(Denial::Memory),
+        Err(SpellFault::TooDeep | SpellFault::DoesNotFit) => Err(NO_ITEM),
+    }
 }
 
 // Goes on with definitions in a value, each of which ends its segment.
@@ -77,9 +81,9 @@ fn put_definitions(
     definitions: &[Definition],
     segments: &mut Segments,
 ) -> Result<(), Denial>
-    ensures ok { OnOk result ((letters : List ℕ) → AreOfDefinitions (types table.now) definitions.now letters
-        → Takes segments.old segments.new letters) }
-    ensures refused { IfErr result (IsDenial (λ _. ¬ IsSpelled (AreOfDefinitions (types table.now) definitions.now))) }
+    ensures ok { OnOk result
+        (TakesSpelled (SpellDefinitions (types table.now) definitions.now) segments.old segments.new) }
+    ensures refused { IfErr result (IsUnfit (IsSpelled (SpellDefinitions (types table.now) definitions.now))) }
 {
     for definition in definitions {
         put_definition(alloc, table, definition.id, &definition.described, segments)?;
@@ -88,7 +92,7 @@ fn put_definitions(
     Ok(())
 }
 
-/// Goes on with a value: its skeleton, where each filled nil is replaced.
+/// Goes on with a value: its skeleton, where each filling stands in the place of one byte.
 #[cycle(value)]
 pub(crate) fn put_value(
     alloc: Global,
@@ -96,9 +100,8 @@ pub(crate) fn put_value(
     value: &Filled,
     segments: &mut Segments,
 ) -> Result<(), Denial>
-    ensures ok { OnOk result ((letters : List ℕ) → AreOfValue (types table.now) value.now letters
-        → Takes segments.old segments.new letters) }
-    ensures refused { IfErr result (IsDenial (λ _. ¬ IsSpelled (AreOfValue (types table.now) value.now))) }
+    ensures ok { OnOk result (TakesSpelled (SpellsValue (types table.now) value.now) segments.old segments.new) }
+    ensures refused { IfErr result (IsUnfit (IsSpelled (SpellsValue (types table.now) value.now))) }
 {
     let mut done = 0;
     for filling in &value.fillings {
@@ -122,14 +125,13 @@ fn put_filling(
     filling: &Filling,
     segments: &mut Segments,
 ) -> Result<(), Denial>
-    ensures ok { OnOk result ((letters : List ℕ) → AreOfFilling (types table.now) filling.now letters
-        → Takes segments.old segments.new letters) }
-    ensures refused { IfErr result (IsDenial (λ _. ¬ IsSpelled (AreOfFilling (types table.now) filling.now))) }
+    ensures ok { OnOk result (TakesSpelled (SpellsFilling (types table.now) filling.now) segments.old segments.new) }
+    ensures refused { IfErr result (IsUnfit (IsSpelled (SpellsFilling (types table.now) filling.now))) }
 {
     segments.put_name(alloc, &filling.name)?;
     put_definitions(alloc, table, &filling.definitions, segments)?;
     if !has_number(filling.id) {
-        return Err(Denial::Refused(Reason::UndefinedType(filling.id)));
+        return Err(NO_ITEM);
     }
     segments.put_int(alloc, filling.id.0 as i64)?;
     let mut held = Segments::new(alloc);

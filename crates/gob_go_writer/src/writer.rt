@@ -52,8 +52,9 @@ impl GoWriter {
     /// has read what the writer wrote before reads these bytes as that very item. Ok wherever some bytes are the item
     /// there and there is memory. Else it is refused, as where its type isn't ready, where its skeleton spells no value
     /// of the type, where a place isn't that of a nil of an interface or comes before the last one, where a name is
-    /// empty, where a description isn't that of the id, or beyond a limit. After a fault `out` holds what it held, and
-    /// each call answers [`PutFault::Failed`]. It takes memory for the bytes and for the item once more.
+    /// empty, where a description isn't that of the id, or beyond a limit, for the one reason that
+    /// [`PutFault::Refused`] tells. After a fault `out` holds what it held, and each call answers [`PutFault::Failed`].
+    /// It takes memory for the bytes and for the item once more.
     pub fn put(&mut self, alloc: Global, item: &GoItem, out: &mut Vec<u8>) -> Result<(), PutFault>
         ensures puts { (items : List FilledItem) (bytes : List ℕ) → HasPut self.old items bytes
             → PutAnswers self.old self.new items bytes item.now out.old.items out.new.items result }

@@ -2,6 +2,7 @@
 use Rattle.std.specs.Prelude.{◌≡◌, ℕ, List, [], ◌∷◌, ◌++◌, length, true, false, Result, Ok, Err}
 use Rattle.gob_types.specs.Base.{base_table}
 use Rattle.gob_types.specs.Table.{Table}
+use Rattle.gob_types.specs.declared.reason.Reason.{Reason}
 use Rattle.gob_stream.specs.Bounds.{Bounds, within_trees}
 use Rattle.gob_filled.specs.Stream.{FilledItem, IsFilledItem, FilledStream}
 use Rattle.gob_go.specs.Calls.Session.{HasRead}
@@ -9,6 +10,7 @@ use Rattle.gob_go.specs.Calls.Session as session
 use Rattle.gob_go.specs.Machine.SessionState.{SessionState}
 use Rattle.gob_go.specs.Meaning.{ItemMeans}
 use Rattle.gob_go.specs.declared.item.GoItem.{GoItem}
+use Rattle.gob_go_writer.specs.PutRefusal.{RefusesPut}
 use Rattle.gob_go_writer.specs.declared.put_fault.PutFault.{PutFault}
 use Rattle.gob_go_writer.specs.declared.put_fault.PutFault.TheVariants as fault
 use Rattle.gob_go_writer.specs.declared.writer.GoWriter.{GoWriter}
@@ -49,11 +51,16 @@ abbrev pub IsNoItem : Bounds → Table → (offset : ℕ) → GoItem → Type 0
 IsNoItem L T offset kept = (i : FilledItem) (b : List ℕ) (U : Table) → ItemMeans U kept i
     → ¬ IsFilledItem base_table L T offset i b U
 
+-- and this is the reason for which it isn't put behind the stream of the bytes
+pub record IsRefused (L : Bounds) (T : Table) (stream : List ℕ) (kept : GoItem) (r : Reason) : Type 0 where
+  pub none : IsNoItem L T (length stream) kept
+  pub due : RefusesPut L T stream kept r
+
 -- what putting an item answers, for a writer that has written the items, over a vector with the old bytes
 abbrev pub PutAnswers : (w w' : GoWriter) → List FilledItem → List ℕ → GoItem → (old new : List ℕ)
     → Result (Unit {0}) PutFault → Type 0
 PutAnswers w w' items bytes kept old new (Ok _) = PutsItem w w' items bytes kept old new
 PutAnswers w w' items bytes kept old new (Err (fault.Refused r)) =
-    IsNoItem (within_trees (limits_of w)) (types_of w) (length bytes) kept
+    IsRefused (within_trees (limits_of w)) (types_of w) bytes kept r
 PutAnswers w w' items bytes kept old new (Err fault.Memory) = Unit {0}
 PutAnswers w w' items bytes kept old new (Err fault.Failed) = ⊥

@@ -1,8 +1,17 @@
 -- What segments under way stand for: the letters that were put into them. Those up to the last cut are segments that
 -- have ended, each behind its count, and those behind it are open.
-use Rattle.std.specs.Prelude.{◌≡◌, ℕ, List, [], ◌∷◌, ◌++◌, length}
+use Rattle.std.specs.Prelude.{◌≡◌, ℕ, pos, List, [], ◌∷◌, ◌++◌, length}
 use Rattle.gob_num.specs.Unsigned.{IsUnsigned, AreBytes}
-use Rattle.gob_filled.specs.Filled.{cut, AreSegments}
+use Rattle.gob_num.specs.Signed.{IsSigned}
+use Rattle.gob_types.specs.declared.id.TypeId.{TypeId}
+use Rattle.gob_types.specs.Table.{Table}
+use Rattle.gob_value.specs.View.{view}
+use Rattle.gob_value.specs.declared.value.Value.{Value}
+use Rattle.gob_filled.specs.Filled.{cut}
+use Rattle.gob_go.specs.declared.filled.Filled.{Filled}
+use Rattle.gob_go.specs.declared.item.GoItem.{GoItem}
+use Rattle.gob_go.specs.declared.item.GoItem.TheVariants as item
+use Rattle.gob_go_writer.specs.Spelling.{SpellsDefinition, SpellsValue}
 use Rattle.gob_go_writer.specs.declared.segments.Segments.{Segments}
 
 -- the bytes are the segment behind its count
@@ -28,13 +37,20 @@ pub record HasLetters (segments : Segments) (ls : List ℕ) : Type 0 where
 pub record Takes (old new : Segments) (ls : List ℕ) : Type 0 where
   pub behind : (before : List ℕ) → HasLetters old before → HasLetters new (before ++ ls)
 
--- and these are bytes
-pub record TakesBytes (old new : Segments) (ls : List ℕ) : Type 0 where
-  pub takes : Takes old new ls
+-- letters that are spelled so are behind whatever was put into them
+pub record TakesSpelled (Spells : List ℕ → Type 0) (old new : Segments) : Type 0 where
+  pub letters : List ℕ
+  pub spelled : Spells letters
+  pub takes : Takes old new letters
+
+-- letters that are spelled so, and are bytes
+pub record AreSpelledBytes (Spells : List ℕ → Type 0) (ls : List ℕ) : Type 0 where
+  pub spelled : Spells ls
   pub are_bytes : AreBytes ls
 
--- letters whose segments are these bytes are behind whatever was put into them
-pub record TakesSegments (old new : Segments) (bytes : List ℕ) : Type 0 where
-  pub letters : List ℕ
-  pub takes : Takes old new letters
-  pub are_segments : AreSegments letters bytes
+-- the letters of an item, whose segments are its spelling
+pub data AreOfItem (T : Table) : GoItem → List ℕ → Type 0 where
+  of_definition : {id : TypeId} {described : Value} {ls : List ℕ}
+      → AreSpelledBytes (SpellsDefinition T id (view described)) ls → AreOfItem T (item.Define id described) ls
+  of_value : {id : TypeId} {kept : Filled} {n ls : List ℕ} → IsSigned (pos id.0) n → SpellsValue T kept ls
+      → AreOfItem T (item.Put id kept) (n ++ ls)

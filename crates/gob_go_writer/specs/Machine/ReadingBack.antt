@@ -7,7 +7,7 @@ use Rattle.gob_go.specs.Calls.Session.{limits_of, types_of}
 use Rattle.gob_go.specs.Machine.SessionState.{SessionState}
 use Rattle.gob_go.specs.Meaning.{ItemMeans}
 use Rattle.gob_go.specs.declared.item.GoItem.{GoItem}
-use Rattle.gob_go_writer.specs.Calls.Writer.{HasReadWhole, IsNoItem}
+use Rattle.gob_go_writer.specs.Calls.Writer.{HasReadWhole, IsRefused}
 use Rattle.gob_go_writer.specs.declared.put_fault.PutFault.{PutFault}
 use Rattle.gob_go_writer.specs.declared.put_fault.PutFault.TheVariants as fault
 
@@ -23,6 +23,6 @@ abbrev pub ReadBackAnswers : (s s' : SessionState) → List FilledItem → (z : 
     → Result (Unit {0}) PutFault → Type 0
 ReadBackAnswers s s' items z kept bytes (Ok _) = ReadsBack s s' items z kept bytes
 ReadBackAnswers s s' items z kept bytes (Err (fault.Refused r)) =
-    IsNoItem (within_trees (limits_of s)) (types_of s) (length z) kept
+    IsRefused (within_trees (limits_of s)) (types_of s) z kept r
 ReadBackAnswers s s' items z kept bytes (Err fault.Memory) = Unit {0}
 ReadBackAnswers s s' items z kept bytes (Err fault.Failed) = ⊥

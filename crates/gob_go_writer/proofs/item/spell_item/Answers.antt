@@ -1,11 +1,13 @@
 use Rattle.std.proofs.Common.{[], ◌++◌, ◌∙◌, ap, take}
 use Rattle.std.proofs.Math.Seq.{take-append_seam}
+use Rattle.gob_go_writer.proofs.ItemSteps.{letters_spelled}
 use Rattle.gob_go_writer.proofs.item.spell_item.Goals as goal
 
 pub returns-in-Ok-clause-ok : goal.returns-in-Ok-clause-ok
-returns-in-Ok-clause-ok c = λ bytes a.
-    let t = c.in_ok-put_item.ensures.ok bytes a in
-    c.in-Ok.ensures.ok t.letters bytes (t.takes.behind [] c.new-segments.ensures) t.are_segments
+returns-in-Ok-clause-ok c =
+    let t = c.in_ok-put_item.ensures.ok in
+    let a = c.in-Ok.ensures.ok t.letters (t.takes.behind [] c.new-segments.ensures) in
+    record { bytes = a.bytes; spelled = letters_spelled t.spelled a.spelled; appended = a.appended }
 
 pub returns-in-Err-clause-err : goal.returns-in-Err-clause-err
 returns-in-Err-clause-err c =

@@ -1,4 +1,4 @@
-use Rattle.std.proofs.Common.{ap, arith, ◌∙◌, sym}
+use Rattle.std.proofs.Common.{ap, arith, ◌∙◌, refl, sym}
 use Rattle.std.proofs.Math.ListN.{drop_of_length-le}
 use Rattle.gob_stream.proofs.DenialLaws.{denial_weaker}
 use Rattle.gob_stream.proofs.FaultSteps.{passed}
@@ -12,17 +12,20 @@ use Rattle.gob_go_writer.proofs.same.+same.Goals as goal
 -- ---- values
 
 pub same_value-returns-then-not-same_bytes-clause-refused : goal.same_value-returns-then-not-same_bytes-clause-refused
-same_value-returns-then-not-same_bytes-clause-refused t c = λ h.
-    let a = value_alike h in
-    let many = as_many_fillings a.fillings in
-    let given = (out-Filled c.args.given.now).fillings.ok.0 in
-    let due = (out-Filled c.args.due.now).fillings.ok.0 in
-    elim c.then-not-same_bytes.branch [
-      | goal.same_value-then-not-same_bytes-via-then-not-same_bytes w ↦
-          rw w.if-not-same_bytes.true at c.same_bytes.ensures
-          (c.deref.ensures.value ∙ a.skeleton ∙ sym c.deref-2.ensures.value)
-      | goal.same_value-then-not-same_bytes-via-else-not-same_bytes+then-len w ↦ omega (arith, many, given, due)
-    ]
+same_value-returns-then-not-same_bytes-clause-refused t c = (
+  refl,
+  λ h.
+      let a = value_alike h in
+      let many = as_many_fillings a.fillings in
+      let given = (out-Filled c.args.given.now).fillings.ok.0 in
+      let due = (out-Filled c.args.due.now).fillings.ok.0 in
+      elim c.then-not-same_bytes.branch [
+        | goal.same_value-then-not-same_bytes-via-then-not-same_bytes w ↦
+            rw w.if-not-same_bytes.true at c.same_bytes.ensures
+            (c.deref.ensures.value ∙ a.skeleton ∙ sym c.deref-2.ensures.value)
+        | goal.same_value-then-not-same_bytes-via-else-not-same_bytes+then-len w ↦ omega (arith, many, given, due)
+      ],
+)
 
 pub same_value-fillings-init : goal.same_value-fillings-init
 same_value-fillings-init t c = record {
@@ -33,14 +36,17 @@ same_value-fillings-init t c = record {
 pub same_value-returns-in_err-same_filling-clause-refused : goal.same_value-returns-in_err-same_filling-clause-refused
 same_value-returns-in_err-same_filling-clause-refused t c =
     passed c.from_residual.result _ c.from_residual.ensures.1
-    (denial_weaker c.in_err-same_filling.field-0.0 (λ r never h.
-    let given = (out-Filled c.args.given.now).fillings in
-    let due = (out-Filled c.args.due.now).fillings in
-    let i = c.fillings.invariant in
-    never (one_alike c.index.result.now c.index-in-fillings.result.now _ _
-    (alike_there given.items due.items c.fillings.place c.index.result.now c.index-in-fillings.result.now
-    c.index.ensures c.index-in-fillings.ensures (omega (arith, given.ok.0)) i.same i.so (value_alike h).fillings)))
-    c.in_err-same_filling.ensures.refused)
+    (denial_weaker c.in_err-same_filling.field-0.0 (λ r unfit. (
+      unfit.0,
+      λ h.
+          let given = (out-Filled c.args.given.now).fillings in
+          let due = (out-Filled c.args.due.now).fillings in
+          let i = c.fillings.invariant in
+          let fills = (value_alike h).fillings in
+          unfit.1 (one_alike c.index.result.now c.index-in-fillings.result.now _ _
+          (alike_there given.items due.items c.fillings.place c.index.result.now c.index-in-fillings.result.now
+          c.index.ensures c.index-in-fillings.ensures (omega (arith, given.ok.0)) i.same i.so fills)),
+    )) c.in_err-same_filling.ensures.refused)
 
 pub same_value-fillings-preserved : goal.same_value-fillings-preserved
 same_value-fillings-preserved t c =

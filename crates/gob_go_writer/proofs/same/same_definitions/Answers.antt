@@ -1,4 +1,4 @@
-use Rattle.std.proofs.Common.{ap, arith}
+use Rattle.std.proofs.Common.{ap, arith, refl}
 use Rattle.std.proofs.Math.ListN.{drop_of_length-le}
 use Rattle.gob_types.specs.declared.id.TypeId.{TypeId}
 use Rattle.gob_stream.proofs.DenialLaws.{denial_weaker}
@@ -8,28 +8,37 @@ use Rattle.gob_go_writer.proofs.SameSteps.{all_defined, as_many, defined_on, def
 use Rattle.gob_go_writer.proofs.same.same_definitions.Goals as goal
 
 pub returns-then-given-due-clause-refused : goal.returns-then-given-due-clause-refused
-returns-then-given-due-clause-refused c = λ h.
-    let same = as_many c.args.given.now c.args.due.now h.same in
-    omega arith
+returns-then-given-due-clause-refused c = (
+  refl,
+  λ h.
+      let same = as_many c.args.given.now c.args.due.now h.same in
+      omega arith,
+)
 
 pub definitions-init : goal.definitions-init
 definitions-init c = record { same = omega arith; so = no_definition_yet _ _ _ }
 
 pub returns-then-one-other-clause-refused : goal.returns-then-one-other-clause-refused
-returns-then-one-other-clause-refused c = λ h.
-    let i = c.definitions.invariant in
-    let n = defined_there c.args.given.now c.args.due.now c.definitions.place c.index-given-place.result
-    c.index-due-place.result c.index-given-place.is c.index-due-place.is c.definitions-test.true i.same i.so h in
-    c.if-one-other.true (ap (λ (t : TypeId). t.0) n.id)
+returns-then-one-other-clause-refused c = (
+  refl,
+  λ h.
+      let i = c.definitions.invariant in
+      let n = defined_there c.args.given.now c.args.due.now c.definitions.place c.index-given-place.result
+      c.index-due-place.result c.index-given-place.is c.index-due-place.is c.definitions-test.true i.same i.so h in
+      c.if-one-other.true (ap (λ (t : TypeId). t.0) n.id),
+)
 
 pub returns-in_err-same_description-clause-refused : goal.returns-in_err-same_description-clause-refused
 returns-in_err-same_description-clause-refused c =
     passed c.from_residual.result _ c.from_residual.ensures.1
-    (denial_weaker c.in_err-same_description.field-0.0 (λ r never h.
-    let i = c.definitions.invariant in
-    let n = defined_there c.args.given.now c.args.due.now c.definitions.place c.index-given-place.result
-    c.index-due-place.result c.index-given-place.is c.index-due-place.is c.definitions-test.true i.same i.so h in
-    never n.described) c.in_err-same_description.ensures.refused)
+    (denial_weaker c.in_err-same_description.field-0.0 (λ r unfit. (
+      unfit.0,
+      λ h.
+          let i = c.definitions.invariant in
+          let n = defined_there c.args.given.now c.args.due.now c.definitions.place c.index-given-place.result
+          c.index-due-place.result c.index-given-place.is c.index-due-place.is c.definitions-test.true i.same i.so h in
+          unfit.1 n.described,
+    )) c.in_err-same_description.ensures.refused)
 
 pub definitions-preserved : goal.definitions-preserved
 definitions-preserved c =

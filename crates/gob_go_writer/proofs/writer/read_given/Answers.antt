@@ -1,11 +1,11 @@
 use Rattle.std.proofs.Common.{◌≡◌, length, get_or, ◌++◌, ◌∙◌, ap, arith, subst, sym}
 use Rattle.gob_num.specs.Spelled.{IsSpelled}
 use Rattle.gob_types.specs.Defined.{Defined, types}
-use Rattle.gob_types.specs.Denial.{IsDenial}
 use Rattle.gob_go.specs.Machine.SessionState.{SessionState}
 use Rattle.gob_go_writer.specs.Machine.Alike.{AreAlike}
-use Rattle.gob_go_writer.specs.Machine.Parts.{IsItemUnder}
 use Rattle.gob_go_writer.specs.Machine.ReadingBack.{ReadBackAnswers, ReadsBack}
+use Rattle.gob_go_writer.specs.Machine.Unfit.{IsUnfit}
+use Rattle.gob_go_writer.specs.Spelling.{IsSpelling}
 use Rattle.gob_go_writer.proofs.WriterSteps.{all_given, fault_passed, not_alike, not_fed, not_finished, not_one}
 use Rattle.gob_go_writer.proofs.WriterSteps.{not_spelled, one_given, read_back, spelled_as}
 use Rattle.gob_go_writer.proofs.writer.read_given.Goals as goal
@@ -18,7 +18,7 @@ returns-in_err-spell_item-clause-read c = λ items z w.
     let why = c.in_err-spell_item.field-0.0 in
     fault_passed c.from_residual.result (λ r. ReadBackAnswers s s items z kept bytes r) c.from_residual.ensures.1
     (not_spelled s s kept bytes why w
-    (subst (λ (d : Defined). IsDenial (λ _. ¬ IsSpelled (IsItemUnder (types d) kept)) why) c.table.ensures
+    (subst (λ (d : Defined). IsUnfit (IsSpelled (IsSpelling (types d) kept)) why) c.table.ensures
     c.in_err-spell_item.ensures.refused))
 
 pub returns-in_err-feed-clause-read : goal.returns-in_err-feed-clause-read
@@ -81,7 +81,7 @@ returns-in_err-same_item-clause-read c = λ items z w.
     fault_passed c.from_residual-in_err-same_item.result
     (λ r. ReadBackAnswers s c.finish.new.self items z kept bytes r) c.from_residual-in_err-same_item.ensures.1
     (not_alike c.finish.new.self bytes piece fed.given why w spelled c.in_ok-feed.ensures.limits a end.0 one
-    (subst (λ (d : Defined). IsDenial (λ _. ¬ AreAlike (types d) only kept) why)
+    (subst (λ (d : Defined). IsUnfit (AreAlike (types d) only kept) why)
     (c.table-2.ensures ∙ ap (λ (t : SessionState). t.types) end.1) c.in_err-same_item.ensures.refused))
 
 pub returns-clause-read : goal.returns-clause-read
