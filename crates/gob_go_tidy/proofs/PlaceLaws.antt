@@ -3,11 +3,8 @@ use Rattle.std.proofs.Common.{◌≡◌, ◌∙◌, ℕ, ◌+◌, ◌<◌, ◌�
 use Rattle.std.proofs.Common.{append_assoc, append-nil, subst}
 use Rattle.std.proofs.lemmas.List.{drop_more}
 use Rattle.gob_go.specs.declared.filled.Filling.{Filling, out-Filling}
+use Rattle.gob_go_writer.proofs.PartSteps.{item_left}
 use Rattle.gob_go_tidy.specs.Machine.Places.{AreCloser, last_closer, then_closer, places_in}
-
-item_left : {A : Type 0} (xs : List A) (i : ℕ) (x : A) → x ≡ get_or xs i x → i < length xs
-    → drop i xs ≡ x ∷ drop (i + 1) xs
-item_left xs i x is l = drop_more xs i x l ∙ ap (λ y. y ∷ drop (i + 1) xs) (sym is)
 
 pub next_placed : {new : List ℕ} (ps : List ℕ) (fs : List Filling) (i : ℕ) (f : Filling) → f ≡ get_or fs i f
     → i < length fs

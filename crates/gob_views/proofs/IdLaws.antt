@@ -1,7 +1,6 @@
 -- The ids of what items define: how they are gathered, and that they are those by which the table grows.
 use Rattle.std.proofs.Common.{◌≡◌, ℕ, ◌+◌, ◌<◌, List, [], ◌∷◌, ◌++◌, length, drop, get_or, Option, ◌∙◌, ap, sym, subst}
 use Rattle.std.proofs.Common.{refl, append_assoc, append-nil}
-use Rattle.std.proofs.lemmas.List.{drop_more}
 use Rattle.gob_types.specs.Base.{base_table}
 use Rattle.gob_types.specs.Table.{Table}
 use Rattle.gob_types.specs.declared.id.TypeId.{TypeId}
@@ -25,12 +24,9 @@ use Rattle.gob_go.specs.declared.filled.Filling.{Filling, out-Filling}
 use Rattle.gob_go.specs.declared.item.GoItem.{GoItem}
 use Rattle.gob_go.specs.declared.item.GoItem.TheVariants as item
 use Rattle.gob_go.proofs.GoReaderLaws.{table_between}
+use Rattle.gob_go_writer.proofs.PartSteps.{item_left}
 use Rattle.gob_views.specs.Machine.Gathered.{IdsGiven}
 use Rattle.gob_views.specs.Types.{definition_ids, inner_ids, filling_ids, item_ids, defined_ids}
-
-item_left : {X : Type 0} (xs : List X) (i : ℕ) (x : X) → x ≡ get_or xs i x → i < length xs
-    → drop i xs ≡ x ∷ drop (i + 1) xs
-item_left xs i x is l = drop_more xs i x l ∙ ap (λ y. y ∷ drop (i + 1) xs) (sym is)
 
 -- ---- of definitions, one by one
 pub definition_kept : {new : List TypeId} (old mid : List TypeId) (ds : List Definition) (i : ℕ) (d : Definition)
