@@ -11,7 +11,7 @@ use gob_types::Table;
 use std::alloc::Global;
 
 // What, a stream, and the stream of its items in their tidy form. Type 65 is Outer { N int, I interface, M int } where
-// it isn't a list or a map; type 66 is Reg { A int }, or Outer, or a slice of it.
+// it isn't a list or a map, or what encodes itself; type 66 is Reg { A int }, or Outer, or a slice of it.
 const ROWS: &str = "
 a zero before an interface and one behind it | 25 ff 81 03 01 01 05 4f 75 74 65 72 01 ff 82 00 01 03 01 01 4e 01 04 00
 01 01 49 01 10 00 01 01 4d 01 04 00 00 00 10 ff 82 01 00 01 03 69 6e 74 04 02 00 06 01 00 00 | 25 ff 81 03 01 01 05 4f
@@ -46,6 +46,12 @@ zeros in two elements whose interfaces hold ints | 25 ff 81 03 01 01 05 4f 75 74
 02 00 00 00 01 00 01 01 62 04 02 00 04 01 06 00 | 25 ff 81 03 01 01 05 4f 75 74 65 72 01 ff 82 00 01 03 01 01 4e 01 04
 00 01 01 49 01 10 00 01 01 4d 01 04 00 00 00 0d ff 83 02 01 02 ff 84 00 01 ff 82 00 00 16 ff 84 00 02 02 01 61 04 02 00
 00 00 02 01 62 04 02 00 04 01 06 00
+
+an empty name in a description | 0e ff 81 02 01 01 00 01 ff 82 00 01 10 00 00 04 ff 82 00 00 | 0c ff 81 02 01 02 ff 82
+00 01 10 00 00 04 ff 82 00 00
+
+an empty name in the description of what an interface holds, which says a higher id | 10 10 00 01 61 ff 81 05 01 01 00
+01 ff 84 00 00 00 06 ff 82 03 00 01 78 | 0e 10 00 01 61 ff 81 05 01 02 ff 84 00 00 00 06 ff 82 03 00 01 78
 ";
 
 /// The rows that were worked out by hand.

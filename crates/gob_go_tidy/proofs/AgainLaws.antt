@@ -1,17 +1,14 @@
 -- The tidy form of an item is one of the same stream: at each level its letters are no longer, and a nil that is filled
 -- is as deep as it was.
-use Rattle.std.proofs.Common.{◌≡◌, ◌∙◌, ℕ, pos, ◌+◌, ◌-◌, ◌<◌, ◌≤◌, List, [], ◌∷◌, ◌++◌, length, arith, refl}
+use Rattle.std.proofs.Common.{◌≡◌, ◌∙◌, ℕ, ◌+◌, ◌≤◌, List, [], ◌∷◌, ◌++◌, length, arith, refl}
 use Rattle.std.proofs.Common.{sym, ap, subst, append_assoc, length-append}
-use Rattle.gob_num.specs.Unsigned.{AreBytes, IsUnsigned}
-use Rattle.gob_num.specs.Signed.{IsSigned}
+use Rattle.gob_num.specs.Unsigned.{AreBytes}
 use Rattle.gob_num.proofs.PublicLaws.{append_split, bytes_prefix, bytes_rest, signed_unsigned, unsigned_bytes}
 use Rattle.gob_types.specs.Base.{base_table}
 use Rattle.gob_types.specs.declared.id.TypeId.{TypeId}
 use Rattle.gob_types.specs.Ready.{IsReady}
 use Rattle.gob_types.specs.Table.{Table}
 use Rattle.gob_types.proofs.PublicLaws.{Keeps}
-use Rattle.gob_value.specs.Top.{SpellsTop}
-use Rattle.gob_value.specs.Tree.{Tree, depth}
 use Rattle.gob_value.proofs.PublicLaws.{one_top, tidy_no_deeper, top_back, top_on}
 use Rattle.gob_tidy.specs.SameNil.{IsSameNil}
 use Rattle.gob_read.specs.Expected.{a_number, nil}
@@ -19,11 +16,10 @@ use Rattle.gob_read.specs.Expects.{ExpectsTop}
 use Rattle.gob_read.proofs.PublicLaws.{expects_once, prefix_of, rest_behind}
 use Rattle.gob_read.proofs.Grammar.Stay.{expects_top_back, expects_top_on}
 use Rattle.gob_stream.specs.Bounds.{Bounds}
-use Rattle.gob_stream.specs.Body.{MayPut}
-use Rattle.gob_filled.specs.Filled.{Definitions, Fillings, no_filling, filling, AreDefined, AreSegments, SpellsFilled}
+use Rattle.gob_filled.specs.Filled.{Definitions, Fillings, no_filling, filling, AreSegments, SpellsFilled}
 use Rattle.gob_filled.specs.Filled.{with_fillings, Fills, as_it_stands, next_filled}
 use Rattle.gob_filled.specs.Filled as spelled
-use Rattle.gob_filled.specs.Stream.{defining, putting, IsFilledItem, of_definition, of_value}
+use Rattle.gob_filled.specs.Stream.{putting, IsFilledItem, of_value}
 use Rattle.gob_filled.proofs.Refused.{in_turn}
 use Rattle.gob_filled.proofs.Sound.{segments_bytes}
 use Rattle.gob_filled.proofs.Strict.{filled_keeps}
@@ -31,8 +27,9 @@ use Rattle.gob_go_writer.specs.Item.{IsGrown}
 use Rattle.gob_go_writer.proofs.PartSteps.{defs_keep}
 use Rattle.gob_go_tidy.specs.TidyItem.{FitsAgain}
 use Rattle.gob_go_tidy.specs.Machine.Tidied.{TidiesClosely, tidies_closely, MovesClosely, none_left, then_moved}
-use Rattle.gob_go_tidy.proofs.LetterLaws.{NoLonger, both_no_longer, bytes_before, bytes_same, counted_again}
-use Rattle.gob_go_tidy.proofs.LetterLaws.{definitions_same, last_no_longer, segments_again}
+use Rattle.gob_go_tidy.proofs.DescriptionLaws.{defined_again}
+use Rattle.gob_go_tidy.proofs.LetterLaws.{NoLonger, both_no_longer, bytes_before, counted_again, last_no_longer}
+use Rattle.gob_go_tidy.proofs.LetterLaws.{segments_again}
 use Rattle.gob_go_tidy.proofs.WayLaws.{nil_expected_top, way_depth}
 
 -- ---- tables behind tables
@@ -112,10 +109,10 @@ record FilledAgain (L : Bounds) (T : Table) (t : TypeId) (limit : ℕ) (v : spel
   pub shorter : NoLonger letters ls
 
 -- what fills a nil, and what is left behind it
-held_shorter : (a s e n f g ms ks c x : List ℕ) → AreBytes a → AreBytes s → NoLonger e e → AreBytes n → AreBytes f
+held_shorter : (a s e h n f g ms ks c x : List ℕ) → AreBytes a → AreBytes s → NoLonger h e → AreBytes n → AreBytes f
     → AreBytes g → length g ≤ length f → NoLonger ks ms → AreBytes c → AreBytes x → length x ≤ length c
-    → NoLonger (x ++ ((a ++ (s ++ (e ++ (n ++ g)))) ++ ks)) (c ++ ((a ++ (s ++ (e ++ (n ++ f)))) ++ ms))
-held_shorter a s e n f g ms ks c x oa os de on of og l m oc ox k =
+    → NoLonger (x ++ ((a ++ (s ++ (h ++ (n ++ g)))) ++ ks)) (c ++ ((a ++ (s ++ (e ++ (n ++ f)))) ++ ms))
+held_shorter a s e h n f g ms ks c x oa os de on of og l m oc ox k =
     bytes_before x c ox oc k (both_no_longer (bytes_before a a oa oa (omega arith)
     (bytes_before s s os os (omega arith) (both_no_longer de (bytes_before n n on on (omega arith)
     (last_no_longer g f og of l))))) m)
@@ -156,29 +153,31 @@ mutual
       }
   fills_again {L = L} {N = N} {T = T} {U = U} {V = V} {t = t} {limit = limit} {from = from} {to = to} {b = b} {c = c}
       {done = done} {tidy_done = tidy_done} {tidy_left = tidy_left} keep ready grown e f at to_is oc
-      (then_moved {u = u} {s = s} {q = q} {ds = ds} {w = w} {gs = gs} low near same tidies m)
+      (then_moved {u = u} {s = s} {q = q} {es = es} {w = w} {gs = gs} low near same defined described tidies m)
       (next_filled {W = W} {d = d} {left = rest} {a = a} {e = defs} {n = n} {f = held} {ms = ms} between ob ex some os
       counts are may i vs g fl) =
       let nil_at : Behind T t c tidy_done tidy_left q d = behind keep ready done (between ++ (0 ∷ rest)) between rest
       tidy_done tidy_left e f same ex (omega arith) in
       let place = nil_at.place_is in
-      let inner = filled_again may.ready (in_turn (fills_keep fl) grown) vs tidies in
+      let behind_held = in_turn (fills_keep fl) grown in
+      let again = defined_again (in_turn (filled_keeps vs) behind_held) are defined described in
+      let inner = filled_again may.ready behind_held vs tidies in
       let segments = segments_again g inner.shorter in
       let behind_it = fills_again keep ready grown (e ∙ one_more done between rest)
       (f ∙ ap (λ l. tidy_done ++ l) nil_at.left_is ∙ one_more tidy_done nil_at.between nil_at.rest)
       (behind_nil done between) (omega (arith, behind_nil tidy_done nil_at.between)) oc m fl in
       let ox = bytes_before_nil tidy_done nil_at.between nil_at.rest
       (subst AreBytes (f ∙ ap (λ l. tidy_done ++ l) nil_at.left_is) oc) in
-      let all = nil_at.between ++ ((a ++ (s ++ (defs ++ (n ++ segments.bytes)))) ++ behind_it.letters) in
+      let all = nil_at.between ++ ((a ++ (s ++ (again.letters ++ (n ++ segments.bytes)))) ++ behind_it.letters) in
       record {
         letters = all;
-        fills = subst (λ z. Fills base_table L T t limit U tidy_done z (filling q s ds u w gs) all V)
+        fills = subst (λ z. Fills base_table L T t limit U tidy_done z (filling q s es u w gs) all V)
             (sym nil_at.left_is) (subst (λ p. Fills base_table L T t limit U tidy_done
-            (nil_at.between ++ (0 ∷ nil_at.rest)) (filling p s ds u w gs) all V) (sym place)
-            (next_filled nil_at.between ox nil_at.expects some os counts are may i inner.spells segments.segments
-            behind_it.fills));
-        shorter = held_shorter a s defs n held segments.bytes ms behind_it.letters between nil_at.between
-            (unsigned_bytes counts) os (definitions_same are)
+            (nil_at.between ++ (0 ∷ nil_at.rest)) (filling p s es u w gs) all V) (sym place)
+            (next_filled nil_at.between ox nil_at.expects some os counts again.defined may i inner.spells
+            segments.segments behind_it.fills));
+        shorter = held_shorter a s defs again.letters n held segments.bytes ms behind_it.letters between nil_at.between
+            (unsigned_bytes counts) os again.shorter
             (unsigned_bytes (signed_unsigned i).1) (segments_bytes g) (segments_bytes segments.segments)
             segments.shorter behind_it.shorter ob ox (omega (
               arith,
@@ -197,9 +196,3 @@ value_fits ti (of_value {a = a} may sg k cs) grown low =
     let o = unsigned_bytes (signed_unsigned sg).1 in
     let again = counted_again cs (bytes_before a a o o (omega arith) r.shorter) low (omega arith) in
     record { bytes = again.bytes; is = of_value may sg r.spells again.counted; shorter = again.shorter }
-
-pub definition_fits : {L : Bounds} {T U : Table} {offset lower : ℕ} {id : TypeId} {v : Tree} {f : List ℕ}
-    → IsFilledItem base_table L T offset (defining id v) f U → lower ≤ offset
-    → FitsAgain L T offset (length f) (defining id v) U lower
-definition_fits {f = f} (of_definition counts few short def) low =
-    record { bytes = f; is = of_definition counts few (omega arith) def; shorter = omega arith }

@@ -1,14 +1,12 @@
 -- Letters that are no longer than others, segment by segment, in the places of those.
-use Rattle.std.proofs.Common.{◌≡◌, ℕ, ◌+◌, ◌-◌, ◌<◌, ◌≤◌, List, [], ◌∷◌, ◌++◌, length, inl, inr, arith, refl}
+use Rattle.std.proofs.Common.{◌≡◌, ℕ, ◌+◌, ◌-◌, ◌≤◌, List, [], ◌∷◌, ◌++◌, length, inl, inr, arith, refl}
 use Rattle.std.proofs.Common.{sym, subst, append_assoc, length-append}
 use Rattle.std.proofs.lemmas.Bool.{cases_lt}
 use Rattle.gob_num.specs.Unsigned.{AreBytes, IsUnsigned, short, long}
 use Rattle.gob_num.proofs.PublicLaws.{big_endian_below, bytes-append, bytes_rest, unsigned_fits, unsigned_length}
 use Rattle.gob_num.proofs.PublicLaws.{unsigned_spelled}
-use Rattle.gob_types.specs.Table.{Table}
 use Rattle.gob_stream.specs.Bounds.{Bounds}
-use Rattle.gob_filled.specs.Filled.{cut, AreDefined, none_defined, one_defined, AreSegments, last_segment, next_segment}
-use Rattle.gob_filled.specs.Filled.{Definitions}
+use Rattle.gob_filled.specs.Filled.{cut, AreSegments, last_segment, next_segment}
 use Rattle.gob_filled.specs.Stream.{AreCounted, last_counted, next_counted}
 
 -- the first letters have as many cuts as the others, and no longer segments
@@ -35,14 +33,6 @@ both_no_longer {ks = ks} {ns = ns} (next_no_longer {ls = ls} {ms = ms} s r o k l
     subst (NoLonger ((s ++ (cut ∷ ls)) ++ ks)) (sym (append_assoc r (cut ∷ ms) ns))
     (subst (λ x. NoLonger x (r ++ (cut ∷ (ms ++ ns)))) (sym (append_assoc s (cut ∷ ls) ks))
     (next_no_longer s r o k l (both_no_longer m n)))
-
-pub bytes_same : (s : List ℕ) → AreBytes s → NoLonger s s
-bytes_same s o = last_no_longer s s o o (omega arith)
-
-pub definitions_same : {base : Table} {L : Bounds} {T U : Table} {ds : Definitions} {e : List ℕ}
-    → AreDefined base L T ds e U → NoLonger e e
-definitions_same none_defined = last_no_longer [] [] tt tt (omega arith)
-definitions_same (one_defined {b = b} o d ds) = next_no_longer b b o o (omega arith) (definitions_same ds)
 
 -- ---- taken apart
 
@@ -108,12 +98,12 @@ count_no_longer (long {digits = cs} p) (long {digits = ds} q) k = elim (cases_lt
 ]
 
 -- a segment behind its count
-record IsCountedAgain (s c r : List ℕ) : Type 0 where
-  count : List ℕ
-  counts : IsUnsigned (length s) count
-  shorter : length (count ++ s) ≤ length (c ++ r)
+pub record IsCountedAgain (s c r : List ℕ) : Type 0 where
+  pub count : List ℕ
+  pub counts : IsUnsigned (length s) count
+  pub shorter : length (count ++ s) ≤ length (c ++ r)
 
-counted_so : (s r : List ℕ) {c : List ℕ} → IsUnsigned (length r) c → length s ≤ length r → IsCountedAgain s c r
+pub counted_so : (s r : List ℕ) {c : List ℕ} → IsUnsigned (length r) c → length s ≤ length r → IsCountedAgain s c r
 counted_so s r {c = c} u l =
     let f = unsigned_fits u in
     let n = unsigned_spelled (length s) (omega arith) in

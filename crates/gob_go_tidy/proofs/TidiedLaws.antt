@@ -1,9 +1,5 @@
 -- What is kept of a value whose skeleton and fillings were tidied stands for its tidy form.
-use Rattle.std.proofs.Common.{◌≡◌, ◌∙◌, ℕ, suc, ◌+◌, ◌<◌, ◌≤◌, List, [], ◌∷◌, length, Some, arith, refl, sym, ap, subst}
-use Rattle.std.proofs.Common.{get_or, set, inl, inr, length-set}
-use Rattle.std.proofs.lemmas.Bool.{cases_lt}
-use Rattle.std.proofs.lemmas.List.{get_or-set_other, get_or-set_same}
-use Rattle.std.proofs.lemmas.Option.{get_or_from_slice_get, slice_get-get_or, slice_get_within}
+use Rattle.std.proofs.Common.{◌≡◌, ◌∙◌, ℕ, suc, ◌+◌, ◌≤◌, List, [], ◌∷◌, length, Some, arith, refl, sym, ap, subst}
 use Rattle.std.specs.Prelude.{slice_get}
 use Rattle.gob_num.specs.Unsigned.{AreBytes}
 use Rattle.gob_types.specs.declared.id.TypeId.{TypeId}
@@ -11,7 +7,6 @@ use Rattle.gob_types.specs.Table.{Table}
 use Rattle.gob_types.proofs.PublicLaws.{some_injective}
 use Rattle.gob_value.specs.Tidy.{Tidies}
 use Rattle.gob_value.specs.Top.{SpellsTop}
-use Rattle.gob_value.specs.Tree.{Tree}
 use Rattle.gob_value.proofs.PublicLaws.{same_top}
 use Rattle.gob_tidy.specs.SameNil.{IsSameNil, MovesNils}
 use Rattle.gob_filled.specs.Filled.{Definitions, Fillings, no_filling, filling}
@@ -24,13 +19,17 @@ use Rattle.gob_go.specs.declared.filled.Filling.{Filling, out-Filling}
 use Rattle.gob_go.specs.declared.item.GoItem.{GoItem}
 use Rattle.gob_go.specs.declared.item.GoItem.TheVariants as item
 use Rattle.gob_value.specs.declared.value.Value.{Value}
+use Rattle.gob_value.specs.View.{view}
 use Rattle.gob_go_tidy.specs.TidyItem.{TidiesFilled, tidies_filled, TidiesFillings, tidies_none, tidies_filling}
 use Rattle.gob_go_tidy.specs.TidyItem.{BecomesTidy, IsTidyForm, tidies_definition, tidies_value}
+use Rattle.gob_go_tidy.specs.Machine.Each.{HoldsOfEach}
 use Rattle.gob_go_tidy.specs.Machine.Places.{AreCloser, last_closer, then_closer, places_in}
-use Rattle.gob_go_tidy.specs.Machine.Tidied.{AreTidied, IsFillingTidied, IsSkeletonTidied, IsTidiedAt, IsTidyOf}
-use Rattle.gob_go_tidy.specs.Machine.Tidied.{IsValueTidied, MovesClosely, none_left, then_moved, TidiesClosely}
-use Rattle.gob_go_tidy.specs.Machine.Tidied.{tidies_closely}
-use Rattle.gob_go_tidy.proofs.AgainLaws.{definition_fits, value_fits}
+use Rattle.gob_go_tidy.specs.Machine.Tidied.{AreTidied, IsDescriptionTidied, IsFillingTidied, IsSkeletonTidied}
+use Rattle.gob_go_tidy.specs.Machine.Tidied.{IsTidiedAt, IsTidyOf, IsValueTidied, MovesClosely, none_left, then_moved}
+use Rattle.gob_go_tidy.specs.Machine.Tidied.{TidiesClosely, tidies_closely}
+use Rattle.gob_go_tidy.proofs.AgainLaws.{value_fits}
+use Rattle.gob_go_tidy.proofs.DescriptionLaws.{definition_fits, definitions_moved}
+use Rattle.gob_go_tidy.proofs.EachLaws.{first_holds}
 use Rattle.gob_go_tidy.specs.declared.skeleton.Skeleton.{Skeleton}
 
 -- ---- with no word on lengths
@@ -42,13 +41,13 @@ mutual
   moves_plainly : {T : Table} {t : TypeId} {b c : List ℕ} {from to : ℕ} {fs gs : Fillings}
       → MovesClosely T t b c from to fs gs → TidiesFillings T t b c fs gs
   moves_plainly (none_left l m) = tidies_none
-  moves_plainly (then_moved l m same ti ms) = tidies_filling same (tidies_plainly ti) (moves_plainly ms)
+  moves_plainly (then_moved l m same ds are ti ms) = tidies_filling same ds (tidies_plainly ti) (moves_plainly ms)
 
 -- ---- fillings
 
-filling_alike : {p q : ℕ} {s r : List ℕ} {ds es : Definitions} {t u : TypeId} {w : spelled.Filled} {gs : Fillings}
-    → p ≡ q → s ≡ r → ds ≡ es → t ≡ u → filling p s ds t w gs ≡ filling q r es u w gs
-filling_alike e f g h = cc
+filling_alike : {p q : ℕ} {s r : List ℕ} {ds : Definitions} {t u : TypeId} {w : spelled.Filled} {gs : Fillings}
+    → p ≡ q → s ≡ r → t ≡ u → filling p s ds t w gs ≡ filling q r ds u w gs
+filling_alike e f g = cc
 
 -- what the tidied fillings stand for
 record FillingsMoved (T : Table) (t : TypeId) (b c : List ℕ) (from to : ℕ) (fs : Fillings) (news : List Filling) : Type
@@ -57,39 +56,22 @@ record FillingsMoved (T : Table) (t : TypeId) (b c : List ℕ) (from to : ℕ) (
   moves : MovesClosely T t b c from to fs fillings
   means : AreFillings T news fillings
 
--- the first of them
-record FirstTidied (T : Table) (q : ℕ) (qs : List ℕ) (old : Filling) (olds news : List Filling) : Type 0 where
-  first : Filling
-  others : List Filling
-  whole : news ≡ first ∷ others
-  tidied : IsFillingTidied T q old first
-  others_tidied : AreTidied T qs olds others
+-- the first nil's filling is tidied for it, and the others for the other nils
+place_first : {T : Table} {q : ℕ} {qs : List ℕ} {old new : Filling} → IsTidiedAt T (q ∷ qs) 0 old new
+    → IsFillingTidied T q old new
+place_first {T = T} {old = old} {new = new} h =
+    subst (λ p. IsFillingTidied T p old new) (sym (some_injective h.there)) h.tidied
 
-first_tidied : {T : Table} {q : ℕ} {qs : List ℕ} {old : Filling} {olds : List Filling} (news : List Filling)
-    → AreTidied T (q ∷ qs) (old ∷ olds) news → FirstTidied T q qs old olds news
-first_tidied {old = old} [] a = absurd (let l = a.all in omega arith)
-first_tidied {T = T} {q = q} {qs = qs} {old = old} {olds = olds} (new ∷ news) a =
-    let h = a.each 0 old refl in
-    let place : q ≡ h.place = some_injective h.there in
-    let is : new ≡ h.filling = some_injective h.is in
-    let all = a.all in
-    record {
-      first = new;
-      others = news;
-      whole = refl;
-      tidied = subst (λ f. IsFillingTidied T q old f) (sym is)
-          (subst (λ p. IsFillingTidied T p old h.filling) (sym place) h.tidied);
-      others_tidied = record {
-        all = omega arith;
-        each = λ number f there. let k = a.each (suc number) f there in record {
-          place = k.place;
-          filling = k.filling;
-          there = k.there;
-          is = k.is;
-          tidied = k.tidied;
-        };
-      };
-    }
+place_others : {T : Table} {q : ℕ} {qs : List ℕ} {olds news : List Filling}
+    → HoldsOfEach (λ number. IsTidiedAt T (q ∷ qs) (suc number)) olds news → AreTidied T qs olds news
+place_others a = record {
+  all = a.all;
+  each = λ number f there. let h = a.each number f there in record {
+    element = h.element;
+    is = h.is;
+    holds = let k = h.holds in record { place = k.place; there = k.there; tidied = k.tidied };
+  };
+}
 
 -- one of them, and those behind it
 one_moved : {T : Table} {t : TypeId} {b c : List ℕ} {from to q : ℕ} {old new : Filling} {news : List Filling}
@@ -102,15 +84,16 @@ one_moved : {T : Table} {t : TypeId} {b c : List ℕ} {from to q : ℕ} {old new
 one_moved {T = T} {t = t} {b = b} {c = c} {from = from} {to = to} {q = q} {old = old} {new = new} {w = w} {fs = fs}
     low near same tidied m r =
     let h = tidied.value w m in
+    let d = definitions_moved (out-Filling old).definitions.items (out-Filling new).definitions.items tidied.definitions
+    in
     let all = filling (out-Filling new).place (out-Filling new).name.items
     (definitions_of (out-Filling new).definitions.items) (out-Filling new).id h.form r.fillings in
     record {
       fillings = all;
       moves = subst (MovesClosely T t b c from to (filling (out-Filling old).place (out-Filling old).name.items
           (definitions_of (out-Filling old).definitions.items) (out-Filling old).id w fs))
-          (filling_alike (sym tidied.place_is) (ap (λ n. n.items) (sym tidied.name))
-          (ap (λ ds. definitions_of ds.items) (sym tidied.definitions)) (sym tidied.type))
-          (then_moved low near same h.tidies r.moves);
+          (filling_alike (sym tidied.place_is) (ap (λ n. n.items) (sym tidied.name)) (sym tidied.type))
+          (then_moved low near same d.tidies d.are h.tidies r.moves);
       means = filling_then (subst (λ id. IsFilled T id (out-Filling new).value h.form) (sym tidied.type) h.means)
           r.means;
     }
@@ -131,12 +114,12 @@ fillings_moved {T = T} places news no_fillings (last_closer l m) same a = record
 }
 fillings_moved {T = T} {t = t} {b = b} {c = c} {from = from} {to = to} places news
     (filling_then {kept = old} {all = olds} {w = w} {fs = fs} m ms) (then_closer {q = q} {qs = qs} low near cs) same a =
-    let h = first_tidied news a in
+    let h = first_holds news a in
     subst (FillingsMoved T t b c from to (filling (out-Filling old).place (out-Filling old).name.items
     (definitions_of (out-Filling old).definitions.items) (out-Filling old).id w fs)) (sym h.whole)
-    (one_moved low near (same 0 (out-Filling old).place q refl refl) h.tidied m
+    (one_moved low near (same 0 (out-Filling old).place q refl refl) (place_first h.holds) m
     (fillings_moved {from = (out-Filling old).place + 1} {to = q + 1} qs h.others ms cs
-    (λ i p r x y. same (suc i) p r x y) h.others_tidied))
+    (λ i p r x y. same (suc i) p r x y) (place_others h.others_hold)))
 
 -- ---- values
 
@@ -174,17 +157,16 @@ put_becomes {now = now} {id = id} {old = old} {new = new} h = λ i m. by i m
           fits = λ L before behind offset lower bytes is grown low. value_fits t.tidies is grown low;
         }
 
-pub definition_becomes : {now : Table} {id : TypeId} {described : Value}
-    → BecomesTidy now (item.Define id described) (item.Define id described)
-definition_becomes {now = now} {id = id} {described = described} = λ i m. by i m
+pub definition_becomes : {now : Table} {id : TypeId} {old new : Value} → IsDescriptionTidied now (view old) (view new)
+    → BecomesTidy now (item.Define id old) (item.Define id new)
+definition_becomes {now = now} {id = id} {old = old} {new = new} h = λ i m. by i m
   where
-    by : (i : FilledItem) → ItemMeans now (item.Define id described) i
-        → IsTidyForm now i (item.Define id described)
+    by : (i : FilledItem) → ItemMeans now (item.Define id old) i → IsTidyForm now i (item.Define id new)
     by _ means_definition = record {
-      form = defining id _;
-      tidies = tidies_definition;
+      form = defining id (view new);
+      tidies = tidies_definition h.tidies;
       means = means_definition;
-      fits = λ L before behind offset lower bytes is grown low. definition_fits is low;
+      fits = λ L before behind offset lower bytes is grown low. definition_fits h is grown low;
     }
 
 -- where the item is such a one
@@ -193,9 +175,10 @@ pub put_at : {now : Table} {id : TypeId} {old new : Filled} {given : GoItem} →
 put_at {now = now} {id = id} {new = new} is h =
     subst (λ (i : GoItem). BecomesTidy now i (item.Put id new)) (sym is) (put_becomes h)
 
-pub definition_at : {now : Table} {id : TypeId} {described : Value} {given : GoItem} → given ≡ item.Define id described
-    → BecomesTidy now given given
-definition_at {now = now} is = subst (λ (i : GoItem). BecomesTidy now i i) (sym is) definition_becomes
+pub definition_at : {now : Table} {id : TypeId} {old new : Value} {given : GoItem} → given ≡ item.Define id old
+    → IsDescriptionTidied now (view old) (view new) → BecomesTidy now given (item.Define id new)
+definition_at {now = now} {id = id} {new = new} is h =
+    subst (λ (i : GoItem). BecomesTidy now i (item.Define id new)) (sym is) (definition_becomes h)
 
 -- ---- skeletons
 
@@ -214,61 +197,6 @@ skeleton_tidied {T = T} {id = id} {skeleton = skeleton} {m = m} {b = b} {form = 
     }
 
 -- ---- what is kept
-
--- the fillings up to a number, one by one
-pub all_tidied : {T : Table} {places : List ℕ} (olds news : List Filling) (i : ℕ) → length news ≡ length olds
-    → length olds ≤ i → ((number : ℕ) (f : Filling) → number < i → slice_get olds number ≡ Some f
-    → IsTidiedAt T places news number f) → AreTidied T places olds news
-all_tidied olds news i same end each = record {
-  all = same;
-  each = λ number f there. each number f (let l = slice_get_within olds number f there in omega arith) there;
-}
-
--- those behind the number stay
-pub unvisited_on : (olds news : List Filling) (i : ℕ) (new : Filling) → length news ≡ length olds
-    → ((k : ℕ) (d : Filling) → i ≤ k → get_or news k d ≡ get_or olds k d)
-    → (length (set news i new) ≡ length olds)
-    × ((k : ℕ) (d : Filling) → i + 1 ≤ k → get_or (set news i new) k d ≡ get_or olds k d)
-unvisited_on olds news i new same stays = (
-  omega (arith, length-set news i new),
-  λ k d l. get_or-set_other news i k new d (λ e. omega arith) ∙ stays k d (omega arith),
-)
-
-pub next_tidied : {T : Table} {places : List ℕ} {place : ℕ} (olds news : List Filling) (i : ℕ) (old new : Filling)
-    → length news ≡ length olds → i < length news → old ≡ get_or news i old → get_or news i old ≡ get_or olds i old
-    → slice_get places i ≡ Some place → IsFillingTidied T place old new
-    → ((number : ℕ) (f : Filling) → number < i → slice_get olds number ≡ Some f
-    → IsTidiedAt T places news number f)
-    → (number : ℕ) (f : Filling) → number < i + 1 → slice_get olds number ≡ Some f
-    → IsTidiedAt T places (set news i new) number f
-next_tidied {T = T} {places = places} {place = place} olds news i old new same l is stays at tidied each number f below
-    there = elim (cases_lt number i) [
-      | inl less ↦
-          let h = each number f less there in
-          let k = slice_get_within news number h.filling h.is in
-          record {
-            place = h.place;
-            filling = h.filling;
-            there = h.there;
-            is = slice_get-get_or (set news i new) number h.filling (omega (arith, length-set news i new))
-                ∙ ap Some (get_or-set_other news i number new h.filling (λ e. omega arith)
-                ∙ get_or_from_slice_get news number h.filling h.filling h.is);
-            tidied = h.tidied;
-          }
-      | inr more ↦
-          let one : number ≡ i = omega arith in
-          let f_is : old ≡ f = is ∙ stays ∙ get_or_from_slice_get olds i f old
-          (subst (λ n. slice_get olds n ≡ Some f) one there) in
-          record {
-            place = place;
-            filling = new;
-            there = subst (λ n. slice_get places n ≡ Some place) (sym one) at;
-            is = subst (λ n. slice_get (set news i new) n ≡ Some new) (sym one)
-                (slice_get-get_or (set news i new) i new (omega (arith, length-set news i new))
-                ∙ ap Some (get_or-set_same news i new new l));
-            tidied = subst (λ o. IsFillingTidied T place o new) f_is tidied;
-          }
-    ]
 
 pub value_becomes : {T : Table} {t : TypeId} {old new : Filled} {s places : List ℕ} {olds others news : List Filling}
     (form : Skeleton) → s ≡ (out-Filled old).skeleton.items → olds ≡ (out-Filled old).fillings.items

@@ -1,9 +1,9 @@
--- The tidy form of items of Go's encoder: each skeleton in its tidy form, and each nil of it filled with the tidy form
--- of what filled the same nil. Names, definitions and types stay.
+-- The tidy form of items of Go's encoder: each skeleton and each description in its tidy form, and each nil of a
+-- skeleton filled with the tidy form of what filled the same nil. Names, ids and types stay.
 -- (Go's encoding/gob documentation, Encoding Details, on omitted zero values; docs/FORMAT.md, Tidy form; Fillings and
 -- segments.)
 use Rattle.std.specs.Prelude.{ℕ, ◌≤◌, List, length}
-use Rattle.gob_types.specs.Base.{base_table}
+use Rattle.gob_types.specs.Base.{base_table, wire_type}
 use Rattle.gob_types.specs.declared.id.TypeId.{TypeId}
 use Rattle.gob_types.specs.Table.{Table}
 use Rattle.gob_value.specs.Tidy.{Tidies}
@@ -11,11 +11,18 @@ use Rattle.gob_value.specs.Top.{SpellsTop}
 use Rattle.gob_value.specs.Tree.{Tree}
 use Rattle.gob_tidy.specs.SameNil.{IsSameNil}
 use Rattle.gob_stream.specs.Bounds.{Bounds}
-use Rattle.gob_filled.specs.Filled.{Definitions, Filled, filled, Fillings, no_filling, filling}
+use Rattle.gob_filled.specs.Filled.{Definitions, no_definitions, definition, Filled, filled, Fillings, no_filling}
+use Rattle.gob_filled.specs.Filled.{filling}
 use Rattle.gob_filled.specs.Stream.{FilledItem, defining, putting, IsFilledItem}
 use Rattle.gob_go.specs.Meaning.{ItemMeans}
 use Rattle.gob_go.specs.declared.item.GoItem.{GoItem}
 use Rattle.gob_go_writer.specs.Item.{IsGrown}
+
+-- the second definitions are the first ones, each with the tidy form of its description, a value of type 16
+pub data TidiesDefinitions (T : Table) : Definitions → Definitions → Type 0 where
+  tidies_none_defined : TidiesDefinitions T no_definitions no_definitions
+  tidies_one_defined : {id : TypeId} {v w : Tree} {ds es : Definitions} → Tidies T wire_type v w
+      → TidiesDefinitions T ds es → TidiesDefinitions T (definition id v ds) (definition id w es)
 
 mutual
   -- the second value is the tidy form of the first, a value of the type
@@ -26,13 +33,13 @@ mutual
   -- where these bytes spell the one skeleton and the others the other
   pub data TidiesFillings (T : Table) : TypeId → (b c : List ℕ) → Fillings → Fillings → Type 0 where
     tidies_none : {t : TypeId} {b c : List ℕ} → TidiesFillings T t b c no_filling no_filling
-    tidies_filling : {t u : TypeId} {b c s : List ℕ} {p q : ℕ} {ds : Definitions} {v w : Filled} {fs gs : Fillings}
-        → IsSameNil T t b c p q → TidiesFilled T u v w → TidiesFillings T t b c fs gs
-        → TidiesFillings T t b c (filling p s ds u v fs) (filling q s ds u w gs)
+    tidies_filling : {t u : TypeId} {b c s : List ℕ} {p q : ℕ} {ds es : Definitions} {v w : Filled} {fs gs : Fillings}
+        → IsSameNil T t b c p q → TidiesDefinitions T ds es → TidiesFilled T u v w → TidiesFillings T t b c fs gs
+        → TidiesFillings T t b c (filling p s ds u v fs) (filling q s es u w gs)
 
 -- the second item is the tidy form of the first
 pub data TidiesItem (T : Table) : FilledItem → FilledItem → Type 0 where
-  tidies_definition : {id : TypeId} {v : Tree} → TidiesItem T (defining id v) (defining id v)
+  tidies_definition : {id : TypeId} {v w : Tree} → Tidies T wire_type v w → TidiesItem T (defining id v) (defining id w)
   tidies_value : {t : TypeId} {v w : Filled} → TidiesFilled T t v w → TidiesItem T (putting t v) (putting t w)
 
 -- at any offset that isn't higher some bytes, no more than so many, are the item, and lead from the one table to the

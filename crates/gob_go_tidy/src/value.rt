@@ -4,6 +4,7 @@ ghost use Rattle.std.specs.Prelude.{OnOk};
 ghost use Rattle.gob_types.specs.Defined.{types};
 ghost use Rattle.gob_go_tidy.specs.Machine.Tidied.{AreTidied, IsFillingTidied, IsValueTidied};
 
+use crate::description::tidy_definitions;
 use crate::skeleton::{Skeleton, tidy_skeleton};
 use gob_go::{Filled, Filling};
 use gob_num::Memory;
@@ -50,7 +51,7 @@ fn tidy_fillings(
     Ok(())
 }
 
-// Gives what fills a nil its tidy form, for the nil at this place.
+// Gives what fills a nil its tidy form, and the definitions in front of it theirs, for the nil at this place.
 #[cycle(value)]
 fn tidy_filling(
     alloc: Global,
@@ -61,5 +62,6 @@ fn tidy_filling(
     ensures { OnOk result (IsFillingTidied (types table.now) place filling.old filling.new) }
 {
     filling.place = place;
+    tidy_definitions(alloc, table, &mut filling.definitions)?;
     tidy_value(alloc, table, filling.id, &mut filling.value)
 }

@@ -6,3 +6,4 @@ pub mod LineLaws
 mod RewriteLaws
 pub mod TextLaws
 mod ShowLaws
+mod StrictFormLaws

@@ -5,4 +5,5 @@ pub mod Machine
 pub mod RewritingGo
 pub mod RunningGo
 pub mod ShowingGo
+pub mod StrictForms
 pub mod Texts

@@ -18,9 +18,9 @@ use std::alloc::Global;
 use std::io::{Read, Write};
 
 /// Writes the stream of the items of a stream of Go's encoder, each in its tidy form at every level, and nothing else,
-/// and ends with a flush: the same bytes, where Go's encoder made them. A description stays as it was spelled. No limit
-/// refuses what is written. With `hoist` each definition that stands in a value stands in an item of its own before it
-/// instead; all items may then have more bytes than before, which wider limits allow.
+/// and ends with a flush: the same bytes, where Go's encoder made them. No limit refuses what is written. With `hoist`
+/// each definition that stands in a value stands in an item of its own before it instead; all items may then have more
+/// bytes than before, which wider limits allow.
 ///
 /// Ok exactly at the end of a whole stream. Before a fault is answered the items before it are written; at
 /// `ToolFault::Write` a prefix of them may be. A flush that fails is that fault where no other came before it. What it

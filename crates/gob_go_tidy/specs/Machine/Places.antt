@@ -1,5 +1,5 @@
 -- The places of nils in the bytes of a value and in those of its tidy form.
-use Rattle.std.specs.Prelude.{ℕ, ◌+◌, ◌<◌, ◌≤◌, List, [], ◌∷◌}
+use Rattle.std.specs.Prelude.{ℕ, ◌+◌, ◌≤◌, List, [], ◌∷◌}
 use Rattle.gob_go.specs.declared.filled.Filling.{Filling, out-Filling}
 
 -- those of the nils that are filled

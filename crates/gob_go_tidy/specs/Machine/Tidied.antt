@@ -1,19 +1,41 @@
 -- What is kept of a value and of its fillings, before and behind tidying.
-use Rattle.std.specs.Prelude.{◌≡◌, ℕ, ◌+◌, ◌<◌, ◌≤◌, List, length, Some, slice_get}
+use Rattle.std.specs.Prelude.{◌≡◌, ℕ, ◌+◌, ◌≤◌, List, length, Some, slice_get}
 use Rattle.gob_num.specs.Unsigned.{AreBytes}
+use Rattle.gob_types.specs.Base.{wire_type}
 use Rattle.gob_types.specs.declared.id.TypeId.{TypeId}
+use Rattle.gob_types.specs.Defined.{IsTable}
 use Rattle.gob_types.specs.Table.{Table}
+use Rattle.gob_value.specs.Fits.{Fits}
 use Rattle.gob_value.specs.Tidy.{Tidies}
 use Rattle.gob_value.specs.Top.{SpellsTop}
 use Rattle.gob_value.specs.Tree.{Tree}
+use Rattle.gob_value.specs.View.{view}
 use Rattle.gob_tidy.specs.SameNil.{IsSameNil, MovesNils}
-use Rattle.gob_filled.specs.Filled.{Definitions, Fillings, no_filling, filling}
+use Rattle.gob_filled.specs.Filled.{Definitions, no_definitions, definition, Fillings, no_filling, filling}
 use Rattle.gob_filled.specs.Filled as spelled
 use Rattle.gob_go.specs.Meaning.{IsFilled}
+use Rattle.gob_go.specs.declared.filled.Definition.{Definition}
 use Rattle.gob_go.specs.declared.filled.Filled.{Filled}
 use Rattle.gob_go.specs.declared.filled.Filling.{Filling, out-Filling}
+use Rattle.gob_go_tidy.specs.TidyItem.{TidiesDefinitions}
+use Rattle.gob_go_tidy.specs.Machine.Each.{HoldsOfEach}
 use Rattle.gob_go_tidy.specs.Machine.Places.{AreCloser, places_in}
 use Rattle.gob_go_tidy.specs.declared.skeleton.Skeleton.{Skeleton}
+
+-- a value of type 16, where the types are those of a stream
+pub record IsDescription (T : Table) (v : Tree) : Type 0 where
+  pub known : IsTable T
+  pub fits : Fits T wire_type v
+
+-- each description of the definitions is one
+abbrev pub AreDescriptions : Table → Definitions → Type 0
+AreDescriptions T no_definitions = Unit {0}
+AreDescriptions T (definition id v ds) = IsDescription T v × AreDescriptions T ds
+
+-- the second value is the tidy form of the first, a description
+pub record IsDescriptionTidied (T : Table) (old new : Tree) : Type 0 where
+  pub tidies : Tidies T wire_type old new
+  pub is : IsDescription T new
 
 mutual
   -- the second value is the tidy form of the first, and no piece between nils got longer
@@ -26,10 +48,10 @@ mutual
   pub data MovesClosely (T : Table) : TypeId → (b c : List ℕ) → (from to : ℕ) → Fillings → Fillings → Type 0 where
     none_left : {t : TypeId} {b c : List ℕ} {from to : ℕ} → to ≤ length c → length c + from ≤ length b + to
         → MovesClosely T t b c from to no_filling no_filling
-    then_moved : {t u : TypeId} {b c s : List ℕ} {from to p q : ℕ} {ds : Definitions} {v w : spelled.Filled}
-        {fs gs : Fillings} → to ≤ q → q + from ≤ p + to → IsSameNil T t b c p q → TidiesClosely T u v w
-        → MovesClosely T t b c (p + 1) (q + 1) fs gs
-        → MovesClosely T t b c from to (filling p s ds u v fs) (filling q s ds u w gs)
+    then_moved : {t u : TypeId} {b c s : List ℕ} {from to p q : ℕ} {ds es : Definitions} {v w : spelled.Filled}
+        {fs gs : Fillings} → to ≤ q → q + from ≤ p + to → IsSameNil T t b c p q → TidiesDefinitions T ds es
+        → AreDescriptions T es → TidiesClosely T u v w → MovesClosely T t b c (p + 1) (q + 1) fs gs
+        → MovesClosely T t b c from to (filling p s ds u v fs) (filling q s es u w gs)
 
 -- whatever value is kept in the first, its tidy form is in the second
 pub record IsTidyOf (T : Table) (id : TypeId) (value : spelled.Filled) (new : Filled) : Type 0 where
@@ -40,25 +62,30 @@ pub record IsTidyOf (T : Table) (id : TypeId) (value : spelled.Filled) (new : Fi
 abbrev pub IsValueTidied : Table → TypeId → (old new : Filled) → Type 0
 IsValueTidied T id old new = (value : spelled.Filled) → IsFilled T id old value → IsTidyOf T id value new
 
+-- a definition, with its description in its tidy form
+pub record IsDefinitionTidied (T : Table) (old new : Definition) : Type 0 where
+  pub id : new.id ≡ old.id
+  pub described : IsDescriptionTidied T (view old.described) (view new.described)
+
+abbrev pub AreDefinitionsTidied : Table → (old new : List Definition) → Type 0
+AreDefinitionsTidied T = HoldsOfEach (λ number. IsDefinitionTidied T)
+
 -- what fills a nil, in its tidy form for the nil at the place
 pub record IsFillingTidied (T : Table) (place : ℕ) (old new : Filling) : Type 0 where
   pub place_is : (out-Filling new).place ≡ place
   pub name : (out-Filling new).name ≡ (out-Filling old).name
-  pub definitions : (out-Filling new).definitions ≡ (out-Filling old).definitions
+  pub definitions : AreDefinitionsTidied T (out-Filling old).definitions.items (out-Filling new).definitions.items
   pub type : (out-Filling new).id ≡ (out-Filling old).id
   pub value : IsValueTidied T (out-Filling old).id (out-Filling old).value (out-Filling new).value
 
 -- the filling of a number, for the nil at the place of that number
-pub record IsTidiedAt (T : Table) (places : List ℕ) (new : List Filling) (number : ℕ) (old : Filling) : Type 0 where
+pub record IsTidiedAt (T : Table) (places : List ℕ) (number : ℕ) (old new : Filling) : Type 0 where
   pub place : ℕ
-  pub filling : Filling
   pub there : slice_get places number ≡ Some place
-  pub is : slice_get new number ≡ Some filling
-  pub tidied : IsFillingTidied T place old filling
+  pub tidied : IsFillingTidied T place old new
 
-pub record AreTidied (T : Table) (places : List ℕ) (old new : List Filling) : Type 0 where
-  pub all : length new ≡ length old
-  pub each : (number : ℕ) (f : Filling) → slice_get old number ≡ Some f → IsTidiedAt T places new number f
+abbrev pub AreTidied : Table → (places : List ℕ) → (old new : List Filling) → Type 0
+AreTidied T places = HoldsOfEach (IsTidiedAt T places)
 
 -- the skeleton of a value of the type in its tidy form, where its nils are filled with these
 pub record IsSkeletonTidied (T : Table) (id : TypeId) (skeleton : List ℕ) (fillings : List Filling) (form : Skeleton)

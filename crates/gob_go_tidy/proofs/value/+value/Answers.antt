@@ -7,7 +7,8 @@ use Rattle.gob_types.specs.Defined.{types}
 use Rattle.gob_go.specs.declared.filled.Filled.{out-Filled, out-roll-Filled}
 use Rattle.gob_go.specs.declared.filled.Filling.{Filling}
 use Rattle.gob_go_tidy.specs.Machine.Tidied.{IsFillingTidied}
-use Rattle.gob_go_tidy.proofs.TidiedLaws.{all_tidied, next_tidied, unvisited_on, value_becomes}
+use Rattle.gob_go_tidy.proofs.EachLaws.{all_hold, next_holds, unvisited_on}
+use Rattle.gob_go_tidy.proofs.TidiedLaws.{value_becomes}
 use Rattle.gob_go_tidy.proofs.value.+value.Goals as goal
 
 pub tidy_value-returns : goal.tidy_value-returns
@@ -18,7 +19,7 @@ tidy_value-returns t c = on_ok_weaker c.tidy_fillings.result
     (a.all ∙ simp (out-roll-Filled) at c.deref_mut.ensures.len)))) c.tidy_fillings.ensures
 
 pub tidy_fillings-returns : goal.tidy_fillings-returns
-tidy_fillings-returns t c = all_tidied c.args.fillings.now c.fillings.fillings c.fillings.i c.fillings.auto.fillings
+tidy_fillings-returns t c = all_hold c.args.fillings.now c.fillings.fillings c.fillings.i c.fillings.auto.fillings
     c.fillings-test.false c.fillings.invariant.tidied
 
 pub tidy_fillings-fillings-preserved : goal.tidy_fillings-fillings-preserved
@@ -32,9 +33,11 @@ tidy_fillings-fillings-preserved t c =
     record {
       unvisited = unvisited_on c.args.fillings.now c.fillings.fillings c.fillings.i c.tidy_filling.new.filling same
           stays.1;
-      tidied = next_tidied c.args.fillings.now c.fillings.fillings c.fillings.i old c.tidy_filling.new.filling same
-          (omega arith) c.index-fillings-i.is (stays.1 c.fillings.i old (omega arith)) at
-          (subst (λ (f : Filling). IsFillingTidied (types c.args.table.now) c.in-Some.place.now f
-          c.tidy_filling.new.filling) (sym c.index-fillings-i.is) c.in_ok-tidy_filling.ensures)
-          c.fillings.invariant.tidied;
+      tidied = next_holds c.args.fillings.now c.fillings.fillings c.fillings.i old c.tidy_filling.new.filling same
+          (omega arith) c.index-fillings-i.is (stays.1 c.fillings.i old (omega arith)) (record {
+            place = c.in-Some.place.now;
+            there = at;
+            tidied = subst (λ (f : Filling). IsFillingTidied (types c.args.table.now) c.in-Some.place.now f
+                c.tidy_filling.new.filling) (sym c.index-fillings-i.is) c.in_ok-tidy_filling.ensures;
+          }) c.fillings.invariant.tidied;
     }

@@ -2,6 +2,7 @@ use Rattle.std.proofs.Common.{◌≡◌, ℕ, ◌<◌, Some}
 use Rattle.std.specs.Prelude.{slice_get}
 use Rattle.gob_types.specs.Defined.{types}
 use Rattle.gob_go.specs.declared.filled.Filling.{Filling}
+use Rattle.gob_go_tidy.specs.Machine.Each.{HoldsAt}
 use Rattle.gob_go_tidy.specs.Machine.Tidied.{IsTidiedAt}
 use Rattle.gob_go_tidy.proofs.value.+value.Given as goal
 
@@ -9,5 +10,5 @@ abbrev pub invariant-tidy_fillings-fillings : goal.invariant-tidy_fillings-filli
 invariant-tidy_fillings-fillings l = record {
   unvisited : goal.unvisited-tidy_fillings-fillings l;
   tidied : (number : ℕ) (f : Filling) → number < l.i → slice_get l.initial.fillings number ≡ Some f
-      → IsTidiedAt (types l.table) l.places l.fillings number f;
+      → HoldsAt (IsTidiedAt (types l.table) l.places) l.fillings number f;
 }
