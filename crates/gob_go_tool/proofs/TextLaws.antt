@@ -1,7 +1,7 @@
 -- How a run that writes texts of items goes on, and how it ends.
 use Rattle.std.proofs.Common.{◌≡◌, ℕ, ◌+◌, ◌-◌, ◌<◌, ◌≤◌, arith, List, [], ◌++◌, length, drop, Option, Some}
 use Rattle.std.proofs.Common.{Result, Ok, Err, ◌∙◌, ap, sym, subst, refl, append_assoc, append-nil, length-append}
-use Rattle.std.proofs.Common.{length-take, IfSome, ◌∷◌}
+use Rattle.std.proofs.Common.{length-take, Bool, IfSome, ◌∷◌}
 use Rattle.std.proofs.lemmas.List.{length-take-le}
 use Rattle.std.specs.Result.{IsErrAnd}
 use Rattle.std.specs.Io.KnownBytes.{Appends, Keeps}
@@ -39,8 +39,8 @@ use Rattle.gob_tool.specs.Showing.{AppendsPrefix}
 use Rattle.gob_tool.specs.declared.fault.ToolFault.{ToolFault}
 use Rattle.gob_tool.specs.declared.fault.ToolFault.TheVariants as fault
 use Rattle.gob_tool.proofs.EndLaws.{all_kept, prefix_kept}
-use Rattle.gob_go_tool.specs.Machine.Texts.{TextGiven, MadeOf, made_of_none, made_of_one, MakesTexts, MakesNext}
-use Rattle.gob_go_tool.specs.Machine.Texts.{WritesNext, WritesSo}
+use Rattle.gob_go_tool.specs.Machine.Texts.{AppendsTexts, AreNextTexts, MakesNext, MakesOnward, MakesTexts}
+use Rattle.gob_go_tool.specs.Machine.Texts.{TextGiven, WritesNext, WritesSo}
 use Rattle.gob_go_tool.specs.RunningGo.{BeginsGo, EndsWholeGo, RunGoAnswers}
 use Rattle.gob_go_tool.specs.Texts.{HaveTexts, no_texts, texts_then, IsWholeText, OfTexts, TextsAnswers}
 use Rattle.gob_go_tool.proofs.CountLaws.{items_few, read_within}
@@ -224,15 +224,15 @@ runs_as L bytes now P Q C D (Err fault.Memory) e f g = record {
 
 module _ {Is : Table → FilledItem → List ℕ → Type 0} where
   -- ---- from item to item
-  -- those of the items that follow stand behind the others
-  texts_on : {L : Bounds} {bytes text made : List ℕ} {items more : List FilledItem} {T : Table}
-      → HaveTexts Is L bytes items text → (b : BeginsFilled base_table L bytes (items ++ more)) → b.table ≡ T
-      → MadeOf Is T more made → HaveTexts Is L bytes (items ++ more) (text ++ made)
-  texts_on {L = L} {bytes = bytes} {text = text} {items = items} h b e made_of_none =
+  none_next : {L : Bounds} {bytes : List ℕ} {items : List FilledItem} → AreNextTexts Is L bytes items [] []
+  none_next {L = L} {bytes = bytes} {items = items} = λ text h.
       subst (λ l. HaveTexts Is L bytes l (text ++ [])) (sym (append-nil items))
       (subst (λ l. HaveTexts Is L bytes items l) (sym (append-nil text)) h)
-  texts_on h b e (made_of_one {i = i} {made = made} m) =
-      texts_then i made h b (subst (λ T. Is T i made) (sym e) m)
+
+  one_next : {L : Bounds} {bytes : List ℕ} {items : List FilledItem} {T : Table} (i : FilledItem) (made : List ℕ)
+      → (b : BeginsFilled base_table L bytes (items ++ i ∷ [])) → b.table ≡ T → Is T i made
+      → AreNextTexts Is L bytes items (i ∷ []) made
+  one_next i made b e m = λ text h. texts_then i made h b (subst (λ T. Is T i made) (sym e) m)
 
   pub texts_first : (r : GoReader) (read out : Option (List ℕ)) → HasReadFrom r read read []
       → WritesSo Is r read read out out
@@ -247,21 +247,29 @@ module _ {Is : Table → FilledItem → List ℕ → Type 0} where
   texts_under {bytes = bytes} {text = text} {items = items} same h =
       subst (λ (L : Bounds). HaveTexts Is (within_trees L) bytes items text) same h
 
+  -- those that were made went out
+  texts_sent : {r r' : GoReader} {read now : Option (List ℕ)} {given : List FilledItem} {made : List ℕ}
+      (old mid new : Option (List ℕ)) → (m : MakesTexts Is r r' read now given made) → Appends mid new made
+      → (bytes : List ℕ) → read ≡ Some bytes
+      → OfTexts Is (within_trees (limits_of (session_of r))) bytes (Appends old mid) given
+      → OfTexts Is (within_trees (limits_of (session_of r'))) bytes (Appends old new) (given ++ m.more)
+  texts_sent {made = made} old mid new m out bytes known o = record {
+    text = o.text ++ made;
+    texts = m.made_of bytes known o.text (texts_under (sym m.limits) o.texts);
+    holds = Appends-trans old mid new o.text made o.holds out;
+  }
+
   pub texts_turn : {r q r' : GoReader} {read now next old mid new : Option (List ℕ)} {made : List ℕ}
       (s : WritesSo Is r read now old mid) → limits_of (session_of q) ≡ limits_of (session_of r)
-      → limits_of (session_of r') ≡ limits_of (session_of q) → MakesTexts Is q r' read next s.given made
+      → MakesTexts Is q r' read next s.given made
       → Appends mid new made → WritesSo Is r' read next old new
-  texts_turn {old = old} {mid = mid} {new = new} {made = made} s same same' m b = record {
+  texts_turn {old = old} {mid = mid} {new = new} s same m b = record {
     given = s.given ++ m.more;
     has = m.after;
     out = λ bytes known.
         let o = s.out bytes known in
-        let begins = begun bytes m.after known in
-        record {
-          text = o.text ++ made;
-          texts = texts_on (texts_under (sym (same' ∙ same)) o.texts) begins.0 begins.1 (m.made_of bytes known);
-          holds = Appends-trans old mid new o.text made o.holds b;
-        };
+        texts_sent old mid new m b bytes known
+        (record { text = o.text; texts = texts_under (sym same) o.texts; holds = o.holds });
   }
 
   -- behind a flush
@@ -295,23 +303,23 @@ module _ {Is : Table → FilledItem → List ℕ → Type 0} where
 
   -- a write failed
   pub texts_cut : {r r' : GoReader} {read now : Option (List ℕ)} {given : List FilledItem} {made : List ℕ}
-      (old mid new : Option (List ℕ)) → limits_of (session_of r') ≡ limits_of (session_of r)
-      → MakesTexts Is r r' read now given made → SentPrefix made mid new → (bytes : List ℕ) → read ≡ Some bytes
+      (old mid new : Option (List ℕ)) → MakesTexts Is r r' read now given made → SentPrefix made mid new
+      → (bytes : List ℕ) → read ≡ Some bytes
       → OfTexts Is (within_trees (limits_of (session_of r))) bytes (Appends old mid) given
       → BeginsGo (within_trees (limits_of (session_of r))) bytes
       (OfTexts Is (within_trees (limits_of (session_of r))) bytes (AppendsPrefix old new))
-  texts_cut {r = r} {given = given} {made = made} old mid new same m cut bytes known o =
+  texts_cut {r = r} {given = given} {made = made} old mid new m cut bytes known o =
       let begins = begun bytes m.after known in
       let L = limits_of (session_of r) in
       subst (λ (M : Bounds). BeginsGo (within_trees M) bytes
       (OfTexts Is (within_trees M) bytes (AppendsPrefix old new)))
-      same
+      m.limits
       (record {
         items = given ++ m.more;
         begins = begins.0;
         holds = record {
           text = o.text ++ made;
-          texts = texts_on (texts_under (sym same) o.texts) begins.0 begins.1 (m.made_of bytes known);
+          texts = m.made_of bytes known o.text (texts_under (sym m.limits) o.texts);
           holds = record {
             prefix = o.text ++ cut.prefix;
             rest = cut.rest;
@@ -321,41 +329,117 @@ module _ {Is : Table → FilledItem → List ℕ → Type 0} where
         };
       })
 
+  -- memory was wanting behind them
+  pub texts_stop : {r r' : GoReader} {read now : Option (List ℕ)} {given : List FilledItem} {made : List ℕ}
+      (old mid new : Option (List ℕ)) → MakesTexts Is r r' read now given made → Appends mid new made
+      → (bytes : List ℕ) → read ≡ Some bytes
+      → OfTexts Is (within_trees (limits_of (session_of r))) bytes (Appends old mid) given
+      → RunGoAnswers (within_trees (limits_of (session_of r))) bytes now
+      (OfTexts Is (within_trees (limits_of (session_of r))) bytes (Appends old new))
+      (OfTexts Is (within_trees (limits_of (session_of r))) bytes (AppendsPrefix old new)) (Err fault.Memory)
+  texts_stop {r' = r'} {now = now} {given = given} old mid new m out bytes known o =
+      let L = within_trees (limits_of (session_of r')) in
+      subst (λ (M : Bounds). RunGoAnswers (within_trees M) bytes now
+      (OfTexts Is (within_trees M) bytes (Appends old new))
+      (OfTexts Is (within_trees M) bytes (AppendsPrefix old new)) (Err fault.Memory))
+      m.limits
+      (shown_stops L m.after.gave.table (given ++ m.more) bytes now (OfTexts Is L bytes (Appends old new))
+      (OfTexts Is L bytes (AppendsPrefix old new)) reading.Memory (no_memory m.after bytes known)
+      (texts_sent old mid new m out bytes known o))
+
   -- ---- the text of a step
-  made_so : {r : GoReader} {read now : Option (List ℕ)} {all more : List FilledItem} {o : Option GoItem} {made : List ℕ}
-      (h : HasReadFrom r read now all) → GivesItems (types_of (session_of r)) o more
-      → TextGiven Is (types_of (session_of r)) o made → IfSome o (λ _. IsBetweenItems (session_of r))
-      → MadeOf Is h.gave.table more made
-  made_so h gives_none l between = subst (λ made. MadeOf Is h.gave.table [] made) (sym l) made_of_none
-  made_so {made = made} h (gives_one {i = i} m) l between =
-      made_of_one (subst (λ (T : Table). Is T i made) (sym (table_between h.gave between)) (l i m))
+  made_so : {r : GoReader} {read now : Option (List ℕ)} {given more : List FilledItem} {o : Option GoItem}
+      (made bytes : List ℕ) → read ≡ Some bytes → (h : HasReadFrom r read now (given ++ more))
+      → GivesItems (types_of (session_of r)) o more → TextGiven Is (types_of (session_of r)) o made
+      → IfSome o (λ _. IsBetweenItems (session_of r))
+      → AreNextTexts Is (within_trees (limits_of (session_of r))) bytes given more made
+  made_so {r = r} {given = given} made bytes known h gives_none l between =
+      subst (λ made. AreNextTexts Is (within_trees (limits_of (session_of r))) bytes given [] made) (sym l) none_next
+  made_so made bytes known h (gives_one {i = i} m) l between =
+      let begins = begun bytes h known in
+      one_next i made begins.0 begins.1
+      (subst (λ (T : Table). Is T i made) (sym (table_between h.gave between)) (l i m))
 
   pub step_made : {r r' : GoReader} {read now : Option (List ℕ)} {given : List FilledItem} {step : GoStep}
-      {made : List ℕ} → 0 < step.used → StepsOnFrom r r' read now given step
+      {made : List ℕ} → 0 < step.used → limits_of (session_of r') ≡ limits_of (session_of r)
+      → StepsOnFrom r r' read now given step
       → TextGiven Is (types_of (session_of r')) step.item made → IfSome step.item (λ _. IsBetweenItems (session_of r'))
-      → MakesTexts Is r r' read now given made
-  step_made some st l between = record {
-    more = st.more;
-    after = st.takes.after;
-    onward = omega (arith, some, st.takes.onward);
-    made_of = λ bytes known. made_so st.takes.after st.gives l between;
-  }
+      → MakesOnward Is r r' read now given made
+  step_made {made = made} some same st l between = (
+    record {
+      more = st.more;
+      after = st.takes.after;
+      onward = omega (arith, st.takes.onward);
+      limits = same;
+      made_of = λ bytes known. made_so made bytes known st.takes.after st.gives l between;
+    },
+    omega (arith, some, st.takes.onward),
+  )
 
   pub whole_made : {r r' : GoReader} {read now : Option (List ℕ)} {given : List FilledItem} {made : List ℕ} {used : ℕ}
       → IsWholeText Is r used made → limits_of (session_of r') ≡ limits_of (session_of r) → PassesOne r r' used
-      → HasReadFrom r read now given → MakesTexts Is r r' read now given made
+      → HasReadFrom r read now given → MakesOnward Is r r' read now given made
   whole_made {read = read} {now = now} {given = given} {made = made} w same p h =
       let i = puts w.id w.whole.value in
       let t = p read now given i h (whole_item greatest_depth refl w.next w.whole) in
-      let some = body_some w.next in
+      let some = body_some w.next in (
+        record {
+          more = unfilled_item i ∷ [];
+          after = t.after;
+          onward = omega (arith, t.onward);
+          limits = same;
+          made_of = λ bytes known.
+              let begins = begun bytes t.after known in
+              one_next (unfilled_item i) made begins.0 begins.1
+              (subst (λ (T : Table). Is T (unfilled_item i) made)
+              (sym (passed_table w.id w.whole.value bytes known same w.between h t.after)) w.is);
+        },
+        omega (arith, t.onward, some),
+      )
+
+  -- ---- those of items that wait one behind another
+  pub both_made : {r q r' : GoReader} {read now : Option (List ℕ)} {given : List FilledItem} {first second : List ℕ}
+      (m : MakesTexts Is r q read now given first) → MakesTexts Is q r' read now (given ++ m.more) second
+      → MakesTexts Is r r' read now given (first ++ second)
+  both_made {r' = r'} {read = read} {now = now} {given = given} {first = first} {second = second} m n =
+      let L = within_trees (limits_of (session_of r')) in
+      let all = append_assoc given m.more n.more in
       record {
-        more = unfilled_item i ∷ [];
-        after = t.after;
-        onward = omega (arith, t.onward, some);
-        made_of = λ bytes known.
-            made_of_one (subst (λ (T : Table). Is T (unfilled_item i) made)
-            (sym (passed_table w.id w.whole.value bytes known same w.between h t.after)) w.is);
+        more = m.more ++ n.more;
+        after = subst (λ (l : List FilledItem). HasReadFrom r' read now l) all n.after;
+        onward = omega (arith, m.onward, n.onward);
+        limits = n.limits ∙ m.limits;
+        made_of = λ bytes known text h.
+            let first_stands = m.made_of bytes known text (texts_under n.limits h) in
+            subst (λ (l : List FilledItem). HaveTexts Is L bytes l (text ++ (first ++ second))) all
+            (subst (λ (l : List ℕ). HaveTexts Is L bytes ((given ++ m.more) ++ n.more) l)
+            (append_assoc text first second) (n.made_of bytes known (text ++ first)
+            (texts_under (sym n.limits) first_stands)));
       }
+
+  pub none_appended : {r : GoReader} {read now : Option (List ℕ)} {given : List FilledItem} (old : List ℕ)
+      → HasReadFrom r read now given → AppendsTexts Is r r read now given old old
+  none_appended {r = r} {read = read} {now = now} {given = given} old h = (
+    [],
+    record {
+      more = [];
+      after = subst (λ (l : List FilledItem). HasReadFrom r read now l) (sym (append-nil given)) h;
+      onward = omega arith;
+      limits = refl;
+      made_of = λ bytes known. none_next;
+    },
+    sym (append-nil old),
+  )
+
+  pub one_appended : {r q r' : GoReader} {read now : Option (List ℕ)} {given : List FilledItem}
+      {mid new made : List ℕ} {used : ℕ} (old : List ℕ) → AppendsTexts Is r q read now given old mid
+      → limits_of (session_of r') ≡ limits_of (session_of q) → IsWholeText Is q used made → PassesOne q r' used
+      → new ≡ mid ++ made → AppendsTexts Is r r' read now given old new
+  one_appended {made = made} old a same w p grown = (
+    a.0 ++ made,
+    both_made a.1 (whole_made w same p a.1.after).0,
+    grown ∙ ap (λ (l : List ℕ). l ++ made) a.2 ∙ append_assoc old a.0 made,
+  )
 
   pub next_at : (r r' : GoReader) (read now : Option (List ℕ)) (given : List FilledItem) (old new : Option (List ℕ))
       (res : Result (Unit {0}) ToolFault) (f : ToolFault) → IsErrAnd res (λ x. x ≡ f)
@@ -374,7 +458,7 @@ module _ {Is : Table → FilledItem → List ℕ → Type 0} where
 module _ (Is : Table → FilledItem → List ℕ → Type 0) where
   -- ---- at the error that a `?` returns
   pub makes_at : (r r' : GoReader) (T : Table) (read now : Option (List ℕ)) (given : List FilledItem) (made : List ℕ)
-      (res : Result (Unit {0}) Fault) (e : Fault) → IsErrAnd res (λ x. x ≡ e)
+      (res : Result Bool Fault) (e : Fault) → IsErrAnd res (λ x. x ≡ e)
       → StopsFrom (session_of r) T read now given e → MakesNext Is r r' read now given made res
   makes_at r r' T read now given made (Ok u) e is h = absurd is
   makes_at r r' T read now given made (Err f) e is h =

@@ -11,7 +11,7 @@ ghost use Rattle.gob_go.specs.Calls.Reader.{HasReadFrom, session_of, waits_in};
 ghost use Rattle.gob_tool.specs.Ending.{CountsOnlyWrites};
 ghost use Rattle.gob_tool.specs.Showing.{CountsReadFaults, CountsWriteFaults, IsFlushedSince};
 ghost use Rattle.gob_go_tool.specs.Texts.{TextsAnswers};
-ghost use Rattle.gob_go_tool.specs.Machine.Texts.{HasReadSome, MakesNext, WritesNext};
+ghost use Rattle.gob_go_tool.specs.Machine.Texts.{AppendsTexts, HasReadSome, MakesNext, WritesNext};
 
 use gob_go::{GoItem, GoReader, GoStep};
 use gob_num::Memory;
@@ -20,6 +20,9 @@ use gob_tool::{ToolFault, end_run};
 use gob_types::Table;
 use std::alloc::Global;
 use std::io::{Read, Write};
+
+// So many bytes of texts go out before more are made: as many as the program's buffer has, past which they then go.
+const ENOUGH: usize = 65536;
 
 /// What makes the texts of items.
 pub trait ItemTexts {
@@ -99,9 +102,10 @@ fn write_items<R: Read, W: Write, M: ItemTexts>(
     ensures writes { CountsOnlyWrites (failed_writes output.old) (failed_writes output.new) result }
 {
     let mut reader = GoReader::new(alloc, limits)?;
-    let mut text = Vec::new(alloc);
+    let mut gathered = Vec::new(alloc);
+    let mut room = Vec::new(alloc);
     'items: while reader.fill(input)? {
-        write_next(alloc, &mut reader, texts, &mut text, output)?;
+        write_next(alloc, &mut reader, texts, &mut gathered, &mut room, output)?;
         flush_before_waiting(&reader, output)?;
     }
     Ok(())
@@ -123,12 +127,15 @@ fn flush_before_waiting<W: Write>(
     output.flush_written()
 }
 
-/// Takes some of the bytes that wait, and writes the text of the item that is whole with them. `text` is room for it.
+/// Takes some of the bytes that wait, and writes the texts of the items that are whole with them, which are made in
+/// `gathered` before they go out together. Those before a fault go out before it is answered. `room` is for a text that
+/// is being made.
 fn write_next<W: Write, M: ItemTexts>(
     alloc: Global,
     reader: &mut GoReader,
     texts: &M,
-    text: &mut Vec<u8>,
+    gathered: &mut Vec<u8>,
+    room: &mut Vec<u8>,
     output: &mut Output<W>,
 ) -> Result<(), ToolFault>
     requires some { 0 < length (waits_in reader.old) }
@@ -140,19 +147,50 @@ fn write_next<W: Write, M: ItemTexts>(
     ensures limits { limits_of (session_of reader.new) ≡ limits_of (session_of reader.old) }
     ensures writes { CountsOnlyWrites (failed_writes output.old) (failed_writes output.new) result }
 {
-    text.clear();
-    next_text(alloc, reader, texts, text)?;
-    Ok(output.send_all(text)?)
+    gathered.clear();
+    let was_whole = next_text(alloc, reader, texts, gathered)?;
+    // Behind an item that was read in steps none is tried: one that holds something too would be tried twice in vain.
+    let enough = if was_whole { ENOUGH } else { 0 };
+    let passed = pass_texts(alloc, reader, texts, gathered, room, enough);
+    output.send_all(gathered)?;
+    Ok(passed?)
+}
+
+/// Goes past the items of values that wait as a whole, one behind another, in which no interface holds another, and
+/// appends their texts, until `enough` bytes are gathered. After [`Memory`] those of the items that were passed stand
+/// there. `room` is for a text that is being made.
+fn pass_texts<M: ItemTexts>(
+    alloc: Global,
+    reader: &mut GoReader,
+    texts: &M,
+    gathered: &mut Vec<u8>,
+    room: &mut Vec<u8>,
+    enough: usize,
+) -> Result<(), Memory>
+    requires so_far { HasReadSome reader.old }
+    ensures passed { (read now : Option (List ℕ)) (given : List FilledItem) → HasReadFrom reader.old read now given
+        → AppendsTexts (M.is texts.now) reader.old reader.new read now given gathered.old.items gathered.new.items }
+    ensures limits { limits_of (session_of reader.new) ≡ limits_of (session_of reader.old) }
+{
+    'items: while gathered.len() < enough {
+        room.clear();
+        let Some(used) = texts.push_whole(alloc, reader, room)? else {
+            break;
+        };
+        gathered.extend_from_slice(room)?;
+        reader.pass(used);
+    }
+    Ok(())
 }
 
 /// Takes some of the bytes that wait, and makes in `text`, which is empty, the text of the item that is whole with
-/// them.
+/// them. Whether that item waited as a whole.
 fn next_text<M: ItemTexts>(
     alloc: Global,
     reader: &mut GoReader,
     texts: &M,
     text: &mut Vec<u8>,
-) -> Result<(), Fault>
+) -> Result<bool, Fault>
     requires some { 0 < length (waits_in reader.old) }
     requires so_far { HasReadSome reader.old }
     requires empty { text.old.items ≡ [] }
@@ -163,13 +201,14 @@ fn next_text<M: ItemTexts>(
 {
     if let Some(used) = texts.push_whole(alloc, reader, text)? {
         reader.pass(used);
-        return Ok(());
+        return Ok(true);
     }
     let GoStep { item, .. } = reader.step(alloc)?;
     let Some(item) = item else {
-        return Ok(());
+        return Ok(false);
     };
-    Ok(texts.push_item(alloc, item, reader.table(), text)?)
+    texts.push_item(alloc, item, reader.table(), text)?;
+    Ok(false)
 }
 
 /// How deep a value that waits as a whole may be: no deeper than one that the session reads.

@@ -38,6 +38,9 @@ a wrong head in a field, behind an item | 25 ff 81 03 01 01 05 4f 75 74 65 72 01
 f7 | {\"define\":65,\"fields\":[[\"N\",2],[\"I\",8],[\"M\",2]],\"kind\":\"struct\",\"name\":\"Outer\"} | \
 gob: refused 1 BadHead at 42 seen 43
 
+two ints, and a wrong head behind them | 03 04 00 06 03 04 00 08 01 f7 | {\"type\":2,\"value\":3}
+{\"type\":2,\"value\":4} | gob: refused 1 BadHead at 9 seen 10
+
 a second segment that is cut off | 15 10 00 08 2a 62 69 67 2e 49 6e 74 ff 81 05 01 02 ff 84 00 00
 00 |  | gob: refused 22 Ended at 22 seen 22
 ";

@@ -1,8 +1,8 @@
 -- Where a run stands that writes texts of items. For private clauses.
-use Rattle.std.specs.Prelude.{◌≡◌, ℕ, ◌<◌, List, [], ◌∷◌, ◌++◌, Option, Some, None, Result, Ok, Err}
+use Rattle.std.specs.Prelude.{◌≡◌, ℕ, ◌<◌, ◌≤◌, Bool, List, [], ◌++◌, Option, Some, None, Result, Ok, Err}
 use Rattle.std.specs.Io.KnownBytes.{Appends}
 use Rattle.gob_types.specs.Table.{Table}
-use Rattle.gob_stream.specs.Bounds.{within_trees}
+use Rattle.gob_stream.specs.Bounds.{Bounds, within_trees}
 use Rattle.gob_stream.specs.declared.fault.Fault.{Fault}
 use Rattle.gob_filled.specs.Stream.{FilledItem}
 use Rattle.gob_go.specs.Meaning.{ItemMeans}
@@ -13,7 +13,7 @@ use Rattle.gob_go.specs.declared.reader.GoReader.{GoReader}
 use Rattle.gob_tool.specs.declared.fault.ToolFault.{ToolFault}
 use Rattle.gob_tool.specs.Showing.{AppendsPrefix}
 use Rattle.gob_go_tool.specs.RunningGo.{RunGoAnswers}
-use Rattle.gob_go_tool.specs.Texts.{OfTexts}
+use Rattle.gob_go_tool.specs.Texts.{HaveTexts, OfTexts}
 
 -- it has read some items of some input
 pub record HasReadSome (r : GoReader) : Type 0 where
@@ -30,22 +30,37 @@ pub record WritesSo (Is : Table → FilledItem → List ℕ → Type 0) (r : GoR
   pub out : (bytes : List ℕ) → read ≡ Some bytes
       → OfTexts Is (within_trees (limits_of (session_of r))) bytes (Appends old new) given
 
--- the texts of no item, or of one
-pub data MadeOf (Is : Table → FilledItem → List ℕ → Type 0) (T : Table) : List FilledItem → List ℕ → Type 0 where
-  made_of_none : MadeOf Is T [] []
-  made_of_one : {i : FilledItem} {made : List ℕ} → Is T i made → MadeOf Is T (i ∷ []) made
+-- whatever texts the items before have, these stand behind them as those of the items that follow
+abbrev pub AreNextTexts : (Is : Table → FilledItem → List ℕ → Type 0) → Bounds → (bytes : List ℕ)
+    → (before more : List FilledItem) → (made : List ℕ) → Type 0
+AreNextTexts Is L bytes before more made =
+    (text : List ℕ) → HaveTexts Is L bytes before text → HaveTexts Is L bytes (before ++ more) (text ++ made)
 
 -- the texts of the items that are whole with what was taken
 pub record MakesTexts (Is : Table → FilledItem → List ℕ → Type 0) (r r' : GoReader) (read now : Option (List ℕ))
     (given : List FilledItem) (made : List ℕ) : Type 0 where
   pub more : List FilledItem
   pub after : HasReadFrom r' read now (given ++ more)
-  pub onward : taken_of (session_of r) < taken_of (session_of r')
-  pub made_of : (bytes : List ℕ) → read ≡ Some bytes → MadeOf Is after.gave.table more made
+  pub onward : taken_of (session_of r) ≤ taken_of (session_of r')
+  pub limits : limits_of (session_of r') ≡ limits_of (session_of r)
+  pub made_of : (bytes : List ℕ) → read ≡ Some bytes
+      → AreNextTexts Is (within_trees (limits_of (session_of r'))) bytes given more made
+
+-- where a byte was taken at least
+abbrev pub MakesOnward : (Is : Table → FilledItem → List ℕ → Type 0) → (r r' : GoReader)
+    → (read now : Option (List ℕ)) → List FilledItem → (made : List ℕ) → Type 0
+MakesOnward Is r r' read now given made =
+    MakesTexts Is r r' read now given made × (taken_of (session_of r) < taken_of (session_of r'))
+
+-- they were appended
+abbrev pub AppendsTexts : (Is : Table → FilledItem → List ℕ → Type 0) → (r r' : GoReader)
+    → (read now : Option (List ℕ)) → List FilledItem → (old new : List ℕ) → Type 0
+AppendsTexts Is r r' read now given old new =
+    (made : List ℕ) × MakesTexts Is r r' read now given made × (new ≡ old ++ made)
 
 abbrev pub MakesNext : (Is : Table → FilledItem → List ℕ → Type 0) → (r r' : GoReader)
-    → (read now : Option (List ℕ)) → List FilledItem → (made : List ℕ) → Result (Unit {0}) Fault → Type 0
-MakesNext Is r r' read now given made (Ok _) = MakesTexts Is r r' read now given made
+    → (read now : Option (List ℕ)) → List FilledItem → (made : List ℕ) → Result Bool Fault → Type 0
+MakesNext Is r r' read now given made (Ok _) = MakesOnward Is r r' read now given made
 MakesNext Is r r' read now given made (Err e) = (T : Table) × StopsFrom (session_of r) T read now given e
 
 -- the text of what a step gave
@@ -58,7 +73,7 @@ TextGiven Is T (Some given) made = (i : FilledItem) → ItemMeans T given i → 
 abbrev pub WritesNext : (Is : Table → FilledItem → List ℕ → Type 0) → (r r' : GoReader)
     → (read now : Option (List ℕ)) → List FilledItem → (old new : Option (List ℕ))
     → Result (Unit {0}) ToolFault → Type 0
-WritesNext Is r r' read now given old new (Ok _) = (made : List ℕ) × MakesTexts Is r r' read now given made
+WritesNext Is r r' read now given old new (Ok _) = (made : List ℕ) × MakesOnward Is r r' read now given made
     × Appends old new made
 WritesNext Is r r' read now given old new (Err f) = (bytes : List ℕ) → read ≡ Some bytes → (start : Option (List ℕ))
     → OfTexts Is (within_trees (limits_of (session_of r))) bytes (Appends start old) given

@@ -64,14 +64,14 @@ pub returns-in_default-item-clause-made : goal.returns-in_default-item-clause-ma
 returns-in_default-item-clause-made g c = λ read now given h.
     let empty : c.push_whole.new.text.items ≡ [] = search rules in
     let none : c.in_ok-item.field-0.item ≡ None = search rules in
-    step_made c.in_ok-item.ensures.used (c.in_ok-item.ensures.stepped read now given h)
+    step_made c.in_ok-item.ensures.used c.in_ok-item.ensures.limits (c.in_ok-item.ensures.stepped read now given h)
     (subst (λ (o : Option GoItem). TextGiven (g.M.ItemTexts.is c.args.texts.now)
     (types_of (session_of c.step.new.self)) o c.push_whole.new.text.items) (sym none) empty)
     c.in_ok-item.ensures.between
 
 pub returns-clause-made : goal.returns-clause-made
 returns-clause-made g c = λ read now given h.
-    step_made c.in_ok-item.ensures.used (c.in_ok-item.ensures.stepped read now given h)
+    step_made c.in_ok-item.ensures.used c.in_ok-item.ensures.limits (c.in_ok-item.ensures.stepped read now given h)
     (subst (λ (o : Option GoItem). TextGiven (g.M.ItemTexts.is c.args.texts.now)
     (types_of (session_of c.step.new.self)) o c.push_item.new.text.items) (sym c.in-Some-item.is)
     (subst (λ (d : Defined). (i : FilledItem) → ItemMeans (types d) c.in-Some-item.item i

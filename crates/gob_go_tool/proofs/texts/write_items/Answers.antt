@@ -83,7 +83,7 @@ items-smaller g c =
     c.in_ok-fill.field-0 c.if-branch.true (c.in_ok-fill.ensures.filled read i.3.given i.3.has) in
     let m = (c.in_ok-write_next.ensures.written read next i.3.given on.0).1 in
     texts_fall c.items.reader (taken_of (session_of c.items.reader))
-    (c.in_ok-write_next.ensures.limits ∙ c.in_ok-fill.ensures.limits) m.after (omega (arith, on.1, m.onward))
+    (c.in_ok-write_next.ensures.limits ∙ c.in_ok-fill.ensures.limits) m.0.after (omega (arith, on.1, m.1))
 
 pub items-preserved : goal.items-preserved
 items-preserved g c =
@@ -96,7 +96,7 @@ items-preserved g c =
       c.in_ok-write_next.ensures.limits ∙ c.in_ok-fill.ensures.limits ∙ i.0,
       c.in_ok-fill.ensures.counted ∙ i.1,
       c.in_ok-flush_before_waiting.ensures.counted ∙ c.in_ok-write_next.ensures.writes ∙ i.2,
-      texts_flushed (texts_turn i.3 c.in_ok-fill.ensures.limits c.in_ok-write_next.ensures.limits shown.1 shown.2)
+      texts_flushed (texts_turn i.3 c.in_ok-fill.ensures.limits shown.1.0 shown.2)
           c.in_ok-flush_before_waiting.ensures.bytes,
     )
 
@@ -113,8 +113,7 @@ returns-in_err-flush_before_waiting-clause-written g c = λ bytes known.
     let on = goes_on (session_of c.items.reader) i.3.has.gave.table c.fill.new.self read next i.3.given
     c.in_ok-fill.field-0 c.if-branch.true (c.in_ok-fill.ensures.filled read i.3.given i.3.has) in
     let shown = c.in_ok-write_next.ensures.written read next i.3.given on.0 in
-    let so = texts_flushed (texts_turn i.3 c.in_ok-fill.ensures.limits c.in_ok-write_next.ensures.limits
-    shown.1 shown.2)
+    let so = texts_flushed (texts_turn i.3 c.in_ok-fill.ensures.limits shown.1.0 shown.2)
     c.in_err-flush_before_waiting.ensures.bytes in
     at_error (λ r. TextsAnswers Is (within_trees c.args.limits) bytes next old new r)
     c.from_residual-in_err-flush_before_waiting.result (writing_fault e)
