@@ -1,6 +1,8 @@
 -- Places of bytes, and the numbers that stand there.
-use Rattle.std.proofs.Common.{◌≡◌, ◌≢◌, ℕ, ◌+◌, ◌-◌, ◌≤◌, List, ◌++◌, length, take, drop, sym, ap, ◌∙◌, arith}
+use Rattle.std.proofs.Common.{◌≡◌, ◌≢◌, ℕ, ◌+◌, ◌-◌, ◌<◌, ◌≤◌, List, [], ◌++◌, length, take, drop, sym, ap, ◌∙◌, subst}
+use Rattle.std.proofs.Common.{arith, length-append}
 use Rattle.std.proofs.lemmas.List.{drop-drop, take-append-drop, length-drop, length-take-le}
+use Rattle.std.proofs.Math.Seq.{drop-append_seam, take-append_seam}
 use Rattle.gob_num.specs.Unsigned.{IsUnsigned, short, long}
 use Rattle.gob_num.specs.Place.{IsUnsignedAt}
 use Rattle.gob_num.proofs.PublicLaws.{unsigned_prefix}
@@ -37,3 +39,52 @@ pub one_there : {n m : ℕ} (body : List ℕ) (a b c : ℕ) → IsUnsignedAt n b
 one_there body a b c p q =
     (unsigned_prefix (drop b body) (drop c body) p.spelled q.spelled
     (between_rest body a b (omega (arith, p.order)) ∙ sym (between_rest body a c (omega (arith, q.order))))).value
+
+-- these bytes are left from the place on
+abbrev pub IsLeft : List ℕ → ℕ → List ℕ → Type 0
+IsLeft bytes at rest = (drop at bytes ≡ rest) × (at ≤ length bytes)
+
+-- the first of them stand there, and behind them the others are left
+pub left_front : (bytes : List ℕ) (at : ℕ) (a rest : List ℕ) → IsLeft bytes at (a ++ rest)
+    → between at (at + length a) bytes ≡ a
+left_front bytes at a rest left =
+    let size : at + length a - at ≡ length a = omega arith in
+    ap (λ n. take n (drop at bytes)) size ∙ ap (λ l. take (length a) l) left.0 ∙ take-append_seam a rest
+
+pub left_behind : (bytes : List ℕ) (at : ℕ) (a rest : List ℕ) → IsLeft bytes at (a ++ rest) → 0 < length a
+    → IsLeft bytes (at + length a) rest
+left_behind bytes at a rest left some =
+    let count : length a + length rest ≡ length bytes - at =
+    sym (length-append a rest) ∙ ap length (sym left.0) ∙ length-drop at bytes in (
+      sym (drop-drop (length a) at bytes) ∙ ap (λ l. drop (length a) l) left.0 ∙ drop-append_seam a rest,
+      omega (arith, left.1),
+    )
+
+-- nothing is left at the end
+pub none_left : (bytes : List ℕ) (at : ℕ) → IsLeft bytes at [] → at ≡ length bytes
+none_left bytes at left =
+    let none = ap length left.0 in omega (arith, none, length-drop at bytes, left.1)
+
+-- a number with which the bytes that are left begin stands there
+pub number_left : {bytes : List ℕ} {at n : ℕ} (a rest : List ℕ) → IsLeft bytes at (a ++ rest) → IsUnsigned n a
+    → IsUnsignedAt n bytes at (at + length a)
+number_left {bytes = bytes} {at = at} {n = n} a rest left u =
+    let some = no_number u in
+    let behind = left_behind bytes at a rest left (omega arith) in
+    record {
+      order = omega arith;
+      inside = behind.1;
+      spelled = subst (λ b. IsUnsigned n b) (sym (left_front bytes at a rest left)) u;
+    }
+
+-- and it is the number of the bytes from there to where it ends
+pub record NumberLeft (bytes : List ℕ) (at end : ℕ) (a rest : List ℕ) : Type 0 where
+  pub bytes_are : between at end bytes ≡ a
+  pub left : IsLeft bytes end rest
+
+pub only_left : {bytes : List ℕ} {at end m n : ℕ} (a rest : List ℕ) → IsLeft bytes at (a ++ rest) → IsUnsigned n a
+    → IsUnsignedAt m bytes at end → NumberLeft bytes at end a rest
+only_left {bytes = bytes} {at = at} {end = end} a rest left u p =
+    let one = unsigned_prefix (drop end bytes) rest p.spelled u
+    (between_rest bytes at end (omega (arith, p.order)) ∙ left.0) in
+    record { bytes_are = one.bytes; left = (one.rest, p.inside) }

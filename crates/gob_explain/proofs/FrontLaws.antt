@@ -21,14 +21,14 @@ use Rattle.gob_explain.proofs.PlaceLaws.{At, first_at, stand_append, stand, each
 use Rattle.gob_explain.proofs.PlaceLaws.{pattern_number}
 
 -- rows that lead on
-leads_on : (T : Table) (t : TypeId) (q b c : List ℕ) → Leads T t q b → Leads T t (q ++ b) c → Leads T t q (b ++ c)
+pub leads_on : (T : Table) (t : TypeId) (q b c : List ℕ) → Leads T t q b → Leads T t (q ++ b) c → Leads T t q (b ++ c)
 leads_on T t q b c f g = (
   f.0 ++ g.0,
   stand_append T t q f.0 g.0 f.1 (subst (λ l. EachStands T t l g.0) (ap (λ l. q ++ l) (sym f.2)) g.1),
   joined_append f.0 g.0 ∙ both f.2 g.2,
 )
 
-one_row : (T : Table) (t : TypeId) (q : List ℕ) (r : Row) → Stands T t q r → Leads T t q r.bytes
+pub one_row : (T : Table) (t : TypeId) (q : List ℕ) (r : Row) → Stands T t q r → Leads T t q r.bytes
 one_row T t q r s = (r ∷ [], (s, tt), append_nil r.bytes)
 
 -- whole fields

@@ -10,6 +10,11 @@ mod PartLaws
 mod BodyLaws
 mod ReachLaws
 mod OneRunLaws
+mod OnwardLaws
+mod StrictRowLaws
+mod CountLaws
+mod OverLaws
+mod WholeItemLaws
 pub mod ColumnLaws
 mod LineLaws
 mod NameLaws

@@ -23,25 +23,25 @@ use Rattle.gob_explain.proofs.OneWayLaws.{answers_once}
 use Rattle.gob_explain.proofs.TakesLaws.{comes_expects}
 
 -- the same is open, but for the types of interfaces that are filled
-data Like : List Open → List Open → Type 0 where
+pub data Like : List Open → List Open → Type 0 where
   none_like : Like [] []
   value_like : {t : TypeId} {base : ℕ} {p : List ℕ} {o m : List Open} → Like o m
       → Like (a_value t base p ∷ o) (a_value t base p ∷ m)
   filling_like : {u v : TypeId} {d : ℕ} {due : Due} {o m : List Open} → Like o m
       → Like (a_filling u d due ∷ o) (a_filling v d due ∷ m)
 
-like_itself : (o : List Open) → Like o o
+pub like_itself : (o : List Open) → Like o o
 like_itself [] = none_like
 like_itself (a_value t base p ∷ o) = value_like (like_itself o)
 like_itself (a_filling u d due ∷ o) = filling_like (like_itself o)
 
-like_back : {o m : List Open} → Like o m → Like m o
+pub like_back : {o m : List Open} → Like o m → Like m o
 like_back none_like = none_like
 like_back (value_like l) = value_like (like_back l)
 like_back (filling_like l) = filling_like (like_back l)
 
 -- two rows lie as deep, have the same bytes, and leave the same open
-record Once (r s : Row) (b c : List ℕ) (next behind : List Open) : Type 0 where
+pub record Once (r s : Row) (b c : List ℕ) (next behind : List Open) : Type 0 where
   pub deep : r.depth ≡ s.depth
   pub bytes : b ≡ c
   pub like : Like next behind
@@ -52,17 +52,17 @@ odd_number (negative u) = u
 even_number : {n : ℕ} {b : List ℕ} → IsSigned (pos n) b → IsUnsigned (2 * n) b
 even_number (not_negative u) = u
 
-one_sign : {m n : ℕ} {b c : List ℕ} (x y : List ℕ) → b ++ x ≡ c ++ y → IsSigned (negsuc m) b → ¬ IsSigned (pos n) c
+pub one_sign : {m n : ℕ} {b c : List ℕ} (x y : List ℕ) → b ++ x ≡ c ++ y → IsSigned (negsuc m) b → ¬ IsSigned (pos n) c
 one_sign x y e p q = let one = (unsigned_prefix x y (odd_number p) (even_number q) e).value in absurd (omega arith)
 
-one_type : {v w : TypeId} {b c : List ℕ} (x y : List ℕ) → b ++ x ≡ c ++ y → IsSigned (pos v.0) b
+pub one_type : {v w : TypeId} {b c : List ℕ} (x y : List ℕ) → b ++ x ≡ c ++ y → IsSigned (pos v.0) b
     → IsSigned (pos w.0) c → v ≡ w
 one_type {v = v} {w = w} x y e p q =
     let one = (unsigned_prefix x y (even_number p) (even_number q) e).value in
     let same : v.0 ≡ w.0 = omega arith in
     ap id same
 
-steps_once : {T : Table} (r s : Row) (b c x y : List ℕ) {o m next behind : List Open} → b ++ x ≡ c ++ y → Like o m
+pub steps_once : {T : Table} (r s : Row) (b c x y : List ℕ) {o m next behind : List Open} → b ++ x ≡ c ++ y → Like o m
     → Steps T o r b next → Steps T m s c behind → Once r s b c next behind
 steps_once r s b c x y e none_like k q = elim k [ ]
 steps_once {T = T} r s b c x y e (value_like {t = t} {base = base} {p = p} {o = o} {m = m} l)
@@ -131,11 +131,11 @@ steps_once r s b c x y e (filling_like l) (walk.of_count is q) (walk.of_count al
 }
 
 -- nothing comes next in what is whole
-not_whole : {T : Table} {t : TypeId} {p : List ℕ} {v : Tree} {w : Expected} {d : ℕ} → SpellsTop T t v p
+pub not_whole : {T : Table} {t : TypeId} {p : List ℕ} {v : Tree} {w : Expected} {d : ℕ} → SpellsTop T t v p
     → ¬ ExpectsTop T t p w d
 not_whole s x = met_some x (whole_meets_top [] [] s x refl)
 
-no_row_there : {T : Table} (s : Row) {c : List ℕ} {o m next behind : List Open} → Like o m → Ends T o next
+pub no_row_there : {T : Table} (s : Row) {c : List ℕ} {o m next behind : List Open} → Like o m → Ends T o next
     → ¬ Steps T m s c behind
 no_row_there s none_like k q = elim k [ ]
 no_row_there s (filling_like l) k q = elim k [ ]
@@ -144,7 +144,8 @@ no_row_there s (value_like l) (walk.description_ends p) (walk.of_filling c d k u
 no_row_there s (value_like l) (walk.filling_ends p) (walk.in_value c d a t) = not_whole p (comes_expects c)
 no_row_there s (value_like l) (walk.filling_ends p) (walk.of_filling c d k u n) = not_whole p (comes_expects c)
 
-ends_once : {T : Table} {o m next behind : List Open} → Like o m → Ends T o next → Ends T m behind → Like next behind
+pub ends_once : {T : Table} {o m next behind : List Open} → Like o m → Ends T o next → Ends T m behind
+    → Like next behind
 ends_once none_like k q = elim k [ ]
 ends_once (value_like none_like) k q = elim k [ ]
 ends_once (value_like (value_like l)) k q = elim k [ ]

@@ -49,7 +49,7 @@ pub answers_once : (w : Expected) (b c x y : List ℕ) → Answers w b → Answe
 answers_once (a_number a) b c x y p q e = let s = unsigned_prefix x y p.1 q.1 e in (s.bytes, s.rest)
 answers_once (raw n) b c x y p q e = append_split b c x y (p ∙ sym q) e
 
-front_none : (b c : List ℕ) → [] ≡ b ++ c → b ≡ []
+pub front_none : (b c : List ℕ) → [] ≡ b ++ c → b ≡ []
 front_none [] c e = refl
 front_none (x ∷ b) c e = cc
 

@@ -128,7 +128,7 @@ record AwaitsTop (T : Table) (t : TypeId) (p : List ℕ) (w : Expected) (d : ℕ
   pub expects : ExpectsTop T t p strict d
   pub answers : (b : List ℕ) → Answers strict b → Answers w b
 
-opens_more : (a : Allowed) (n : ℕ) → Allows a n → Allows (opened a) n
+pub opens_more : (a : Allowed) (n : ℕ) → Allows a n → Allows (opened a) n
 opens_more any n h = h
 opens_more tag n h = h
 opens_more truth_value n h = h
@@ -165,7 +165,7 @@ at_top e walk.awaits_type_number = cc
 at_top e walk.awaits_segment = cc
 at_top e walk.awaits_count = cc
 
-has_bytes : (b : List ℕ) → ¬ (b ≡ []) → 0 < length b
+pub has_bytes : (b : List ℕ) → ¬ (b ≡ []) → 0 < length b
 has_bytes [] n = absurd (n refl)
 has_bytes (x ∷ b) n = omega arith
 

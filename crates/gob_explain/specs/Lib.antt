@@ -10,3 +10,4 @@ pub mod Lines
 pub mod Names
 pub mod Awaited
 pub mod Items
+pub mod Whole

@@ -3,6 +3,7 @@
 ghost use Rattle.gob_explain.specs.Laws.{JoinToSpelling, JoinToTop, EachIsExplained, EachTopIsExplained};
 ghost use Rattle.gob_explain.specs.Reach.{AreOneRun, LeadToThePlace};
 ghost use Rattle.gob_explain.specs.Laws.{AreOneExplanation, StandWhereExpected, LeadEverywhere, AreCutAlike};
+ghost use Rattle.gob_explain.specs.Whole.{LeadOverWholeValues, ShowWholeItems};
 
 /// The bytes of the rows that explain a value, joined, are its spelling: no byte is left out, added or moved.
 pub fn rows_join_to_the_spelling()
@@ -46,4 +47,16 @@ pub fn rows_of_fillings_are_cut_alike()
 /// all the rows before it.
 pub fn rows_lead_to_the_place()
     ensures { LeadToThePlace }
+{}
+
+/// The rows of a whole value of Go's encoder lead over all its bytes, under the table behind it, also through what its
+/// interfaces hold: [`walk_body`](crate::walk_body) ends there, unless one of these rows lies deeper than its limit.
+pub fn rows_lead_over_whole_values()
+    ensures { LeadOverWholeValues }
+{}
+
+/// Lines show all of a whole item of Go's encoder, under the table behind it: no line of what is left stands behind
+/// them, where the item is no deeper than 333.
+pub fn whole_items_are_shown()
+    ensures { ShowWholeItems }
 {}

@@ -33,9 +33,10 @@ mod walk;
 
 pub use body::{Walked, walk_body};
 pub use laws::{
-    rows_are_cut_alike, rows_join_to_the_spelling, rows_lead_everywhere, rows_lead_to_the_place,
-    rows_of_fillings_are_cut_alike, rows_stand_where_expected, spellings_have_rows,
-    values_have_one_list_of_rows,
+    rows_are_cut_alike, rows_join_to_the_spelling, rows_lead_everywhere,
+    rows_lead_over_whole_values, rows_lead_to_the_place, rows_of_fillings_are_cut_alike,
+    rows_stand_where_expected, spellings_have_rows, values_have_one_list_of_rows,
+    whole_items_are_shown,
 };
 pub use path::path_to;
 pub use row::{Awaited, Part, Row, Step, What};
