@@ -16,6 +16,7 @@ mod CountLaws
 mod OverLaws
 mod WholeItemLaws
 pub mod ColumnLaws
+mod PutLaws
 mod LineLaws
 mod NameLaws
 pub mod ItemLaws

@@ -3,14 +3,14 @@ use Rattle.std.proofs.Common.{◌≡◌, ℕ, ◌+◌, ◌<◌, ◌≤◌, List,
 use Rattle.std.proofs.Common.{subst, append_assoc, append-nil, arith, Option, None, Some}
 use Rattle.std.proofs.lemmas.List.{length-take-le}
 use Rattle.std.specs.Option.{unwrap_or}
-use Rattle.std.specs.Prelude.{OnOk, Result, Ok, Err}
 use Rattle.gob_types.specs.Table.{Table, shape_of}
 use Rattle.gob_types.specs.declared.kind.Shape.{Shape}
 use Rattle.gob_explain.specs.Column.{ColumnIs, HasLineAdded, line_text, no_line, saturated}
 use Rattle.gob_explain.specs.Lines.{AreLines, AreOneLine, BeginsLine, GoesOnBehind, IsFollowed, IsOpen, SharesLine}
 use Rattle.gob_explain.specs.Lines.{StandsBehind, last_of, last_row, line_of_rows, no_row}
 use Rattle.gob_explain.specs.Walk.{between}
-use Rattle.gob_explain.specs.Machine.Printing.{FitsIn, HasLines, HasPrinted, HasTold, IsSettled}
+use Rattle.gob_explain.specs.Machine.Printing.{EndsLine, FitsIn, HasPrinted, HasTold, IsLineText, IsSettled}
+use Rattle.gob_explain.specs.Machine.Printing.{PrintsAlone, TellsRow, TellsRows, ends_as}
 use Rattle.gob_explain.specs.declared.row.Row.{Row}
 use Rattle.gob_explain.specs.declared.row.What.{What}
 use Rattle.gob_explain.specs.declared.row.What.TheVariants as what
@@ -66,10 +66,6 @@ settled_some T line l rows r e n =
     (subst (λ (o : Option Row). IsSettled T (Some l) o) (sym (last_snoc rows r)) n)
 
 -- ---- a line that ends
-on_ok_as : {E : Type 0} {P Q : Type 0} (r : Result (Unit {0}) E) → (P → Q) → OnOk r P → OnOk r Q
-on_ok_as (Ok u) f p = f p
-on_ok_as (Err e) f p = tt
-
 line_text_as : (offset : ℕ) (body : List ℕ) (b c e f d g : ℕ) (meaning : List ℕ) → b ≡ c → e ≡ f → d ≡ g
     → line_text (saturated (offset + b)) (between b e body) (saturated (d + 1)) meaning
     ≡ line_text (saturated (offset + c)) (between c f body) (saturated (g + 1)) meaning
@@ -117,19 +113,22 @@ ended_line T offset body l old new meaning rows at h e =
     }
 
 -- the line under way
-pub line_printed : {E : Type 0} (r : Result (Unit {0}) E) (T : Table) (offset : ℕ) (body : List ℕ) (line : Option Line)
-    (l : Line) (old new meaning : List ℕ) (rows : List Row) (at : ℕ) → line ≡ Some l
-    → HasPrinted T offset body line old rows at
-    → (l.begin ≤ l.end → l.end ≤ length body
-    → OnOk r (HasLineAdded (saturated (offset + l.begin)) (between l.begin l.end body) (saturated (l.depth + 1)) meaning
-    old new))
-    → OnOk r (HasPrinted T offset body None new rows at)
-line_printed r T offset body line l old new meaning rows at is h f =
-    let there = subst (λ (l : Option Line). HasPrinted T offset body l old rows at) is h in
+pub line_ends : (T : Table) (offset : ℕ) (body : List ℕ) (line : Option Line) (l : Line) (more : List ℕ)
+    → line ≡ Some l → IsLineText offset body l more → EndsLine T offset body line more
+line_ends T offset body line l more is made = λ text rows at h.
+    let there = subst (λ (l : Option Line). HasPrinted T offset body l text rows at) is h in
     let order : l.begin ≤ at = there.order in
     let inside : at ≤ length body = there.inside in
     let end : l.end ≡ at = there.of_line.end in
-    on_ok_as r (ended_line T offset body l old new meaning rows at there) (f (omega arith) (omega arith))
+    let some = made (omega arith) (omega arith) in
+    ended_line T offset body l text (text ++ more) some.0 rows at there (ap (λ (t : List ℕ). text ++ t) some.1)
+
+-- none is under way
+pub no_line_ends : (T : Table) (offset : ℕ) (body : List ℕ) (line : Option Line) → line ≡ None
+    → EndsLine T offset body line []
+no_line_ends T offset body line is = λ text rows at h.
+    subst (λ (t : List ℕ). HasPrinted T offset body None t rows at) (sym (append-nil text))
+    (subst (λ (l : Option Line). HasPrinted T offset body l text rows at) is h)
 
 -- a line that begins with a row
 pub begun : (T : Table) (offset : ℕ) (body text : List ℕ) (rows : List Row) (r : Row) (l : Line) → l.begin ≡ r.begin
@@ -160,16 +159,11 @@ begun T offset body text rows r l is_begin is_end is_depth order inside begins h
     }
 
 -- a row on a line of its own
-pub row_printed : {E : Type 0} (r : Result (Unit {0}) E) (T : Table) (offset : ℕ) (body old new meaning : List ℕ)
-    (rows : List Row) (s : Row) (b e d : ℕ) → b ≡ s.begin → e ≡ s.end → d ≡ s.depth → s.begin < s.end
-    → s.end ≤ length body → BeginsLine T (last_of rows) s → HasPrinted T offset body None old rows s.begin
-    → (b ≤ e → e ≤ length body
-    → OnOk r (HasLineAdded (saturated (offset + b)) (between b e body) (saturated (d + 1)) meaning old new))
-    → OnOk r (HasPrinted T offset body None new (rows ++ s ∷ []) s.end)
-row_printed r T offset body old new meaning rows s b e d is_begin is_end is_depth order inside begins h f =
-    let l : Line = record { begin = b; end = e; depth = d; first = None } in
-    line_printed r T offset body (Some l) l old new meaning (rows ++ s ∷ []) s.end refl
-    (begun T offset body old rows s l is_begin is_end is_depth order inside begins h) f
+pub row_alone : (T : Table) (offset : ℕ) (body : List ℕ) (s : Row) (l : Line) (more : List ℕ) → l.begin ≡ s.begin
+    → l.end ≡ s.end → l.depth ≡ s.depth → IsLineText offset body l more → PrintsAlone T offset body s more
+row_alone T offset body s l more is_begin is_end is_depth made = λ text rows order inside begins h.
+    line_ends T offset body (Some l) l more refl made text (rows ++ s ∷ []) s.end
+    (begun T offset body text rows s l is_begin is_end is_depth order inside begins h)
 
 -- and goes on with another one
 gone_on : (T : Table) (offset : ℕ) (body text : List ℕ) (rows : List Row) (r : Row) (l m : Line) → m.begin ≡ l.begin
@@ -219,27 +213,27 @@ row_joined T offset body text (Some l) rows r m g is_end order inside fits h =
     gone_on T offset body text rows r l m g.0 is_end g.1 order inside fits h
 
 -- ---- no row, and all rows
-pub told_first : (T : Table) (offset : ℕ) (body text : List ℕ) → text ≡ [] → HasTold T offset body None text [] 0
-told_first T offset body text e = (
+pub told_first : (T : Table) (offset : ℕ) (body : List ℕ) → HasTold T offset body None [] [] 0
+told_first T offset body = (
   record {
     ended = [];
     under_way = [];
     all = refl;
-    lines = lines_as refl (sym e) no_row;
+    lines = no_row;
     of_line = refl;
-    column = subst (λ (t : List ℕ). ColumnIs offset [] t) (sym e) no_line;
+    column = no_line;
     order = omega arith;
     inside = omega arith;
   },
   tt,
 )
 
-pub has_lines : {T : Table} {offset : ℕ} {body text : List ℕ} {rows : List Row} {at : ℕ}
-    → HasPrinted T offset body None text rows at → HasLines T offset body rows at text
-has_lines {rows = rows} h =
+pub all_lines : {T : Table} {offset : ℕ} {body text : List ℕ} {rows : List Row} {at : ℕ}
+    → HasPrinted T offset body None text rows at → AreLines T offset body rows text
+all_lines {rows = rows} h =
     let all : h.ended ≡ rows =
     sym (append-nil h.ended) ∙ ap (λ (x : List Row). h.ended ++ x) (sym h.of_line) ∙ sym h.all in
-    record { lines = lines_as all refl h.lines; column = h.column }
+    lines_as all refl h.lines
 
 -- ---- what a row is
 open_as : (s : Option Shape) (n : ℕ) (v w : What) → v ≡ w → GoesOnBehind w s n → GoesOnBehind v s n
@@ -297,76 +291,79 @@ pub alone_delta : (v : What) → v ≡ what.Delta → ¬ StandsBehind v
 alone_delta v e = λ h. subst StandsBehind e h
 
 -- ---- what is told with it
-pub told_ended : {E : Type 0} (r : Result (Unit {0}) E) (T : Table) (offset : ℕ) (body : List ℕ) (line : Option Line)
-    (text : List ℕ) (rows : List Row) (s : Row) → line ≡ None → ¬ IsOpen T s
-    → OnOk r (HasPrinted T offset body None text (rows ++ s ∷ []) s.end)
-    → OnOk r (HasTold T offset body line text (rows ++ s ∷ []) s.end)
-told_ended r T offset body line text rows s none ends h = on_ok_as r (λ p. (
-  subst (λ (l : Option Line). HasPrinted T offset body l text (rows ++ s ∷ []) s.end) (sym none) p,
-  settled_none T line rows s none ends,
-)) h
+-- a line that ends, and then the row in a line of its own
+pub alone_told : {T U : Table} {o p : ℕ} {b c : List ℕ} (before line : Option Line) (s : Row) (x y : List ℕ) → U ≡ T
+    → p ≡ o → c ≡ b → line ≡ None → ¬ StandsBehind s.what → ¬ IsOpen T s → EndsLine T o b before x
+    → PrintsAlone U p c s y → TellsRow T o b before line s (x ++ y)
+alone_told {T = T} {U = U} {o = o} {p = p} {b = b} {c = c} before line s x y is_T is_o is_b none alone closed ends
+    prints = λ text rows order inside h.
+    let made = subst (λ (T : Table). PrintsAlone T o b s y) is_T
+    (subst (λ (n : ℕ). PrintsAlone U n b s y) is_o (subst (λ (l : List ℕ). PrintsAlone U p l s y) is_b prints)) in
+    let there = made (text ++ x) rows order inside (begins_alone T (last_of rows) s alone)
+    (ends text rows s.begin h.0) in (
+      subst (λ (l : Option Line). HasPrinted T o b l (text ++ (x ++ y)) (rows ++ s ∷ []) s.end) (sym none)
+          (subst (λ (t : List ℕ). HasPrinted T o b None t (rows ++ s ∷ []) s.end) (append_assoc text x y) there),
+      settled_none T line rows s none closed,
+    )
 
-pub told_open : (T : Table) (offset : ℕ) (body : List ℕ) (line : Option Line) (text : List ℕ) (rows : List Row)
-    (s : Row) (l : Line) → line ≡ Some l → IsOpen T s → HasPrinted T offset body line text (rows ++ s ∷ []) s.end
-    → HasTold T offset body line text (rows ++ s ∷ []) s.end
-told_open T offset body line text rows s l some is_open h = (h, settled_some T line l rows s some is_open)
+-- a row that goes on in a line, which ends then
+pub last_told : {T U : Table} {o p : ℕ} {b c : List ℕ} (before mid line : Option Line) (s : Row) (x : List ℕ) → U ≡ T
+    → p ≡ o → c ≡ b → line ≡ None → StandsBehind s.what → ¬ IsOpen T s
+    → ((text : List ℕ) (rows : List Row) → s.begin < s.end → s.end ≤ length b → FitsIn T before (last_of rows) s
+    → HasPrinted T o b before text rows s.begin → HasPrinted T o b mid text (rows ++ s ∷ []) s.end)
+    → EndsLine U p c mid x → TellsRow T o b before line s x
+last_told {T = T} {U = U} {o = o} {p = p} {b = b} {c = c} before mid line s x is_T is_o is_b none behind closed goes
+    ends = λ text rows order inside h.
+    let fits = fits_settled T before (last_of rows) s h.1 behind in
+    let gone = goes text rows order inside fits h.0 in
+    let there = ends_as mid x is_T is_o is_b ends text (rows ++ s ∷ []) s.end gone in (
+      subst (λ (l : Option Line). HasPrinted T o b l (text ++ x) (rows ++ s ∷ []) s.end) (sym none) there,
+      settled_none T line rows s none closed,
+    )
 
--- ---- a row that is told, by a printer that is the same but for its line and its text
-pub alone_told : {E : Type 0} (r : Result (Unit {0}) E) (T U : Table) (o p : ℕ) (b c : List ℕ) (line : Option Line)
-    (mid text : List ℕ) (rows : List Row) (s : Row) → U ≡ T → p ≡ o → c ≡ b → line ≡ None
-    → BeginsLine T (last_of rows) s → ¬ IsOpen T s → s.begin < s.end → s.end ≤ length b
-    → HasPrinted T o b None mid rows s.begin
-    → ((rows : List Row) → s.begin < s.end → s.end ≤ length c → BeginsLine U (last_of rows) s
-    → HasPrinted U p c None mid rows s.begin → OnOk r (HasPrinted U p c None text (rows ++ s ∷ []) s.end))
-    → OnOk r (HasTold T o b line text (rows ++ s ∷ []) s.end)
-alone_told r T U o p b c line mid text rows s is_T is_o is_b none begins ends order inside h f =
-    let there = subst (λ (U : Table). HasPrinted U p c None mid rows s.begin) (sym is_T)
-    (subst (λ (n : ℕ). HasPrinted T n c None mid rows s.begin) (sym is_o)
-    (subst (λ (l : List ℕ). HasPrinted T o l None mid rows s.begin) (sym is_b) h)) in
-    let begun = subst (λ (U : Table). BeginsLine U (last_of rows) s) (sym is_T) begins in
-    let told = f rows order (omega (arith, ap length is_b)) begun there in
-    told_ended r T o b line text rows s none ends
-    (subst (λ (U : Table). OnOk r (HasPrinted U o b None text (rows ++ s ∷ []) s.end)) is_T
-    (subst (λ (n : ℕ). OnOk r (HasPrinted U n b None text (rows ++ s ∷ []) s.end)) is_o
-    (subst (λ (l : List ℕ). OnOk r (HasPrinted U p l None text (rows ++ s ∷ []) s.end)) is_b told)))
+-- a row that goes on in a line, which stays open
+pub open_told : {T : Table} {o : ℕ} {b : List ℕ} (before line : Option Line) (s : Row) (l : Line) → line ≡ Some l
+    → StandsBehind s.what → IsOpen T s
+    → ((text : List ℕ) (rows : List Row) → s.begin < s.end → s.end ≤ length b → FitsIn T before (last_of rows) s
+    → HasPrinted T o b before text rows s.begin → HasPrinted T o b line text (rows ++ s ∷ []) s.end)
+    → TellsRow T o b before line s []
+open_told {T = T} {o = o} {b = b} before line s l some behind opens goes = λ text rows order inside h. (
+  subst (λ (t : List ℕ). HasPrinted T o b line t (rows ++ s ∷ []) s.end) (sym (append-nil text))
+      (goes text rows order inside (fits_settled T before (last_of rows) s h.1 behind) h.0),
+  settled_some T line l rows s some opens,
+)
 
-pub joined_told : {E : Type 0} (r : Result (Unit {0}) E) (T U : Table) (o p : ℕ) (b c : List ℕ)
-    (under_way line : Option Line) (mid text : List ℕ) (rows : List Row) (s : Row) → U ≡ T → p ≡ o → c ≡ b
-    → OnOk r (line ≡ None) → ¬ IsOpen T s → HasPrinted T o b under_way mid (rows ++ s ∷ []) s.end
-    → ((rows : List Row) (at : ℕ) → HasPrinted U p c under_way mid rows at
-    → OnOk r (HasPrinted U p c None text rows at))
-    → OnOk r (HasTold T o b line text (rows ++ s ∷ []) s.end)
-joined_told {E = E} (Ok u) T U o p b c under_way line mid text rows s is_T is_o is_b none ends h f =
+-- a row that begins a line behind one that ends, which stays open
+pub begun_told : {T U : Table} {o p : ℕ} {b c : List ℕ} (before mid line : Option Line) (s : Row) (l : Line)
+    (x : List ℕ) → U ≡ T → p ≡ o → c ≡ b → mid ≡ None → line ≡ Some l → ¬ StandsBehind s.what → IsOpen T s
+    → EndsLine T o b before x
+    → ((text : List ℕ) (rows : List Row) → s.begin < s.end → s.end ≤ length c → FitsIn U mid (last_of rows) s
+    → HasPrinted U p c mid text rows s.begin → HasPrinted U p c line text (rows ++ s ∷ []) s.end)
+    → TellsRow T o b before line s x
+begun_told {T = T} {U = U} {o = o} {p = p} {b = b} {c = c} before mid line s l x is_T is_o is_b none some alone opens
+    ends goes = λ text rows order inside h.
     let all = rows ++ s ∷ [] in
-    let there = subst (λ (U : Table). HasPrinted U p c under_way mid all s.end) (sym is_T)
-    (subst (λ (n : ℕ). HasPrinted T n c under_way mid all s.end) (sym is_o)
-    (subst (λ (l : List ℕ). HasPrinted T o l under_way mid all s.end) (sym is_b) h)) in
-    told_ended {E = E} (Ok u) T o b line text rows s none ends
-    (subst (λ (U : Table). HasPrinted U o b None text all s.end) is_T
-    (subst (λ (n : ℕ). HasPrinted U n b None text all s.end) is_o
-    (subst (λ (l : List ℕ). HasPrinted U p l None text all s.end) is_b (f all s.end there))))
-joined_told (Err e) T U o p b c under_way line mid text rows s is_T is_o is_b none ends h f = tt
-
-pub begun_told : (T U : Table) (o p : ℕ) (b c : List ℕ) (before line : Option Line) (mid text : List ℕ)
-    (rows : List Row) (s : Row) (l : Line) → U ≡ T → p ≡ o → c ≡ b → before ≡ None → line ≡ Some l
-    → BeginsLine T (last_of rows) s → IsOpen T s → s.begin < s.end → s.end ≤ length b
-    → HasPrinted T o b None mid rows s.begin
-    → ((rows : List Row) → s.begin < s.end → s.end ≤ length c → FitsIn U before (last_of rows) s
-    → HasPrinted U p c before mid rows s.begin → HasPrinted U p c line text (rows ++ s ∷ []) s.end)
-    → HasTold T o b line text (rows ++ s ∷ []) s.end
-begun_told T U o p b c before line mid text rows s l is_T is_o is_b none some begins opens order inside h f =
-    let all = rows ++ s ∷ [] in
-    let there = subst (λ (k : Option Line). HasPrinted U p c k mid rows s.begin) (sym none)
-    (subst (λ (U : Table). HasPrinted U p c None mid rows s.begin) (sym is_T)
-    (subst (λ (n : ℕ). HasPrinted T n c None mid rows s.begin) (sym is_o)
-    (subst (λ (l : List ℕ). HasPrinted T o l None mid rows s.begin) (sym is_b) h))) in
+    let more = text ++ x in
+    let there = subst (λ (k : Option Line). HasPrinted U p c k more rows s.begin) (sym none)
+    (subst (λ (U : Table). HasPrinted U p c None more rows s.begin) (sym is_T)
+    (subst (λ (n : ℕ). HasPrinted T n c None more rows s.begin) (sym is_o)
+    (subst (λ (l : List ℕ). HasPrinted T o l None more rows s.begin) (sym is_b) (ends text rows s.begin h.0)))) in
     let fits = subst (λ (k : Option Line). FitsIn U k (last_of rows) s) (sym none)
-    (subst (λ (U : Table). BeginsLine U (last_of rows) s) (sym is_T) begins) in
-    let told = f rows order (omega (arith, ap length is_b)) fits there in
-    told_open T o b line text rows s l some opens
-    (subst (λ (U : Table). HasPrinted U o b line text all s.end) is_T
-    (subst (λ (n : ℕ). HasPrinted U n b line text all s.end) is_o
-    (subst (λ (l : List ℕ). HasPrinted U p l line text all s.end) is_b told)))
+    (begins_alone U (last_of rows) s alone) in
+    let told = goes more rows order (omega (arith, ap length is_b)) fits there in (
+      subst (λ (T : Table). HasPrinted T o b line more all s.end) is_T
+          (subst (λ (n : ℕ). HasPrinted U n b line more all s.end) is_o
+          (subst (λ (l : List ℕ). HasPrinted U p l line more all s.end) is_b told)),
+      settled_some T line l rows s some opens,
+    )
+
+-- one row is a list of rows
+pub tells_one : {T : Table} {o : ℕ} {b : List ℕ} {line line' : Option Line} {s : Row} {more : List ℕ}
+    → TellsRow T o b line line' s more → TellsRows T o b line line' (s ∷ []) more
+tells_one {T = T} {o = o} {b = b} {line = line} {line' = line'} {s = s} {more = more} h = λ text before at end order t.
+    let there = h text before order.1 order.2
+    (subst (λ (n : ℕ). HasTold T o b line text before n) (sym order.0) t) in
+    subst (λ (n : ℕ). HasTold T o b line' (text ++ more) (before ++ s ∷ []) n) order.3 there
 
 -- the line that a row goes on in
 pub goes_from : (o : Option Line) (d : Line) (r : Row) (m : Line) → d.begin ≡ r.begin → d.depth ≡ r.depth

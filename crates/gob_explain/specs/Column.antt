@@ -58,7 +58,11 @@ pub data ColumnIs (offset : ℕ) : List ℕ → List ℕ → Type 0 where
   line_behind : {bytes text : List ℕ} (more : List ℕ) (levels : ℕ) (meaning : List ℕ) → ColumnIs offset bytes text
       → ColumnIs offset (bytes ++ more) (text ++ line_text (saturated (offset + length bytes)) more levels meaning)
 
--- ---- what calls add to a text
--- a line
+-- ---- what calls make
+-- a line of these bytes, so many levels deep
+abbrev pub IsSomeLine : (offset : ℕ) → (bytes : List ℕ) → (levels : ℕ) → (text : List ℕ) → Type 0
+IsSomeLine offset bytes levels text = (meaning : List ℕ) × (text ≡ line_text offset bytes levels meaning)
+
+-- a line behind a text
 abbrev pub HasLineAdded : (offset : ℕ) → (bytes : List ℕ) → (levels : ℕ) → (meaning old new : List ℕ) → Type 0
 HasLineAdded offset bytes levels meaning old new = new ≡ old ++ line_text offset bytes levels meaning

@@ -1,13 +1,13 @@
 -- Which rows the first bytes of an item have, and that text shows them. (docs/FORMAT.md, Explained bytes: this
 -- project's own.)
-use Rattle.std.specs.Prelude.{◌≡◌, ℕ, pos, negsuc, ◌+◌, ◌<◌, ◌≤◌, Bool, List, [], ◌++◌, length, take, drop}
+use Rattle.std.specs.Prelude.{◌≡◌, ℕ, pos, negsuc, ◌+◌, ◌<◌, Bool, List, [], ◌++◌, length, take, drop}
 use Rattle.gob_num.specs.Place.{IsUnsignedAt, NoNumberStandsAt}
 use Rattle.gob_num.specs.Signed.{IsSigned}
 use Rattle.gob_types.specs.Base.{wire_type}
 use Rattle.gob_types.specs.Table.{Table}
 use Rattle.gob_types.specs.declared.id.TypeId.{TypeId}
 use Rattle.gob_explain.specs.Body.{EndsSo, begins_value}
-use Rattle.gob_explain.specs.Column.{ColumnIs, HasLineAdded, line_text, saturated}
+use Rattle.gob_explain.specs.Column.{ColumnIs, line_text, saturated}
 use Rattle.gob_explain.specs.Lines.{AreLines}
 use Rattle.gob_explain.specs.Open.{Open}
 use Rattle.gob_explain.specs.Walk.{RowsLead, between}
@@ -54,29 +54,19 @@ pub record ShowsItem (T : Table) (offset : ℕ) (bytes text : List ℕ) : Type 0
   pub rest : LineOfRest offset bytes reached last
   pub column : ColumnIs offset bytes text
 
--- ---- what calls add to a text
--- a line of these bytes, so many levels deep
-abbrev pub HasSomeLine : (offset : ℕ) → (bytes : List ℕ) → (levels : ℕ) → (old new : List ℕ) → Type 0
-HasSomeLine offset bytes levels old new = (meaning : List ℕ) × HasLineAdded offset bytes levels meaning old new
-
--- lines of a body
-pub record HasBodyLines (T : Table) (t : TypeId) (offset : ℕ) (body old new : List ℕ) (place : ℕ) : Type 0 where
-  pub text : List ℕ
-  pub added : new ≡ old ++ text
+-- ---- what calls make
+-- lines of a body, up to the place
+pub record ShowsBodyTo (T : Table) (t : TypeId) (offset : ℕ) (body : List ℕ) (place : ℕ) (text : List ℕ) : Type
+    0 where
   pub rows : LinesOfBody T t offset body place text
-  pub inside : place ≤ length body
   pub column : ColumnIs offset (take place body) text
 
--- lines of an item
-pub record HasItemLines (T : Table) (offset : ℕ) (bytes old new : List ℕ) (place : ℕ) : Type 0 where
-  pub text : List ℕ
-  pub added : new ≡ old ++ text
+-- lines of an item, up to the place
+pub record ShowsItemTo (T : Table) (offset : ℕ) (bytes : List ℕ) (place : ℕ) (text : List ℕ) : Type 0 where
   pub rows : LinesOfItem T offset bytes place text
-  pub inside : place ≤ length bytes
   pub column : ColumnIs offset (take place bytes) text
 
--- and of what is left of the bytes
-pub record HasItemShown (T : Table) (offset : ℕ) (bytes old new : List ℕ) : Type 0 where
-  pub text : List ℕ
-  pub added : new ≡ old ++ text
+-- lines of the first bytes of an item, where those of its rows lead to the place
+pub record ShowsFirst (T : Table) (offset : ℕ) (bytes : List ℕ) (place : ℕ) (text : List ℕ) : Type 0 where
   pub shows : ShowsItem T offset bytes text
+  pub place_is : shows.reached ≡ place

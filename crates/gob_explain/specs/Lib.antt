@@ -6,6 +6,7 @@ pub mod Machine
 pub mod Body
 pub mod Reach
 pub mod Column
+pub mod Putting
 pub mod Lines
 pub mod Names
 pub mod Awaited

@@ -1,7 +1,7 @@
 //! The lines of bodies, and the paths of their ends.
 
 use crate::rows::{ROWS, Row};
-use gob_explain::{Printer, path_text, path_to, walk_body};
+use gob_explain::{LinesOut, path_text, path_to, push_body};
 use gob_num::Memory;
 use gob_test_rows::bytes_of;
 use gob_types::{Table, TypeId};
@@ -12,11 +12,14 @@ use std::test::*;
 fn has_lines(alloc: Global, row: &Row) -> Result<bool, Memory> {
     let table = Table::new(alloc, 0)?;
     let body = bytes_of(alloc, row.bytes)?;
-    let mut printer = Printer::new(alloc, &table, &body, 0);
-    walk_body(&table, TypeId(row.id), &body, 1000, &mut printer)?;
-    let lines = printer.finish()?;
+    let mut lines = LinesOut::new(alloc, Vec::new(alloc));
+    push_body(alloc, &table, TypeId(row.id), &body, 0, &mut lines);
+    let (text, fault) = lines.into_parts();
+    if fault.is_some() {
+        return Err(Memory);
+    }
     let due = due_lines(alloc, row.lines)?;
-    Ok(lines.as_str() == due.as_str())
+    Ok(text.as_slice() == due.as_bytes())
 }
 
 // Whether the row's body ends at the row's path.

@@ -1,5 +1,5 @@
 -- How a run that explains a stream goes on from piece to piece, and how it ends.
-use Rattle.std.proofs.Common.{◌≡◌, ℕ, ◌+◌, ◌-◌, List, [], ◌++◌, take}
+use Rattle.std.proofs.Common.{◌≡◌, ℕ, ◌+◌, List, [], ◌++◌}
 use Rattle.std.proofs.Common.{Option, Some, Result, Ok, Err, ◌∙◌, ap, sym, subst, refl}
 use Rattle.std.proofs.Common.{append_assoc, append-nil, arith, length, length-append}
 use Rattle.std.specs.Io.KnownBytes.{Appends, Consumes, IsAtEnd, Keeps}
@@ -7,7 +7,6 @@ use Rattle.std.proofs.KnownBytes.{Appends-kept, Appends-nil, Appends-trans, Cons
 use Rattle.gob_types.specs.Base.{base_table}
 use Rattle.gob_types.specs.Table.{Table}
 use Rattle.gob_stream.specs.Bounds.{Bounds, within_trees}
-use Rattle.gob_stream.specs.Calls.Writing.{SentPrefix}
 use Rattle.gob_stream.specs.Reading.{SomeTaken, Taken}
 use Rattle.gob_stream.specs.declared.fault.Fault.{Fault}
 use Rattle.gob_stream.specs.declared.fault.Fault.TheVariants as reading
@@ -17,7 +16,6 @@ use Rattle.gob_filled.specs.Stream.{FilledItem, FilledStream, no_more}
 use Rattle.gob_go.specs.Calls.Session.{FinishAnswers, HasRead, limits_of, types_of}
 use Rattle.gob_go.specs.Machine.SessionState.{SessionState}
 use Rattle.gob_go.specs.Reading.{RefusesBehind}
-use Rattle.gob_explain.specs.Items.{HasItemShown, ShowsItem}
 use Rattle.gob_tool.specs.Ending.{EndsRun, ends_so, flush_fails}
 use Rattle.gob_tool.specs.Fault.{reading_fault}
 use Rattle.gob_tool.specs.Showing.{AppendsPrefix}
@@ -26,10 +24,10 @@ use Rattle.gob_tool.specs.declared.fault.ToolFault.TheVariants as fault
 use Rattle.gob_tool.proofs.EndLaws.{all_kept, prefix_kept}
 use Rattle.gob_go_tool.specs.RunningGo.{BeginsGo, EndsWholeGo, GivesLongestGo, IsRefusedGo}
 use Rattle.gob_why.specs.Explain.{ExplainAnswers, HasExplained, HasRefused, IsCutOff, IsRefusedText, ended_there}
-use Rattle.gob_why.specs.Explain.{IsRefusedChosen, explained_up_to, in_items, in_refused, no_item, refused_so}
+use Rattle.gob_why.specs.Explain.{in_items, in_refused, no_item}
 use Rattle.gob_why.specs.Explain.{shown_there}
-use Rattle.gob_why.specs.Machine.Keeping.{BeginsKept, ExplainsAll, ExplainsSo, HasKept, HasReadKept}
-use Rattle.gob_why.specs.Machine.Keeping.{KeepsAll, RefusesSo, ShowsRefused, TellsRefused}
+use Rattle.gob_why.specs.Machine.Keeping.{BeginsKept, CutKept, ExplainsAll, ExplainsPiece, ExplainsSo, HasKept}
+use Rattle.gob_why.specs.Machine.Keeping.{HasReadKept, KeepsAll, RefusesSo, TellsRefused}
 use Rattle.gob_why.specs.declared.explained.Explained.{Explained}
 use Rattle.gob_why.proofs.ReadingLaws.{all_taken, gives_longest, refused_still, stream_read, taken_of}
 use Rattle.gob_why.proofs.RefusedLaws.{explained_there, refused_longer}
@@ -93,14 +91,6 @@ pub explains_first : (o : Option Explained) (s : SessionState) (items : ℕ) (re
     → ExplainsSo o s items read read out out item begin
 explains_first o s items read out item begin h =
     record { taken = []; text = []; input = Consumes-nil read; has = h; out = Appends-nil out }
-
--- what was kept, with no line that waits
-pub no_lines : (o : Option Explained) (s : SessionState) (items : ℕ) (bytes item : List ℕ) (begin : ℕ)
-    (text lines : List ℕ) → lines ≡ [] → HasReadKept o s items bytes item begin text
-    → HasReadKept o s items bytes item begin (text ++ lines)
-no_lines o s items bytes item begin text lines e h =
-    subst (λ (t : List ℕ). HasReadKept o s items bytes item begin t)
-    (sym (ap (λ (l : List ℕ). text ++ l) e ∙ append-nil text)) h
 
 pub explains_turn : (o : Option Explained) (s s' : SessionState) (items items' : ℕ)
     (read now next old mid new : Option (List ℕ)) (piece item item' lines : List ℕ) (begin begin' : ℕ)
@@ -203,17 +193,35 @@ end_refused o which s s' items M read now next old new item begin bytes reading.
 end_refused o which s s' items M read now next old new item begin bytes reading.Memory e f t x c end g known = absurd g
 end_refused o which s s' items M read now next old new item begin bytes reading.Failed e f t x c end g known = absurd g
 
--- a piece that couldn't all be taken, where the text of what was went out
-pub piece_refused : (o : Option Explained) (which : Explained) (s s' : SessionState) (items items' : ℕ) (M : Bounds)
-    (read now next old mid new : Option (List ℕ)) (piece item item' lines : List ℕ) (begin begin' : ℕ)
-    (bytes : List ℕ) (e : Fault) → o ≡ Some which → limits_of s' ≡ M
-    → (x : ExplainsSo o s items read now old mid item begin) → Consumes now next piece
-    → KeepsAll o s' items' (x.taken ++ piece) item' begin' (x.text ++ lines) (Err e) → Appends mid new lines
+-- text that didn't all go out
+text_cut : (o : Option Explained) (which : Explained) (s s' : SessionState) (items : ℕ) (M : Bounds)
+    (read now next old mid new : Option (List ℕ)) (piece item : List ℕ) (begin : ℕ) (bytes : List ℕ) → o ≡ Some which
+    → limits_of s' ≡ M → (x : ExplainsSo o s items read now old mid item begin) → Consumes now next piece
+    → CutKept o (within_trees (limits_of s')) (x.taken ++ piece) x.text mid new → read ≡ Some bytes
+    → IsCutOff which (within_trees M) bytes old new
+text_cut o which s s' items M read now next old mid new piece item begin bytes e f x c cut known =
+    let t = taken_of next bytes (x.taken ++ piece) known (Consumes-trans read now next x.taken piece x.input c) in
+    let p = cut.out in
+    in_items (begun which (within_trees M) (AppendsPrefix old new) bytes (x.taken ++ piece) (x.text ++ cut.more) next
+    (begins_as o which (limits_of s') M (x.taken ++ piece) (x.text ++ cut.more) e f cut.begins) t (record {
+      prefix = x.text ++ p.prefix;
+      rest = p.rest;
+      whole = ap (λ (l : List ℕ). x.text ++ l) p.whole ∙ sym (append_assoc x.text p.prefix p.rest);
+      out = Appends-trans old mid new x.text p.prefix x.out p.out;
+    }))
+
+-- a piece that couldn't all be taken, or whose text didn't all go out
+pub piece_stops : (o : Option Explained) (which : Explained) (s s' : SessionState) (items items' : ℕ) (M : Bounds)
+    (read now next old mid new : Option (List ℕ)) (piece item item' : List ℕ) (begin begin' : ℕ) (bytes : List ℕ)
+    (e : ToolFault) → o ≡ Some which → limits_of s' ≡ M → (x : ExplainsSo o s items read now old mid item begin)
+    → Consumes now next piece → ExplainsPiece o s' items' (x.taken ++ piece) item' begin' x.text mid new (Err e)
     → read ≡ Some bytes
-    → ExplainsAll which (within_trees M) (types_of s') bytes item' begin' next old new (Err (reading_fault e))
-piece_refused o which s s' items items' M read now next old mid new piece item item' lines begin begin' bytes
-    (reading.Refused R) e f x c k a known =
+    → ExplainsAll which (within_trees M) (types_of s') bytes item' begin' next old new (Err e)
+piece_stops o which s s' items items' M read now next old mid new piece item item' begin begin' bytes
+    (fault.Refused R) e f x c h known =
     let L = limits_of s' in
+    let lines = h.0 in
+    let k = h.2 in
     let t = taken_of next bytes (x.taken ++ piece) known (Consumes-trans read now next x.taken piece x.input c) in
     let reached = explained_there k.kept.prefix item' k.shown.outcome.ends k.kept.stream k.kept.whole in
     record {
@@ -231,39 +239,20 @@ piece_refused o which s s' items items' M read now next old mid new piece item i
       text = x.text ++ lines;
       table = k.table;
       kept = kept_for o which L M k.table k.given (x.taken ++ piece) item' begin' (x.text ++ lines) e f k.kept;
-      out = Appends-trans old mid new x.text lines x.out a;
+      out = Appends-trans old mid new x.text lines x.out h.1;
     }
-piece_refused o which s s' items items' M read now next old mid new piece item item' lines begin begin' bytes
-    reading.Read e f x c k a known = absurd k
-piece_refused o which s s' items items' M read now next old mid new piece item item' lines begin begin' bytes
-    reading.Memory e f x c k a known =
-    let t = taken_of next bytes (x.taken ++ piece) known (Consumes-trans read now next x.taken piece x.input c) in
-    begun which (within_trees M) (Appends old new) bytes (x.taken ++ piece) (x.text ++ lines) next
-    (begins_as o which (limits_of s') M (x.taken ++ piece) (x.text ++ lines) e f k) t
-    (Appends-trans old mid new x.text lines x.out a)
-piece_refused o which s s' items items' M read now next old mid new piece item item' lines begin begin' bytes
-    reading.Failed e f x c k a known = absurd k
-
--- a write that failed
-pub piece_cut : (o : Option Explained) (which : Explained) (s s' : SessionState) (items items' : ℕ) (M : Bounds)
-    (read now next old mid new : Option (List ℕ)) (piece item item' lines : List ℕ) (begin begin' : ℕ)
-    (bytes : List ℕ) (r : Result (Unit {0}) Fault) → o ≡ Some which → limits_of s' ≡ M
-    → (x : ExplainsSo o s items read now old mid item begin) → Consumes now next piece
-    → KeepsAll o s' items' (x.taken ++ piece) item' begin' (x.text ++ lines) r → SentPrefix lines mid new
-    → read ≡ Some bytes → IsCutOff which (within_trees M) bytes old new
-piece_cut o which s s' items items' M read now next old mid new piece item item' lines begin begin' bytes r e f x c
-    k cut known =
-    let t = taken_of next bytes (x.taken ++ piece) known (Consumes-trans read now next x.taken piece x.input c) in
-    let b = begins_as o which (limits_of s') M (x.taken ++ piece) (x.text ++ lines) e f
-    (all_begins o s' items' (x.taken ++ piece) item' begin' (x.text ++ lines) r k) in
-    in_items (begun which (within_trees M) (AppendsPrefix old new) bytes (x.taken ++ piece) (x.text ++ lines)
-    next b
-    t (record {
-      prefix = x.text ++ cut.prefix;
-      rest = cut.rest;
-      whole = ap (λ (l : List ℕ). x.text ++ l) cut.whole ∙ sym (append_assoc x.text cut.prefix cut.rest);
-      out = Appends-trans old mid new x.text cut.prefix x.out cut.out;
-    }))
+piece_stops o which s s' items items' M read now next old mid new piece item item' begin begin' bytes fault.Write e f x
+    c h known = text_cut o which s s' items M read now next old mid new piece item begin bytes e f x c h known
+piece_stops o which s s' items items' M read now next old mid new piece item item' begin begin' bytes fault.Memory e f x
+    c h known = text_cut o which s s' items M read now next old mid new piece item begin bytes e f x c h known
+piece_stops o which s s' items items' M read now next old mid new piece item item' begin begin' bytes fault.Read e f x
+    c h known = absurd h
+piece_stops o which s s' items items' M read now next old mid new piece item item' begin begin' bytes (fault.Wanted R)
+    e f x c h known = absurd h
+piece_stops o which s s' items items' M read now next old mid new piece item item' begin begin' bytes
+    fault.NoWantedType e f x c h known = absurd h
+piece_stops o which s s' items items' M read now next old mid new piece item item' begin begin' bytes
+    (fault.Clash path reason) e f x c h known = absurd h
 
 -- ---- behind a refusal
 pub refused_whole : (which : Explained) (L : Bounds) (T : Table) (bytes item : List ℕ) (begin : ℕ)
@@ -308,46 +297,32 @@ refused_told which L M T bytes item begin now old mid new R f u is same x t =
     (Appends-trans old mid new y.text t.0 y.out t.2))
 
 -- whose text didn't all go out
+refused_cut_off : (which : Explained) (L M : Bounds) (T : Table) (bytes item : List ℕ) (begin : ℕ)
+    (now old mid new : Option (List ℕ)) (R : Refusal) (f : ToolFault) → f ≡ fault.Refused R → L ≡ M
+    → ExplainsAll which (within_trees L) T bytes item begin now old mid (Err f) → (text : List ℕ)
+    → IsRefusedText which T begin R item text → AppendsPrefix mid new text
+    → IsCutOff which (within_trees M) bytes old new
+refused_cut_off which L M T bytes item begin now old mid new R f is same x text t p =
+    let y : RefusesSo which (within_trees L) T bytes item begin old mid R =
+    subst (λ f. ExplainsAll which (within_trees L) T bytes item begin now old mid (Err f)) is x in
+    subst (λ (L : Bounds). IsCutOff which (within_trees L) bytes old new) same
+    (in_refused (refused_whole which (within_trees L) T bytes item begin old mid new R (AppendsPrefix old new) text y t
+    (record {
+      prefix = y.text ++ p.prefix;
+      rest = p.rest;
+      whole = ap (λ (l : List ℕ). y.text ++ l) p.whole ∙ sym (append_assoc y.text p.prefix p.rest);
+      out = Appends-trans old mid new y.text p.prefix y.out p.out;
+    })))
+
 pub refused_untold : (which : Explained) (L M : Bounds) (T : Table) (bytes item : List ℕ) (begin : ℕ)
     (now old mid new : Option (List ℕ)) (R : Refusal) (f e : ToolFault) → f ≡ fault.Refused R → L ≡ M
     → ExplainsAll which (within_trees L) T bytes item begin now old mid (Err f)
     → TellsRefused which T begin R item mid new (Err e)
     → ExplainAnswers which (within_trees M) bytes now old new (Err e)
 refused_untold which L M T bytes item begin now old mid new R f fault.Write is same x t =
-    let y : RefusesSo which (within_trees L) T bytes item begin old mid R =
-    subst (λ f. ExplainsAll which (within_trees L) T bytes item begin now old mid (Err f)) is x in
-    subst (λ (L : Bounds). IsCutOff which (within_trees L) bytes old new) same
-    (in_refused (refused_whole which (within_trees L) T bytes item begin old mid new R (AppendsPrefix old new)
-    t.0 y
-    t.1 (record {
-      prefix = y.text ++ t.2.prefix;
-      rest = t.2.rest;
-      whole = ap (λ (l : List ℕ). y.text ++ l) t.2.whole ∙ sym (append_assoc y.text t.2.prefix t.2.rest);
-      out = Appends-trans old mid new y.text t.2.prefix y.out t.2.out;
-    })))
+    refused_cut_off which L M T bytes item begin now old mid new R f is same x t.0 t.1 t.2
 refused_untold which L M T bytes item begin now old mid new R f fault.Memory is same x t =
-    let y : RefusesSo which (within_trees L) T bytes item begin old mid R =
-    subst (λ f. ExplainsAll which (within_trees L) T bytes item begin now old mid (Err f)) is x in
-    let out : Appends old new y.text =
-    subst (λ (l : List ℕ). Appends old new l) (append-nil y.text) (Appends-trans old mid new y.text [] y.out t) in
-    subst (λ (L : Bounds). BeginsGo (within_trees L) bytes
-    (HasExplained (Some which) (within_trees L) (Appends old new))) same (record {
-      items = y.given;
-      begins = record {
-        prefix = y.kept.prefix;
-        rest = item ++ y.rest;
-        table = y.table;
-        stream = y.kept.stream;
-        whole = y.whole ∙ ap (λ (l : List ℕ). l ++ y.rest) y.kept.whole ∙ append_assoc y.kept.prefix item y.rest;
-      };
-      holds = record {
-        bytes = y.kept.prefix;
-        table = y.table;
-        text = y.text;
-        explained = y.kept.explained;
-        holds = out;
-      };
-    })
+    refused_cut_off which L M T bytes item begin now old mid new R f is same x t.0 t.1 t.2
 refused_untold which L M T bytes item begin now old mid new R f (fault.Refused Q) is same x t = absurd t
 refused_untold which L M T bytes item begin now old mid new R f (fault.Wanted Q) is same x t = absurd t
 refused_untold which L M T bytes item begin now old mid new R f fault.NoWantedType is same x t = absurd t
@@ -407,6 +382,19 @@ refused_as h f = record {
   holds = f (h.text ++ h.last) h.holds;
 }
 
+cut_kept : (which : Explained) (L : Bounds) (bytes : List ℕ) (old mid new : Option (List ℕ)) → Keeps mid new
+    → IsCutOff which L bytes old mid → IsCutOff which L bytes old new
+cut_kept which L bytes old mid new k (in_items h) = in_items (record {
+  items = h.items;
+  begins = h.begins;
+  holds = explained_as h.holds (λ text a. prefix_kept old mid new text a k);
+})
+cut_kept which L bytes old mid new k (in_refused {R = R} h) = in_refused {R = R} (record {
+  items = h.items;
+  outcome = h.outcome;
+  holds = refused_as h.holds (λ text a. prefix_kept old mid new text a k);
+})
+
 explain_kept : (which : Explained) (L : Bounds) (bytes : List ℕ) (now old mid new : Option (List ℕ))
     (r : Result (Unit {0}) ToolFault) → Keeps mid new → ExplainAnswers which L bytes now old mid r
     → ExplainAnswers which L bytes now old new r
@@ -431,21 +419,8 @@ explain_kept which L bytes now old mid new (Err fault.Read) k h = record {
     holds = explained_as h.holds.holds (λ text a. Appends-kept old mid new text a k);
   };
 }
-explain_kept which L bytes now old mid new (Err fault.Write) k (in_items h) = in_items (record {
-  items = h.items;
-  begins = h.begins;
-  holds = explained_as h.holds (λ text a. prefix_kept old mid new text a k);
-})
-explain_kept which L bytes now old mid new (Err fault.Write) k (in_refused {R = R} h) = in_refused {R = R} (record {
-  items = h.items;
-  outcome = h.outcome;
-  holds = refused_as h.holds (λ text a. prefix_kept old mid new text a k);
-})
-explain_kept which L bytes now old mid new (Err fault.Memory) k h = record {
-  items = h.items;
-  begins = h.begins;
-  holds = explained_as h.holds (λ text a. Appends-kept old mid new text a k);
-}
+explain_kept which L bytes now old mid new (Err fault.Write) k h = cut_kept which L bytes old mid new k h
+explain_kept which L bytes now old mid new (Err fault.Memory) k h = cut_kept which L bytes old mid new k h
 explain_kept which L bytes now old mid new (Err (fault.Wanted R)) k h = absurd h
 explain_kept which L bytes now old mid new (Err fault.NoWantedType) k h = absurd h
 explain_kept which L bytes now old mid new (Err (fault.Clash path reason)) k h = absurd h
@@ -469,26 +444,15 @@ explain_ended which L bytes now old mid new answer result k (flush_fails o e) h 
 
 -- without memory for a session
 pub none_explained : (which : Explained) (L : Bounds) (bytes : List ℕ) (out : Option (List ℕ))
-    → BeginsGo L bytes (HasExplained (Some which) L (Appends out out))
-none_explained which L bytes out = record {
+    → IsCutOff which L bytes out out
+none_explained which L bytes out = in_items (record {
   items = [];
   begins = record { prefix = []; rest = bytes; table = base_table; stream = no_more; whole = refl };
-  holds = record { bytes = []; table = base_table; text = []; explained = no_item; holds = Appends-nil out };
-}
-
--- ---- the text of a refused item
-pub refused_made : (which : Explained) (T : Table) (offset : ℕ) (R : Refusal) (read old new : List ℕ) → old ≡ []
-    → IsRefusedChosen which offset → ShowsRefused T offset R read old new → IsRefusedText which T offset R read new
-refused_made which T offset R read old new none chosen h =
-    subst (λ (t : List ℕ). IsRefusedText which T offset R read t)
-    (sym (h.3 ∙ ap (λ (l : List ℕ). l ++ (h.0 ++ h.1)) none)) (refused_so h.1 chosen h.2)
-
-pub refused_shown : (T : Table) (offset : ℕ) (R : Refusal) (read front old mid new words : List ℕ)
-    → front ≡ take (explained_up_to R - offset) read → HasItemShown T offset front old mid → new ≡ mid ++ words
-    → ShowsRefused T offset R read old new
-refused_shown T offset R read front old mid new words is h e = (
-  h.text,
-  words,
-  subst (λ (f : List ℕ). ShowsItem T offset f h.text) is h.shows,
-  e ∙ ap (λ (l : List ℕ). l ++ words) h.added ∙ append_assoc old h.text words,
-)
+  holds = record {
+    bytes = [];
+    table = base_table;
+    text = [];
+    explained = no_item;
+    holds = record { prefix = []; rest = []; whole = refl; out = Appends-nil out };
+  };
+})

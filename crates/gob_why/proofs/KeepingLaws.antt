@@ -1,8 +1,9 @@
 -- What is kept of a stream goes on from item to item.
-use Rattle.std.proofs.Common.{◌≡◌, ◌≢◌, ℕ, ◌+◌, ◌-◌, ◌<◌, ◌≤◌, ◌^◌, arith, List, [], ◌∷◌, ◌++◌, length, take, drop}
-use Rattle.std.proofs.Common.{Option, None, Result, Ok, Err, ◌∙◌, ap, sym, subst, refl, length-append}
+use Rattle.std.proofs.Common.{◌≡◌, ℕ, ◌+◌, ◌-◌, ◌<◌, ◌≤◌, ◌^◌, arith, List, [], ◌∷◌, ◌++◌, length, take, drop}
+use Rattle.std.proofs.Common.{Option, None, Some, Result, Ok, Err, ◌∙◌, ap, sym, subst, refl, length-append}
 use Rattle.std.proofs.Common.{append_assoc, append-nil, take-append-drop, IfSome, OnOk}
 use Rattle.std.specs.Result.{IsErrAnd}
+use Rattle.gob_num.specs.declared.memory.Memory.{Memory}
 use Rattle.gob_types.specs.Base.{base_table}
 use Rattle.gob_types.specs.Table.{Table}
 use Rattle.gob_stream.specs.Bounds.{Bounds, AreLimits, deepest, greatest_depth, within_trees}
@@ -22,11 +23,10 @@ use Rattle.gob_go.proofs.GoReaderLaws.{table_between}
 use Rattle.gob_go.proofs.ItemsLaws.{one_reading}
 use Rattle.gob_tool.specs.Machine.Counting.{given_count}
 use Rattle.gob_go_tool.proofs.CountLaws.{items_few, read_within}
-use Rattle.gob_explain.specs.Items.{ShowsItem}
+use Rattle.gob_explain.specs.Items.{ShowsFirst, ShowsItem}
 use Rattle.gob_why.specs.Explain.{AreExplained, IsChosen, IsItemText, no_item, item_behind, explained_so, left_out}
-use Rattle.gob_why.specs.Machine.Keeping.{BeginsKept, EndsItem, ExplainsNext, HasKept}
-use Rattle.gob_why.specs.Machine.Keeping.{HasReadKept, HasReadSome, KeepsAll, KeepsNext, KeepsOn}
-use Rattle.gob_why.specs.Machine.Keeping.{ShowsNext, KeepsUpTo}
+use Rattle.gob_why.specs.Machine.Keeping.{BeginsKept, EndsItem, ExplainsEnd, GoesOn, HasKept, HasReadKept}
+use Rattle.gob_why.specs.Machine.Keeping.{HasReadSome, KeepsAll, KeepsNext, KeepsOn, KeepsUpTo, TakesNext}
 use Rattle.gob_why.specs.Machine.Reading.{HasValueNext}
 use Rattle.gob_why.specs.declared.explained.Explained.{Explained}
 
@@ -121,14 +121,13 @@ kept_more which s s' items bytes more item begin text same h gave =
 
 -- ---- the end of an item
 kept_item : (which : Option Explained) (s s' : SessionState) (items items' : ℕ) (i : FilledItem)
-    (bytes more item : List ℕ) (begin : ℕ) (text lines item' : List ℕ) (begin' : ℕ) (lines' : List ℕ)
+    (bytes more item : List ℕ) (begin : ℕ) (text item' : List ℕ) (begin' : ℕ) (line : List ℕ)
     → limits_of s' ≡ limits_of s → AreLimits deepest (limits_of s) → items' ≡ items + 1
-    → (h : HasReadKept which s items bytes item begin (text ++ lines))
+    → (h : HasReadKept which s items bytes item begin text)
     → HasRead s' (h.given ++ i ∷ []) (bytes ++ more) → IsBetweenItems s'
-    → (length (item ++ more) < 2 ^ 64 → EndsItem which (types_of s') item begin lines more item' begin' lines')
-    → HasReadKept which s' items' (bytes ++ more) item' begin' (text ++ lines')
-kept_item which s s' items items' i bytes more item begin text lines item' begin' lines' same limits n h gave between f
-    =
+    → EndsItem which (types_of s') item begin more item' begin' (Ok tt) line
+    → HasReadKept which s' items' (bytes ++ more) item' begin' (text ++ line)
+kept_item which s s' items items' i bytes more item begin text item' begin' line same limits n h gave between f =
     let k = h.kept in
     let M = within_trees (limits_of s') in
     let none : gave.under_way ≡ [] = count_begins_here gave between refl in
@@ -138,7 +137,7 @@ kept_item which s s' items items' i bytes more item begin text lines item' begin
     let all : gave.prefix ≡ k.prefix ++ (item ++ more) =
     sym (append-nil gave.prefix) ∙ ap (λ (l : List ℕ). gave.prefix ++ l) (sym none) ∙ sym gave.whole ∙ whole in
     let stream = subst (λ (p : List ℕ). FilledStream base_table M (h.given ++ i ∷ []) p gave.table) all gave.stream in
-    let before = subst (λ (N : Bounds). AreExplained which N h.given k.prefix h.gave.table (text ++ lines))
+    let before = subst (λ (N : Bounds). AreExplained which N h.given k.prefix h.gave.table text)
     (bounds_as s s' same) k.explained in
     let bound = read_within gave in
     let stream_is = ap (λ (L : Bounds). L.stream) same in
@@ -146,10 +145,8 @@ kept_item which s s' items items' i bytes more item begin text lines item' begin
     let size = length-append k.prefix (item ++ more) in
     let length_is : length (bytes ++ more) ≡ length (k.prefix ++ (item ++ more)) = ap length whole in
     let e = f (omega (arith, bound, limit, stream_is, length_is, size)) in
-    let there = subst (λ (n : ℕ). IsItemText which (types_of s') n (item ++ more) e.2.0) k.begins e.2.1 in
-    let line = subst (λ (T : Table). IsItemText which T (length k.prefix) (item ++ more) e.2.0) (sym table) there in
-    let both : (text ++ lines) ++ e.2.0 ≡ text ++ lines' =
-    append_assoc text lines e.2.0 ∙ ap (λ (l : List ℕ). text ++ l) (sym e.2.2) in
+    let there = subst (λ (n : ℕ). IsItemText which (types_of s') n (item ++ more) line) k.begins e.2 in
+    let shown = subst (λ (T : Table). IsItemText which T (length k.prefix) (item ++ more) line) (sym table) there in
     record {
       given = h.given ++ i ∷ [];
       items_are = omega (arith, n, h.items_are, length-append h.given (i ∷ []));
@@ -160,70 +157,93 @@ kept_item which s s' items items' i bytes more item begin text lines item' begin
             ∙ ap (λ (l : List ℕ). (k.prefix ++ (item ++ more)) ++ l) (sym e.0);
         begins = omega (arith, e.1, k.begins, bound, limit, stream_is, length_is, size);
         stream = stream;
-        explained = subst (λ (t : List ℕ). AreExplained which M (h.given ++ i ∷ []) (k.prefix ++ (item ++ more))
-            gave.table t) both (item_behind i before stream line);
+        explained = item_behind i before stream shown;
       };
     }
 
 -- ---- its text
-pub explains_chosen : {E : Type 0} (r : Result (Unit {0}) E) (which : Option Explained) (T : Table)
-    (begin : ℕ) (bytes lines : List ℕ) (size begin' : ℕ) (bytes' lines' new : List ℕ) → size ≡ length bytes
-    → IsChosen which begin size → begin' ≡ begin → bytes' ≡ bytes → lines' ≡ lines
-    → OnOk r (ShowsNext T begin' bytes' lines' new) → OnOk r (ExplainsNext which T begin bytes lines new)
-explains_chosen (Ok u) which T begin bytes lines size begin' bytes' lines' new is_size chosen is_begin is_bytes is_lines
-    h =
-    let shows = subst (λ (n : ℕ). ShowsItem T n bytes h.0) is_begin
-    (subst (λ (b : List ℕ). ShowsItem T begin' b h.0) is_bytes h.1) in (
-      h.0,
-      explained_so (subst (λ (n : ℕ). IsChosen which begin n) is_size chosen) shows,
-      h.2 ∙ ap (λ (l : List ℕ). l ++ h.0) is_lines,
-    )
-explains_chosen (Err e) which T begin bytes lines size begin' bytes' lines' new is_size chosen is_begin is_bytes
-    is_lines
-    h = tt
+pub explains_chosen : (which : Option Explained) (T : Table) (begin : ℕ) (bytes : List ℕ) (size begin' : ℕ)
+    (bytes' : List ℕ) (place : ℕ) (text : List ℕ) → IsChosen which begin size → begin' ≡ begin → bytes' ≡ bytes
+    → ShowsFirst T begin' bytes' place text → ExplainsEnd which T begin bytes size (Ok tt) text
+explains_chosen which T begin bytes size begin' bytes' place text chosen is_begin is_bytes h = λ is_size.
+    explained_so (subst (λ (n : ℕ). IsChosen which begin n) is_size chosen)
+    (subst (λ (n : ℕ). ShowsItem T n bytes text) is_begin
+    (subst (λ (b : List ℕ). ShowsItem T begin' b text) is_bytes h.shows))
 
-pub explains_none : (which : Option Explained) (T : Table) (begin : ℕ) (bytes lines : List ℕ) (size : ℕ)
-    → size ≡ length bytes → ¬ IsChosen which begin size → ExplainsNext which T begin bytes lines lines
-explains_none which T begin bytes lines size is_size other = (
-  [],
-  left_out (λ h. other (subst (λ (n : ℕ). IsChosen which begin n) (sym is_size) h)),
-  sym (append-nil lines),
-)
+pub explains_none : (which : Option Explained) (T : Table) (begin : ℕ) (bytes : List ℕ) (size : ℕ)
+    → ¬ IsChosen which begin size → ExplainsEnd which T begin bytes size (Ok tt) []
+explains_none which T begin bytes size other = λ is_size.
+    left_out (λ h. other (subst (λ (n : ℕ). IsChosen which begin n) (sym is_size) h))
+
+-- without memory there is none
+pub no_end : (which : Option Explained) (T : Table) (begin : ℕ) (bytes : List ℕ) (size : ℕ) (e : Memory)
+    (r : Result (Unit {0}) Memory) → IsErrAnd r (λ x. x ≡ e) → ExplainsEnd which T begin bytes size r []
+no_end which T begin bytes size e (Ok u) is = absurd is
+no_end which T begin bytes size e (Err f) is = refl
+
+pub lost_end : (which : Option Explained) (T : Table) (item : List ℕ) (begin : ℕ) (more item' : List ℕ) (begin' : ℕ)
+    (text : List ℕ) (e : Memory) (r : Result (Unit {0}) Memory) → IsErrAnd r (λ x. x ≡ e) → text ≡ []
+    → EndsItem which T item begin more item' begin' r text
+lost_end which T item begin more item' begin' text e (Ok u) is none = absurd is
+lost_end which T item begin more item' begin' text e (Err f) is none = none
+
+-- bytes of the item under way, or its end
+keeps_none : (which : Option Explained) (T : Table) (item : List ℕ) (begin : ℕ) (more item' : List ℕ) (begin' : ℕ)
+    (r : Result (Unit {0}) Memory) → OnOk r (item' ≡ item ++ more) → begin' ≡ begin
+    → GoesOn which T None item begin more item' begin' r []
+keeps_none which T item begin more item' begin' (Ok u) i b = (i, b, refl)
+keeps_none which T item begin more item' begin' (Err e) i b = refl
+
+pub keeps_on : (which : Option Explained) (T : Table) (o : Option GoItem) (item : List ℕ) (begin : ℕ)
+    (more item' : List ℕ) (begin' : ℕ) (r : Result (Unit {0}) Memory) → o ≡ None → OnOk r (item' ≡ item ++ more)
+    → begin' ≡ begin → GoesOn which T o item begin more item' begin' r []
+keeps_on which T o item begin more item' begin' r is i b =
+    subst (λ (o : Option GoItem). GoesOn which T o item begin more item' begin' r []) (sym is)
+    (keeps_none which T item begin more item' begin' r i b)
+
+pub ends_on : (which : Option Explained) (T : Table) (o : Option GoItem) (i : GoItem) (item : List ℕ) (begin : ℕ)
+    (more item' : List ℕ) (begin' : ℕ) (r : Result (Unit {0}) Memory) (text : List ℕ) → o ≡ Some i
+    → EndsItem which T item begin more item' begin' r text → GoesOn which T o item begin more item' begin' r text
+ends_on which T o i item begin more item' begin' r text is h =
+    subst (λ (o : Option GoItem). GoesOn which T o item begin more item' begin' r text) (sym is) h
+
+-- without memory nothing was given
+pub nothing_given : (which : Option Explained) (T : Table) (o : Option GoItem) (item : List ℕ) (begin : ℕ)
+    (more item' : List ℕ) (begin' : ℕ) (e : Memory) (text : List ℕ)
+    → GoesOn which T o item begin more item' begin' (Err e) text → text ≡ []
+nothing_given which T None item begin more item' begin' e text h = h
+nothing_given which T (Some i) item begin more item' begin' e text h = h
 
 -- ---- a step
 -- more of the item under way, as it is kept then, or the end of one
 pub kept_step : (which : Option Explained) (s s' : SessionState) (items items' : ℕ) (bytes piece item : List ℕ)
-    (begin : ℕ) (text lines item' : List ℕ) (begin' : ℕ) (lines' : List ℕ) (used : ℕ) (o : Option GoItem)
+    (begin : ℕ) (text item' : List ℕ) (begin' : ℕ) (line : List ℕ) (used : ℕ) (o : Option GoItem)
     → limits_of s' ≡ limits_of s → AreLimits deepest (limits_of s) → 0 < length piece → items' ≡ items + given_count o
-    → (h : HasReadKept which s items bytes item begin (text ++ lines))
-    → IfSome o (λ _. IsBetweenItems s')
-    → (o ≡ None → (item' ≡ item ++ take used piece) × (begin' ≡ begin) × (lines' ≡ lines))
-    → (o ≢ None → length (item ++ take used piece) < 2 ^ 64
-    → EndsItem which (types_of s') item begin lines (take used piece) item' begin' lines')
+    → (h : HasReadKept which s items bytes item begin text) → IfSome o (λ _. IsBetweenItems s')
+    → GoesOn which (types_of s') o item begin (take used piece) item' begin' (Ok tt) line
     → AdvancesOver s' h.given bytes piece used o
-    → KeepsNext which s' items items' bytes piece item' begin' (text ++ lines') (Ok used)
-kept_step which s s' items items' bytes piece item begin text lines item' begin' lines' used o same limits some n h b
-    more ends (over_some l w a) =
-    let on = more refl in
+    → KeepsNext which s' items items' bytes piece item' begin' (text ++ line) (Ok used)
+kept_step which s s' items items' bytes piece item begin text item' begin' line used o same limits some n h b on
+    (over_some l w a) =
     let still : items' ≡ items = omega arith in
-    let k = kept_more which s s' items bytes (take used piece) item begin (text ++ lines) same h a in
+    let k = kept_more which s s' items bytes (take used piece) item begin text same h a in
+    let same_text : text ++ line ≡ text = ap (λ (l : List ℕ). text ++ l) on.2 ∙ append-nil text in
     record {
       within = w;
       nearer = omega (arith, l some);
-      has = subst (λ (m : ℕ). HasReadKept which s' m (bytes ++ take used piece) item' begin' (text ++ lines'))
+      has = subst (λ (m : ℕ). HasReadKept which s' m (bytes ++ take used piece) item' begin' (text ++ line))
           (sym still)
-          (subst (λ (t : List ℕ). HasReadKept which s' items (bytes ++ take used piece) item' begin' (text ++ t))
-          (sym on.2)
-          (subst (λ (m : ℕ). HasReadKept which s' items (bytes ++ take used piece) item' m (text ++ lines)) (sym on.1)
-          (subst (λ (z : List ℕ). HasReadKept which s' items (bytes ++ take used piece) z begin (text ++ lines))
-          (sym on.0) k)));
+          (subst (λ (t : List ℕ). HasReadKept which s' items (bytes ++ take used piece) item' begin' t)
+          (sym same_text)
+          (subst (λ (m : ℕ). HasReadKept which s' items (bytes ++ take used piece) item' m text) (sym on.1)
+          (subst (λ (z : List ℕ). HasReadKept which s' items (bytes ++ take used piece) z begin text) (sym on.0) k)));
     }
-kept_step which s s' items items' bytes piece item begin text lines item' begin' lines' used o same limits some n h b
-    more ends (over_item {i = i} l w m a) = record {
+kept_step which s s' items items' bytes piece item begin text item' begin' line used o same limits some n h b ends
+    (over_item {i = i} l w m a) = record {
       within = w;
       nearer = omega arith;
-      has = kept_item which s s' items items' i bytes (take used piece) item begin text lines item' begin' lines' same
-          limits n h a b (ends (λ none. cc));
+      has = kept_item which s s' items items' i bytes (take used piece) item begin text item' begin' line same limits n
+          h a b ends;
     }
 
 -- as many items are whole with it as were given
@@ -254,21 +274,20 @@ pub item_next : {s : SessionState} {used : ℕ} {piece : List ℕ} → HasValueN
 item_next v = (puts v.id v.whole.value, whole_item greatest_depth refl v.next v.whole)
 
 pub passes_kept : (which : Option Explained) (s s' : SessionState) (items items' : ℕ) (bytes piece item : List ℕ)
-    (begin : ℕ) (text lines item' : List ℕ) (begin' : ℕ) (lines' : List ℕ) {used : ℕ} → HasValueNext s used piece
+    (begin : ℕ) (text item' : List ℕ) (begin' : ℕ) (line : List ℕ) {used : ℕ} → HasValueNext s used piece
     → limits_of s' ≡ limits_of s → AreLimits deepest (limits_of s) → items' ≡ items + 1
-    → HasReadKept which s items bytes item begin (text ++ lines) → ReadsOn s s' (take used piece) → IsBetweenItems s'
-    → (length (item ++ take used piece) < 2 ^ 64
-    → EndsItem which (types_of s') item begin lines (take used piece) item' begin' lines')
-    → KeepsNext which s' items items' bytes piece item' begin' (text ++ lines') (Ok used)
-passes_kept which s s' items items' bytes piece item begin text lines item' begin' lines' {used = used} v same limits n
-    h on b e =
+    → HasReadKept which s items bytes item begin text → ReadsOn s s' (take used piece) → IsBetweenItems s'
+    → EndsItem which (types_of s') item begin (take used piece) item' begin' (Ok tt) line
+    → KeepsNext which s' items items' bytes piece item' begin' (text ++ line) (Ok used)
+passes_kept which s s' items items' bytes piece item begin text item' begin' line {used = used} v same limits n h on b
+    e =
     let i = puts v.id v.whole.value in
     let gave = on h.given bytes i h.gave (whole_item greatest_depth refl v.next v.whole) in
     record {
       within = v.next.within;
       nearer = omega (arith, n);
-      has = kept_item which s s' items items' (unfilled_item i) bytes (take used piece) item begin text lines item'
-          begin' lines' same limits n h gave b e;
+      has = kept_item which s s' items items' (unfilled_item i) bytes (take used piece) item begin text item' begin'
+          line same limits n h gave b e;
     }
 
 -- one item more
@@ -317,41 +336,41 @@ begins_kept which L M T given bytes more item begin text text' e f h =
     }
 
 pub no_memory_next : (which : Option Explained) (s s' : SessionState) (items items' : ℕ)
-    (bytes piece item item' : List ℕ) (begin begin' : ℕ) (text lines lines' : List ℕ) → limits_of s' ≡ limits_of s
-    → lines' ≡ lines → HasReadKept which s items bytes item begin (text ++ lines)
-    → KeepsNext which s' items items' bytes piece item' begin' (text ++ lines') (Err reading.Memory)
-no_memory_next which s s' items items' bytes piece item item' begin begin' text lines lines' same l h =
+    (bytes piece item item' : List ℕ) (begin begin' : ℕ) (text line : List ℕ) → limits_of s' ≡ limits_of s
+    → line ≡ [] → HasReadKept which s items bytes item begin text
+    → KeepsNext which s' items items' bytes piece item' begin' (text ++ line) (Err reading.Memory)
+no_memory_next which s s' items items' bytes piece item item' begin begin' text line same none h =
     let b = begins_kept which (within_trees (limits_of s)) (within_trees (limits_of s')) h.gave.table h.given
-    bytes [] item begin (text ++ lines) (text ++ lines') (bounds_as s s' same) (ap (λ (t : List ℕ). text ++ t) l)
-    h.kept in
-    subst (λ (z : List ℕ). BeginsKept which (within_trees (limits_of s')) z (text ++ lines')) (append-nil bytes) b
+    bytes [] item begin text (text ++ line) (bounds_as s s' same)
+    (ap (λ (t : List ℕ). text ++ t) none ∙ append-nil text) h.kept in
+    subst (λ (z : List ℕ). BeginsKept which (within_trees (limits_of s')) z (text ++ line)) (append-nil bytes) b
 
 pub step_stops_kept : (which : Option Explained) (s s' : SessionState) (items items' : ℕ) (bytes piece item : List ℕ)
     (begin : ℕ) (text : List ℕ) (e : Fault) → limits_of s' ≡ limits_of s
     → (h : HasReadKept which s items bytes item begin text) → StepAnswers s s' h.given bytes piece (Err e)
-    → KeepsNext which s' items items' bytes piece item begin text (Err e)
+    → KeepsNext which s' items items' bytes piece item begin (text ++ []) (Err e)
 step_stops_kept which s s' items items' bytes piece item begin text (reading.Refused R) same h f = record {
   given = h.given;
   shown = subst (λ (L : Bounds). ShowsRefusal L (bytes ++ piece) h.given R) (bounds_as s s' same) f.0;
   types = subst (λ (L : Bounds). RefusesBehind L (bytes ++ piece) h.given R (types_of s')) (bounds_as s s' same) f.1;
   table = h.gave.table;
-  kept = kept_as (bounds_as s s' same) refl h.kept;
+  kept = subst (λ (t : List ℕ). HasKept which (within_trees (limits_of s')) h.gave.table h.given bytes item begin t)
+      (sym (append-nil text)) (kept_as (bounds_as s s' same) refl h.kept);
 }
 step_stops_kept which s s' items items' bytes piece item begin text reading.Read same h f = absurd f
 step_stops_kept which s s' items items' bytes piece item begin text reading.Memory same h f =
-    subst (λ (z : List ℕ). BeginsKept which (within_trees (limits_of s')) z text) (append-nil bytes)
-    (begins_kept which (within_trees (limits_of s)) (within_trees (limits_of s')) h.gave.table h.given
-    bytes [] item begin text text (bounds_as s s' same) refl h.kept)
+    no_memory_next which s s' items items' bytes piece item item begin begin text [] same refl h
 step_stops_kept which s s' items items' bytes piece item begin text reading.Failed same h f = absurd f
 
 -- ---- from item to item of a piece
 pub keeps_none_yet : (which : Option Explained) (s : SessionState) (items : ℕ) (bytes piece item : List ℕ) (begin : ℕ)
     (text : List ℕ) → HasReadKept which s items bytes item begin text
-    → KeepsUpTo which s items bytes piece piece item begin text
+    → KeepsUpTo which s items bytes piece piece item begin (text ++ [])
 keeps_none_yet which s items bytes piece item begin text h = record {
   prefix = [];
   whole = refl;
-  has = subst (λ (z : List ℕ). HasReadKept which s items z item begin text) (sym (append-nil bytes)) h;
+  has = subst (λ (t : List ℕ). HasReadKept which s items (bytes ++ []) item begin t) (sym (append-nil text))
+      (subst (λ (z : List ℕ). HasReadKept which s items z item begin text) (sym (append-nil bytes)) h);
 }
 
 keeps_up_to : (which : Option Explained) (s s' : SessionState) (items items' : ℕ)
@@ -370,35 +389,33 @@ keeps_up_to which s s' items items' bytes piece rest later item item' begin begi
 
 -- where it is known what is asked for
 pub keeps_turn : (o which : Option Explained) (s s' : SessionState) (items items' : ℕ)
-    (bytes piece rest later item item' : List ℕ) (begin begin' : ℕ) (text lines lines' : List ℕ) (used : ℕ)
-    → o ≡ which → later ≡ drop used rest → KeepsUpTo which s items bytes piece rest item begin (text ++ lines)
-    → ((bytes text : List ℕ) → HasReadKept o s items bytes item begin (text ++ lines)
-    → KeepsNext o s' items items' bytes rest item' begin' (text ++ lines') (Ok used))
-    → KeepsUpTo which s' items' bytes piece later item' begin' (text ++ lines')
-keeps_turn o which s s' items items' bytes piece rest later item item' begin begin' text lines lines' used same so u f =
-    let v = subst (λ (o : Option Explained). KeepsUpTo o s items bytes piece rest item begin (text ++ lines)) (sym same)
+    (bytes piece rest later item item' : List ℕ) (begin begin' : ℕ) (text more last : List ℕ) (used : ℕ)
+    → o ≡ which → later ≡ drop used rest → KeepsUpTo which s items bytes piece rest item begin (text ++ more)
+    → TakesNext o s s' items items' rest item begin item' begin' (Ok used) last
+    → KeepsUpTo which s' items' bytes piece later item' begin' (text ++ (more ++ last))
+keeps_turn o which s s' items items' bytes piece rest later item item' begin begin' text more last used same so u f =
+    let v = subst (λ (o : Option Explained). KeepsUpTo o s items bytes piece rest item begin (text ++ more)) (sym same)
     u in
-    subst (λ (o : Option Explained). KeepsUpTo o s' items' bytes piece later item' begin' (text ++ lines')) same
-    (keeps_up_to o s s' items items' bytes piece rest later item item' begin begin' (text ++ lines) (text ++ lines')
-    used so v (f (bytes ++ v.prefix) text v.has))
+    subst (λ (t : List ℕ). KeepsUpTo which s' items' bytes piece later item' begin' t) (append_assoc text more last)
+    (subst (λ (o : Option Explained). KeepsUpTo o s' items' bytes piece later item' begin' ((text ++ more) ++ last))
+    same
+    (keeps_up_to o s s' items items' bytes piece rest later item item' begin begin' (text ++ more)
+    ((text ++ more) ++ last) used so v (f (bytes ++ v.prefix) (text ++ more) v.has)))
 
 -- what was read of the piece so far
 pub some_so_far : (o which : Option Explained) (s : SessionState) (items : ℕ) (bytes piece rest item : List ℕ)
-    (begin : ℕ) (text lines : List ℕ) → o ≡ which
-    → KeepsUpTo which s items bytes piece rest item begin (text ++ lines) → HasReadSome o s items item begin lines
-some_so_far o which s items bytes piece rest item begin text lines same u =
-    let v = subst (λ (o : Option Explained). KeepsUpTo o s items bytes piece rest item begin (text ++ lines)) (sym same)
-    u in
+    (begin : ℕ) (text : List ℕ) → o ≡ which → KeepsUpTo which s items bytes piece rest item begin text
+    → HasReadSome o s items item begin
+some_so_far o which s items bytes piece rest item begin text same u =
+    let v = subst (λ (o : Option Explained). KeepsUpTo o s items bytes piece rest item begin text) (sym same) u in
     record { bytes = bytes ++ v.prefix; text = text; has = v.has }
 
 -- each turn takes a byte or counts an item, and there are no more than so many
 pub keeps_falls : (o : Option Explained) (s s' : SessionState) (items items' : ℕ) (rest item item' : List ℕ)
-    (begin begin' : ℕ) (lines lines' : List ℕ) (used : ℕ) → limits_of s' ≡ limits_of s
-    → (h : HasReadSome o s items item begin lines)
-    → ((bytes text : List ℕ) → HasReadKept o s items bytes item begin (text ++ lines)
-    → KeepsNext o s' items items' bytes rest item' begin' (text ++ lines') (Ok used))
+    (begin begin' : ℕ) (last : List ℕ) (used : ℕ) → limits_of s' ≡ limits_of s → HasReadSome o s items item begin
+    → TakesNext o s s' items items' rest item begin item' begin' (Ok used) last
     → length rest - used + ((limits_of s').stream + 9 - items') < length rest + ((limits_of s).stream + 9 - items)
-keeps_falls o s s' items items' rest item item' begin begin' lines lines' used same h f =
+keeps_falls o s s' items items' rest item item' begin begin' last used same h f =
     let on = f h.bytes h.text h.has in
     let stream = ap (λ (L : Bounds). L.stream) same in
     let now = items_end h.has in
@@ -487,35 +504,34 @@ keeps_all_at which s items bytes item begin text (Err f) e is h =
 
 -- where it is known what is asked for
 pub turn_stops : (o which : Option Explained) (s s' : SessionState) (items items' : ℕ)
-    (bytes piece rest item item' item'' : List ℕ) (begin begin' begin'' : ℕ) (text lines lines' lines'' : List ℕ)
-    (e : Fault) → o ≡ which → KeepsUpTo which s items bytes piece rest item begin (text ++ lines)
-    → item'' ≡ item' ++ rest → begin'' ≡ begin' → lines'' ≡ lines'
-    → ((bytes text : List ℕ) → HasReadKept o s items bytes item begin (text ++ lines)
-    → KeepsNext o s' items items' bytes rest item' begin' (text ++ lines') (Err e))
-    → KeepsAll which s' items' (bytes ++ piece) item'' begin'' (text ++ lines'') (Err e)
-turn_stops o which s s' items items' bytes piece rest item item' item'' begin begin' begin'' text lines lines' lines'' e
-    same u k b l f =
-    let v = subst (λ (o : Option Explained). KeepsUpTo o s items bytes piece rest item begin (text ++ lines)) (sym same)
+    (bytes piece rest item item' item'' : List ℕ) (begin begin' begin'' : ℕ) (text more last : List ℕ) (e : Fault)
+    → o ≡ which → KeepsUpTo which s items bytes piece rest item begin (text ++ more) → item'' ≡ item' ++ rest
+    → begin'' ≡ begin' → TakesNext o s s' items items' rest item begin item' begin' (Err e) last
+    → KeepsAll which s' items' (bytes ++ piece) item'' begin'' (text ++ (more ++ last)) (Err e)
+turn_stops o which s s' items items' bytes piece rest item item' item'' begin begin' begin'' text more last e same u k b
+    f =
+    let v = subst (λ (o : Option Explained). KeepsUpTo o s items bytes piece rest item begin (text ++ more)) (sym same)
     u in
-    let all = stops_kept o s s' items items' bytes piece rest item item' item'' begin begin' (text ++ lines)
-    (text ++ lines') e v k (f (bytes ++ v.prefix) text v.has) in
-    subst (λ (o : Option Explained). KeepsAll o s' items' (bytes ++ piece) item'' begin'' (text ++ lines'') (Err e))
-    same
-    (subst (λ (t : List ℕ). KeepsAll o s' items' (bytes ++ piece) item'' begin'' (text ++ t) (Err e)) (sym l)
-    (subst (λ (n : ℕ). KeepsAll o s' items' (bytes ++ piece) item'' n (text ++ lines') (Err e)) (sym b) all))
+    let text' = (text ++ more) ++ last in
+    let all = stops_kept o s s' items items' bytes piece rest item item' item'' begin begin' (text ++ more) text' e v k
+    (f (bytes ++ v.prefix) (text ++ more) v.has) in
+    subst (λ (t : List ℕ). KeepsAll which s' items' (bytes ++ piece) item'' begin'' t (Err e))
+    (append_assoc text more last)
+    (subst (λ (o : Option Explained). KeepsAll o s' items' (bytes ++ piece) item'' begin'' text' (Err e)) same
+    (subst (λ (n : ℕ). KeepsAll o s' items' (bytes ++ piece) item'' n text' (Err e)) (sym b) all))
 
 pub turn_lost : (o which : Option Explained) (s s' : SessionState) (items items' : ℕ)
-    (bytes piece rest item item' item'' : List ℕ) (begin begin' begin'' : ℕ) (text lines lines' lines'' : List ℕ)
-    (e : Fault) → o ≡ which → KeepsUpTo which s items bytes piece rest item begin (text ++ lines) → lines'' ≡ lines'
-    → ((bytes text : List ℕ) → HasReadKept o s items bytes item begin (text ++ lines)
-    → KeepsNext o s' items items' bytes rest item' begin' (text ++ lines') (Err e))
-    → KeepsAll which s' items' (bytes ++ piece) item'' begin'' (text ++ lines'') (Err reading.Memory)
-turn_lost o which s s' items items' bytes piece rest item item' item'' begin begin' begin'' text lines lines' lines'' e
-    same u l f =
-    let v = subst (λ (o : Option Explained). KeepsUpTo o s items bytes piece rest item begin (text ++ lines)) (sym same)
+    (bytes piece rest item item' item'' : List ℕ) (begin begin' begin'' : ℕ) (text more last : List ℕ) (e : Fault)
+    → o ≡ which → KeepsUpTo which s items bytes piece rest item begin (text ++ more)
+    → TakesNext o s s' items items' rest item begin item' begin' (Err e) last
+    → KeepsAll which s' items' (bytes ++ piece) item'' begin'' (text ++ (more ++ last)) (Err reading.Memory)
+turn_lost o which s s' items items' bytes piece rest item item' item'' begin begin' begin'' text more last e same u f =
+    let v = subst (λ (o : Option Explained). KeepsUpTo o s items bytes piece rest item begin (text ++ more)) (sym same)
     u in
-    subst (λ (o : Option Explained). KeepsAll o s' items' (bytes ++ piece) item'' begin'' (text ++ lines'') (Err
-    reading.Memory))
+    let text' = (text ++ more) ++ last in
+    subst (λ (t : List ℕ). KeepsAll which s' items' (bytes ++ piece) item'' begin'' t (Err reading.Memory))
+    (append_assoc text more last)
+    (subst (λ (o : Option Explained). KeepsAll o s' items' (bytes ++ piece) item'' begin'' text' (Err reading.Memory))
     same
-    (lost_kept o s s' items items' bytes piece rest item item' item'' begin begin' begin'' (text ++ lines)
-    (text ++ lines') (text ++ lines'') e v (ap (λ (t : List ℕ). text ++ t) l) (f (bytes ++ v.prefix) text v.has))
+    (lost_kept o s s' items items' bytes piece rest item item' item'' begin begin' begin'' (text ++ more)
+    text' text' e v refl (f (bytes ++ v.prefix) (text ++ more) v.has)))

@@ -3,3 +3,4 @@ pub mod WhyLaws
 pub mod KeepingLaws
 mod RefusedLaws
 pub mod ExplainLaws
+pub mod SendingLaws

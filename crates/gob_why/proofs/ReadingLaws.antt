@@ -124,18 +124,19 @@ none_came now next buf count zero c = subst (λ n. Consumes now next (take n buf
 
 pub taken_none : (which : Option Explained) (s : SessionState) (items : ℕ) (item : List ℕ) (begin : ℕ)
     (text : List ℕ) (read : Option (List ℕ)) → HasReadKept which s items [] item begin text
-    → HasTaken which s items 0 read read item begin text
+    → HasTaken which s items 0 read read item begin
 taken_none which s items item begin text read h =
-    record { taken = []; input = Consumes-nil read; has = h; bytes_are = refl }
+    record { taken = []; text = text; input = Consumes-nil read; has = h; bytes_are = refl }
 
 module _ {which : Option Explained} {s : SessionState} {n m : ℕ} {read now : Option (List ℕ)} {item : List ℕ}
-    {begin : ℕ} {text : List ℕ} (h : HasTaken which s n m read now item begin text) where
+    {begin : ℕ} (h : HasTaken which s n m read now item begin) where
   pub piece_taken : (s' : SessionState) (n' count : ℕ) (next : Option (List ℕ)) (piece item' : List ℕ) (begin' : ℕ)
       (text' : List ℕ) → Consumes now next piece → length piece ≡ count
       → HasReadKept which s' n' (h.taken ++ piece) item' begin' text'
-      → HasTaken which s' n' (m + count) read next item' begin' text'
+      → HasTaken which s' n' (m + count) read next item' begin'
   piece_taken s' n' count next piece item' begin' text' c size t = record {
     taken = h.taken ++ piece;
+    text = text';
     input = Consumes-trans read now next h.taken piece h.input c;
     has = t;
     bytes_are = omega (arith, h.bytes_are, size, length-append h.taken piece);

@@ -109,7 +109,7 @@ pub record HasRefused (which : Explained) (L : Bounds) (bytes : List ℕ) (R : R
   pub holds : P (text ++ last)
 
 -- ---- the run
--- after a failed write a prefix of the text is out, of some items, or of all and the refused bytes
+-- a prefix of the text is out, of some items, or of all and the refused bytes
 pub data IsCutOff (which : Explained) (L : Bounds) (bytes : List ℕ) (old new : Option (List ℕ)) : Type 0 where
   in_items : BeginsGo L bytes (HasExplained (Some which) L (AppendsPrefix old new))
       → IsCutOff which L bytes old new
@@ -117,7 +117,7 @@ pub data IsCutOff (which : Explained) (L : Bounds) (bytes : List ℕ) (old new :
       → IsCutOff which L bytes old new
 
 -- how it ends, over an input with these bytes left and an output with the old bytes: the text of the items went out,
--- and of a refused one behind them, and nothing else; where memory is wanting that of some items
+-- and of a refused one behind them, and nothing else; after a failed write, or where memory is wanting, a prefix
 abbrev pub ExplainAnswers : Explained → Bounds → (bytes : List ℕ) → (now old new : Option (List ℕ)) → Result (Unit
     {0}) ToolFault
     → Type 0
@@ -128,8 +128,7 @@ ExplainAnswers which L bytes now old new (Err (fault.Refused R)) =
 ExplainAnswers which L bytes now old new (Err fault.Read) =
     SomeTaken bytes now (λ taken. GivesLongestGo L taken (HasExplained (Some which) L (Appends old new)))
 ExplainAnswers which L bytes now old new (Err fault.Write) = IsCutOff which L bytes old new
-ExplainAnswers which L bytes now old new (Err fault.Memory) =
-    BeginsGo L bytes (HasExplained (Some which) L (Appends old new))
+ExplainAnswers which L bytes now old new (Err fault.Memory) = IsCutOff which L bytes old new
 ExplainAnswers which L bytes now old new (Err (fault.Wanted R)) = ⊥
 ExplainAnswers which L bytes now old new (Err fault.NoWantedType) = ⊥
 ExplainAnswers which L bytes now old new (Err (fault.Clash path reason)) = ⊥

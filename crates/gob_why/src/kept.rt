@@ -1,13 +1,15 @@
 //! What is kept of a stream while it is read.
 
-ghost use Rattle.std.specs.Prelude.{◌≡◌, ◌≢◌, ◌^◌, ◌<◌, ◌++◌, [], None, MatchBool, OnErr, OnOk, length, string_bytes};
+ghost use Rattle.std.specs.Prelude.{◌≡◌, ◌++◌, [], MatchBool, OnOk};
 ghost use Rattle.gob_types.specs.Defined.{types};
+ghost use Rattle.gob_explain.specs.Putting.{PutsMore};
 ghost use Rattle.gob_why.specs.Explain.{IsChosen};
-ghost use Rattle.gob_why.specs.Machine.Keeping.{EndsItem, ExplainsNext, ShowsNext};
+ghost use Rattle.gob_why.specs.Machine.Keeping.{EndsItem, ExplainsEnd, GoesOn};
 
 use crate::explained::Explained;
-use gob_explain::push_first_bytes;
+use gob_explain::{LinesOut, push_first_bytes};
 use gob_go::GoItem;
+use gob_json::TextOut;
 use gob_num::Memory;
 use gob_types::{Table, TypeId};
 use std::alloc::Global;
@@ -23,8 +25,6 @@ pub(crate) struct Kept {
     pub(crate) values: BTreeMap<u64, u64>,
     /// Which items are explained. None: none is.
     pub(crate) explained: Option<Explained>,
-    /// The lines of items that are whole, as far as they wait.
-    pub(crate) lines: String,
 }
 
 // Not derived, so that a drop is one call in the proofs of what owns one.
@@ -35,7 +35,6 @@ impl Drop for Kept {
             begin: _,
             values: _,
             explained: _,
-            lines: _,
         } = self;
     }
 }
@@ -46,14 +45,12 @@ impl Kept {
         ensures item { result.item.items ≡ [] }
         ensures begin { result.begin ≡ 0 }
         ensures explained { result.explained ≡ explained }
-        ensures lines { string_bytes result.lines ≡ [] }
     {
         Kept {
             item: Vec::new(alloc),
             begin: 0,
             values: BTreeMap::new(alloc),
             explained,
-            lines: String::new(alloc),
         }
     }
 
@@ -62,52 +59,47 @@ impl Kept {
         ensures item { OnOk result (self.new.item.items ≡ self.old.item.items ++ bytes.now) }
         ensures begin { self.new.begin ≡ self.old.begin }
         ensures explained { self.new.explained ≡ self.old.explained }
-        ensures lines { string_bytes self.new.lines ≡ string_bytes self.old.lines }
     {
         Ok(self.item.extend_from_slice(bytes)?)
     }
 
     /// Keeps bytes of the item under way, or where they end it, goes on to the next.
-    pub(crate) fn go_on(
+    pub(crate) fn go_on<O: TextOut>(
         &mut self,
         alloc: Global,
         table: &Table,
         item: &Option<GoItem>,
         bytes: &[u8],
+        lines: &mut LinesOut<O>,
     ) -> Result<(), Memory>
-        ensures under_way { item.now ≡ None → OnOk result ((self.new.item.items ≡ self.old.item.items ++ bytes.now)
-            × (self.new.begin ≡ self.old.begin) × (string_bytes self.new.lines ≡ string_bytes self.old.lines)) }
-        ensures ended { item.now ≢ None → length (self.old.item.items ++ bytes.now) < 2 ^ 64
-            → OnOk result (EndsItem self.old.explained (types table.now) self.old.item.items self.old.begin
-            (string_bytes self.old.lines) bytes.now
-            self.new.item.items self.new.begin (string_bytes self.new.lines)) }
+        ensures put { PutsMore O.puts lines.old.out lines.old.fault lines.new.out lines.new.fault
+            (GoesOn self.old.explained (types table.now) item.now self.old.item.items self.old.begin bytes.now
+            self.new.item.items self.new.begin result) }
         ensures explained { self.new.explained ≡ self.old.explained }
-        ensures lines { OnErr result (string_bytes self.new.lines ≡ string_bytes self.old.lines) }
     {
         match item {
             None => self.keep(bytes),
-            Some(GoItem::Define { .. }) => self.end_item(alloc, table, bytes),
-            Some(GoItem::Put { id, .. }) => self.pass_value(alloc, table, *id, bytes),
+            Some(GoItem::Define { .. }) => self.end_item(alloc, table, bytes, lines),
+            Some(GoItem::Put { id, .. }) => self.pass_value(alloc, table, *id, bytes, lines),
         }
     }
 
     /// Goes past a value of this type, whose item ends with these bytes.
-    pub(crate) fn pass_value(
+    pub(crate) fn pass_value<O: TextOut>(
         &mut self,
         alloc: Global,
         table: &Table,
         id: TypeId,
         bytes: &[u8],
+        lines: &mut LinesOut<O>,
     ) -> Result<(), Memory>
-        ensures ended { length (self.old.item.items ++ bytes.now) < 2 ^ 64
-            → OnOk result (EndsItem self.old.explained (types table.now) self.old.item.items self.old.begin
-            (string_bytes self.old.lines) bytes.now
-            self.new.item.items self.new.begin (string_bytes self.new.lines)) }
+        ensures put { PutsMore O.puts lines.old.out lines.old.fault lines.new.out lines.new.fault
+            (EndsItem self.old.explained (types table.now) self.old.item.items self.old.begin bytes.now
+            self.new.item.items self.new.begin result) }
         ensures explained { self.new.explained ≡ self.old.explained }
-        ensures lines { OnErr result (string_bytes self.new.lines ≡ string_bytes self.old.lines) }
     {
         self.count_value(id)?;
-        self.end_item(alloc, table, bytes)
+        self.end_item(alloc, table, bytes, lines)
     }
 
     // Counts a value of this type.
@@ -115,7 +107,6 @@ impl Kept {
         ensures item { self.new.item ≡ self.old.item }
         ensures begin { self.new.begin ≡ self.old.begin }
         ensures explained { self.new.explained ≡ self.old.explained }
-        ensures lines { string_bytes self.new.lines ≡ string_bytes self.old.lines }
     {
         let count = self.values.entry(id.0)?.or_insert(0);
         *count = count.saturating_add(1);
@@ -123,41 +114,46 @@ impl Kept {
     }
 
     // Goes on to the next item, behind the last bytes of this one, and explains it where that is asked for.
-    fn end_item(&mut self, alloc: Global, table: &Table, bytes: &[u8]) -> Result<(), Memory>
-        ensures ended { length (self.old.item.items ++ bytes.now) < 2 ^ 64
-            → OnOk result (EndsItem self.old.explained (types table.now) self.old.item.items self.old.begin
-            (string_bytes self.old.lines) bytes.now
-            self.new.item.items self.new.begin (string_bytes self.new.lines)) }
+    fn end_item<O: TextOut>(
+        &mut self,
+        alloc: Global,
+        table: &Table,
+        bytes: &[u8],
+        lines: &mut LinesOut<O>,
+    ) -> Result<(), Memory>
+        ensures put { PutsMore O.puts lines.old.out lines.old.fault lines.new.out lines.new.fault
+            (EndsItem self.old.explained (types table.now) self.old.item.items self.old.begin bytes.now
+            self.new.item.items self.new.begin result) }
         ensures explained { self.new.explained ≡ self.old.explained }
-        ensures lines { OnErr result (string_bytes self.new.lines ≡ string_bytes self.old.lines) }
     {
         let size = (self.item.len() as u64).saturating_add(bytes.len() as u64);
-        self.explain_end(alloc, table, bytes, size)?;
+        self.explain_end(alloc, table, bytes, size, lines)?;
         self.begin = self.begin.saturating_add(size);
         self.item.clear();
         Ok(())
     }
 
     // Explains the item that ends with these bytes and has so many with them, where that is asked for.
-    fn explain_end(
+    fn explain_end<O: TextOut>(
         &mut self,
         alloc: Global,
         table: &Table,
         bytes: &[u8],
         size: u64,
+        lines: &mut LinesOut<O>,
     ) -> Result<(), Memory>
-        ensures explains { size ≡ length (self.old.item.items ++ bytes.now)
-            → OnOk result (ExplainsNext self.old.explained (types table.now) self.old.begin
-            (self.old.item.items ++ bytes.now) (string_bytes self.old.lines) (string_bytes self.new.lines)) }
+        ensures put { PutsMore O.puts lines.old.out lines.old.fault lines.new.out lines.new.fault
+            (ExplainsEnd self.old.explained (types table.now) self.old.begin (self.old.item.items ++ bytes.now) size
+            result) }
         ensures begin { self.new.begin ≡ self.old.begin }
         ensures explained { self.new.explained ≡ self.old.explained }
-        ensures lines { OnErr result (string_bytes self.new.lines ≡ string_bytes self.old.lines) }
     {
         if !self.is_chosen(size) {
             return Ok(());
         }
         self.keep(bytes)?;
-        self.explain_item(alloc, table)
+        push_first_bytes(alloc, table, self.item.as_slice(), self.begin, lines);
+        Ok(())
     }
 
     // Whether the item is explained that is whole with so many bytes.
@@ -170,19 +166,5 @@ impl Kept {
             Some(Explained::All) => true,
             Some(Explained::At(offset)) => self.begin <= offset && offset - self.begin < size,
         }
-    }
-
-    // Puts the lines of the item behind those that wait.
-    fn explain_item(&mut self, alloc: Global, table: &Table) -> Result<(), Memory>
-        ensures shown { OnOk result (ShowsNext (types table.now) self.old.begin self.old.item.items
-            (string_bytes self.old.lines) (string_bytes self.new.lines)) }
-        ensures item { self.new.item ≡ self.old.item }
-        ensures begin { self.new.begin ≡ self.old.begin }
-        ensures explained { self.new.explained ≡ self.old.explained }
-        ensures lines { OnErr result (string_bytes self.new.lines ≡ string_bytes self.old.lines) }
-    {
-        let mut text = String::new(alloc);
-        push_first_bytes(alloc, table, self.item.as_slice(), self.begin, &mut text)?;
-        Ok(self.lines.push_str(text.as_str())?)
     }
 }

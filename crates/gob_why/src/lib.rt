@@ -34,6 +34,7 @@ mod refused;
 mod report;
 mod run;
 mod scene;
+mod sending;
 mod sentence;
 mod trial;
 mod words;

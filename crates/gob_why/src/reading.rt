@@ -1,17 +1,19 @@
 //! Reading a stream to its end or to its refusal, where the bytes of the item under way are kept.
 
-ghost use Rattle.std.specs.Prelude.{◌≡◌, ◌≢◌, ◌<◌, ◌≤◌, ◌++◌, ℕ, List, [], Some, length, IfErr, IfOk};
-ghost use Rattle.std.specs.Prelude.{IfSome, min, string_bytes};
+ghost use Rattle.std.specs.Prelude.{◌≡◌, ◌≢◌, ◌<◌, ◌≤◌, ℕ, List, [], Some, length, IfErr, IfOk, IfSome, min};
+ghost use Rattle.gob_explain.specs.Putting.{PutsMore};
 ghost use Rattle.gob_stream.specs.Bounds.{AreLimits, deepest, greatest_depth, within_trees};
 ghost use Rattle.gob_stream.specs.Calls.Ends.{failed_reads, reader_of};
 ghost use Rattle.gob_go.specs.Calls.Session.{limits_of};
 ghost use Rattle.gob_tool.specs.Machine.Counting.{CountsCounting, given_count};
 ghost use Rattle.gob_go_tool.specs.Machine.Counting.{EndsCountingGo};
-ghost use Rattle.gob_why.specs.Machine.Keeping.{HasReadKept, HasReadSome, KeepsAll, KeepsNext};
+ghost use Rattle.gob_why.specs.Machine.Keeping.{HasReadKept, HasReadSome, TakesNext, TakesPiece};
 ghost use Rattle.gob_why.specs.Machine.Reading.{HasValueNext};
 
 use crate::kept::Kept;
+use gob_explain::LinesOut;
 use gob_go::{GoItem, GoSession};
+use gob_json::TextOut;
 use gob_stream::{Fault, Input, Limits, Whole};
 use gob_tool::{Tally, ToolFault, read_piece, room_for_piece};
 use gob_value::is_whole;
@@ -27,8 +29,7 @@ pub(crate) fn read_all<R: Read>(
     items: &mut u64,
     kept: &mut Kept,
 ) -> Result<Tally, ToolFault>
-    requires first { HasReadKept kept.old.explained session.old items.old [] kept.old.item.items kept.old.begin
-        (string_bytes kept.old.lines) }
+    requires first { HasReadKept kept.old.explained session.old items.old [] kept.old.item.items kept.old.begin [] }
     requires limits { AreLimits deepest (limits_of session.old) }
     ensures counted { (bytes : List ℕ) → R.remaining (reader_of input.old) ≡ Some bytes
         → EndsCountingGo (within_trees (limits_of session.old)) bytes (R.remaining (reader_of input.new)) result }
@@ -46,34 +47,53 @@ pub(crate) fn read_all<R: Read>(
                 bytes,
             });
         }
-        take_piece(alloc, session, &piece.as_slice()[..count], items, kept)?;
+        count_piece(alloc, session, &piece.as_slice()[..count], items, kept)?;
         bytes += count as u64;
     }
 }
 
-/// Takes a piece of the stream, and counts the items that are whole with it.
-pub(crate) fn take_piece(
+/// Takes a piece of the stream, and counts the items that are whole with it. No line goes anywhere.
+fn count_piece(
     alloc: Global,
     session: &mut GoSession,
     piece: &[u8],
     items: &mut u64,
     kept: &mut Kept,
 ) -> Result<(), Fault>
-    requires read { HasReadSome kept.old.explained session.old items.old kept.old.item.items kept.old.begin
-        (string_bytes kept.old.lines) }
+    requires read { HasReadSome kept.old.explained session.old items.old kept.old.item.items kept.old.begin }
     requires limits { AreLimits deepest (limits_of session.old) }
-    ensures kept { (bytes text : List ℕ)
-        → HasReadKept kept.old.explained session.old items.old bytes kept.old.item.items kept.old.begin
-        (text ++ string_bytes kept.old.lines)
-        → KeepsAll kept.old.explained session.new items.new (bytes ++ piece.now) kept.new.item.items kept.new.begin
-        (text ++ string_bytes kept.new.lines) result }
+    ensures kept { (more : List ℕ) × TakesPiece kept.old.explained session.old session.new items.old items.new piece.now
+        kept.old.item.items kept.old.begin kept.new.item.items kept.new.begin result more }
+    ensures explained { kept.new.explained ≡ kept.old.explained }
+    ensures limits { limits_of session.new ≡ limits_of session.old }
+    ensures unread { IfErr result (λ fault. fault ≢ Fault.Read) }
+{
+    let mut lines = LinesOut::new(alloc, Vec::new(alloc));
+    take_piece(alloc, session, piece, items, kept, &mut lines)
+}
+
+/// Takes a piece of the stream, and counts the items that are whole with it. Those that are explained have their lines
+/// put out.
+pub(crate) fn take_piece<O: TextOut>(
+    alloc: Global,
+    session: &mut GoSession,
+    piece: &[u8],
+    items: &mut u64,
+    kept: &mut Kept,
+    lines: &mut LinesOut<O>,
+) -> Result<(), Fault>
+    requires read { HasReadSome kept.old.explained session.old items.old kept.old.item.items kept.old.begin }
+    requires limits { AreLimits deepest (limits_of session.old) }
+    ensures kept { PutsMore O.puts lines.old.out lines.old.fault lines.new.out lines.new.fault
+        (TakesPiece kept.old.explained session.old session.new items.old items.new piece.now kept.old.item.items
+        kept.old.begin kept.new.item.items kept.new.begin result) }
     ensures explained { kept.new.explained ≡ kept.old.explained }
     ensures limits { limits_of session.new ≡ limits_of session.old }
     ensures unread { IfErr result (λ fault. fault ≢ Fault.Read) }
 {
     let mut rest = piece;
     while !rest.is_empty() {
-        match take_next(alloc, session, rest, items, kept) {
+        match take_next(alloc, session, rest, items, kept, lines) {
             Ok(used) => rest = &rest[used..],
             Err(fault) => {
                 kept.keep(rest)?;
@@ -84,24 +104,22 @@ pub(crate) fn take_piece(
     Ok(())
 }
 
-/// Takes bytes from the front of the piece, and counts the item that is whole with them, if one is. Answers how many
-/// bytes it took.
-fn take_next(
+/// Takes bytes from the front of the piece, and counts the item that is whole with them, if one is; it has its lines
+/// put out, if it is explained. Answers how many bytes it took.
+fn take_next<O: TextOut>(
     alloc: Global,
     session: &mut GoSession,
     piece: &[u8],
     items: &mut u64,
     kept: &mut Kept,
+    lines: &mut LinesOut<O>,
 ) -> Result<usize, Fault>
     requires some { 0 < length piece.now }
-    requires read { HasReadSome kept.old.explained session.old items.old kept.old.item.items kept.old.begin
-        (string_bytes kept.old.lines) }
+    requires read { HasReadSome kept.old.explained session.old items.old kept.old.item.items kept.old.begin }
     requires limits { AreLimits deepest (limits_of session.old) }
-    ensures kept { (bytes text : List ℕ)
-        → HasReadKept kept.old.explained session.old items.old bytes kept.old.item.items kept.old.begin
-        (text ++ string_bytes kept.old.lines)
-        → KeepsNext kept.old.explained session.new items.old items.new bytes piece.now kept.new.item.items
-        kept.new.begin (text ++ string_bytes kept.new.lines) result }
+    ensures kept { PutsMore O.puts lines.old.out lines.old.fault lines.new.out lines.new.fault
+        (TakesNext kept.old.explained session.old session.new items.old items.new piece.now kept.old.item.items
+        kept.old.begin kept.new.item.items kept.new.begin result) }
     ensures explained { kept.new.explained ≡ kept.old.explained }
     ensures used { IfOk result (λ used. used ≤ length piece.now) }
     ensures limits { limits_of session.new ≡ limits_of session.old }
@@ -110,14 +128,14 @@ fn take_next(
     if let Some(value) = value_next(session, piece) {
         let used = value.used;
         session.pass(&piece[..used]);
-        kept.pass_value(alloc, session.table(), value.id, &piece[..used])?;
+        kept.pass_value(alloc, session.table(), value.id, &piece[..used], lines)?;
         *items += 1;
         return Ok(used);
     }
     let step = session.step(alloc, piece)?;
     let used = step.used;
     let given = count_given(&step.item);
-    let gone_on = kept.go_on(alloc, session.table(), &step.item, &piece[..used]);
+    let gone_on = kept.go_on(alloc, session.table(), &step.item, &piece[..used], lines);
     drop(step);
     gone_on?;
     *items += given;

@@ -1,16 +1,8 @@
-//! The lines of an item that is refused.
+//! What is said of refused bytes.
 
-ghost use Rattle.std.specs.Prelude.{◌≡◌, IfOk, OnOk, string_bytes};
-ghost use Rattle.gob_types.specs.Defined.{types};
-ghost use Rattle.gob_why.specs.Explain.{IsRefusedText};
-ghost use Rattle.gob_why.specs.Machine.Keeping.{ShowsRefused};
-
-use crate::explained::Explained;
 use crate::marks::rest_from;
 use crate::scene::Scene;
-use gob_explain::{
-    Reached, path_text, path_to, push_expected, push_first_bytes, push_line, push_type_name,
-};
+use gob_explain::{Reached, path_text, path_to, push_expected, push_line, push_type_name};
 use gob_num::Memory;
 use gob_types::Reason;
 use std::alloc::{AllocError, Global};
@@ -18,37 +10,9 @@ use std::alloc::{AllocError, Global};
 // So many refused bytes are shown.
 const SHOWN: usize = 8;
 
-/// The lines of the refused item, where it is explained: of what stands before the refused bytes, then these, and what
-/// is expected there. Where a description is refused whose bytes are well formed, all its lines, and which is wrong.
-pub(crate) fn refused_text(
-    alloc: Global,
-    scene: &Scene<'_>,
-    which: Explained,
-) -> Result<String, Memory>
-    ensures { IfOk result (λ text. IsRefusedText which (types scene.now.table.now) scene.now.kept.now.begin
-        scene.now.refusal scene.now.kept.now.item.items (string_bytes text)) }
-{
-    let mut text = String::new(alloc);
-    if !which.has_refused(scene.kept.begin) {
-        return Ok(text);
-    }
-    push_refused(alloc, scene, &mut text)?;
-    Ok(text)
-}
-
-// Puts the lines behind the text.
-fn push_refused(alloc: Global, scene: &Scene<'_>, out: &mut String) -> Result<(), Memory>
-    ensures { OnOk result (ShowsRefused (types scene.now.table.now) scene.now.kept.now.begin scene.now.refusal
-        scene.now.kept.now.item.items (string_bytes out.old) (string_bytes out.new)) }
-{
-    let front = scene.explained();
-    let reached = push_first_bytes(alloc, scene.table, front, scene.kept.begin, out)?;
-    let words = refused_words(alloc, scene, front, &reached)?;
-    Ok(out.push_str(words.as_str())?)
-}
-
-// What stands behind the lines of the bytes that aren't refused.
-fn refused_words(
+/// What stands behind the lines of the bytes that aren't refused: the refused ones, and what is expected there. Where a
+/// description is refused whose bytes are well formed, which line is wrong.
+pub(crate) fn refused_words(
     alloc: Global,
     scene: &Scene<'_>,
     front: &[u8],

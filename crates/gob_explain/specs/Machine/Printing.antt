@@ -1,12 +1,15 @@
 -- How far a printer of rows has come, for private clauses.
-use Rattle.std.specs.Prelude.{◌≡◌, ℕ, ◌<◌, ◌≤◌, List, [], ◌∷◌, ◌++◌, length, take, Option, None, Some, Result, Ok}
+use Rattle.std.specs.Prelude.{◌≡◌, ℕ, ◌+◌, ◌<◌, ◌≤◌, List, [], ◌∷◌, ◌++◌, length, take, Option, None, Some, Result, Ok}
 use Rattle.std.specs.Prelude.{Err}
 use Rattle.std.proofs.Common.{refl, sym, subst, ◌∙◌, append_assoc, append-nil}
-use Rattle.gob_num.specs.declared.memory.Memory.{Memory}
 use Rattle.gob_types.specs.Table.{Table}
-use Rattle.gob_explain.specs.Column.{ColumnIs}
+use Rattle.gob_explain.specs.Column.{ColumnIs, IsSomeLine, saturated}
 use Rattle.gob_explain.specs.Lines.{AreLines, AreOneLine, BeginsLine, IsOpen, SharesLine, last_of, last_row}
+use Rattle.gob_explain.specs.Putting.{PutsOn}
+use Rattle.gob_explain.specs.Walk.{between}
+use Rattle.gob_explain.specs.Machine.Putting.{puts_both, puts_nothing}
 use Rattle.gob_explain.specs.declared.row.Row.{Row}
+use Rattle.gob_explain.specs.declared.text.lines_out.LineFault.{LineFault}
 use Rattle.gob_explain.specs.declared.text.printer.Line.{Line}
 
 -- where the line under way begins
@@ -60,34 +63,58 @@ abbrev pub HasTold : Table → (offset : ℕ) → (body : List ℕ) → Option L
 HasTold T offset body line text rows at =
     HasPrinted T offset body line text rows at × IsSettled T line (last_of rows)
 
--- all its lines have ended
-pub record HasLines (T : Table) (offset : ℕ) (body : List ℕ) (rows : List Row) (at : ℕ) (text : List ℕ) : Type 0 where
-  pub lines : AreLines T offset body rows text
-  pub column : ColumnIs offset (take at body) text
+-- ---- what calls make of what was printed, by more text
+-- it is the line of these bytes of the body
+abbrev pub IsLineText : (offset : ℕ) → (body : List ℕ) → Line → (more : List ℕ) → Type 0
+IsLineText offset body line more = line.begin ≤ line.end → line.end ≤ length body
+    → IsSomeLine (saturated (offset + line.begin)) (between line.begin line.end body) (saturated (line.depth + 1)) more
+
+-- the line under way has ended
+abbrev pub EndsLine : Table → (offset : ℕ) → (body : List ℕ) → Option Line → (more : List ℕ) → Type 0
+EndsLine T offset body line more = (text : List ℕ) (rows : List Row) (at : ℕ)
+    → HasPrinted T offset body line text rows at → HasPrinted T offset body None (text ++ more) rows at
+
+-- a row has a line of its own
+abbrev pub PrintsAlone : Table → (offset : ℕ) → (body : List ℕ) → Row → (more : List ℕ) → Type 0
+PrintsAlone T offset body r more = (text : List ℕ) (rows : List Row) → r.begin < r.end → r.end ≤ length body
+    → BeginsLine T (last_of rows) r → HasPrinted T offset body None text rows r.begin
+    → HasPrinted T offset body None (text ++ more) (rows ++ r ∷ []) r.end
+
+-- a row was told
+abbrev pub TellsRow : Table → (offset : ℕ) → (body : List ℕ) → (line line' : Option Line) → Row → (more : List ℕ)
+    → Type 0
+TellsRow T offset body line line' r more = (text : List ℕ) (rows : List Row) → r.begin < r.end → r.end ≤ length body
+    → HasTold T offset body line text rows r.begin → HasTold T offset body line' (text ++ more) (rows ++ r ∷ []) r.end
 
 -- rows one behind another from one place up to the other, of so many bytes
 abbrev pub AreInOrder : (size at : ℕ) → List Row → (end : ℕ) → Type 0
 AreInOrder size at [] end = at ≡ end
 AreInOrder size at (r ∷ rows) end = (r.begin ≡ at) × (r.begin < r.end) × (r.end ≤ size) × AreInOrder size r.end rows end
 
--- what a printer is that was told of the rows
-abbrev pub PrintsRows : Table → (offset : ℕ) → (body : List ℕ) → Option Line → (text : List ℕ) → Table → (offset' : ℕ)
-    → (body' : List ℕ) → Option Line → (text' : List ℕ) → List Row → Result (Unit {0}) Memory → Type 0
-PrintsRows T offset body line text T' offset' body' line' text' rows (Ok _) = (T' ≡ T) × (offset' ≡ offset)
-    × (body' ≡ body)
-    × ((before : List Row) (at end : ℕ) → AreInOrder (length body) at rows end
-    → HasTold T offset body line text before at → HasTold T offset body line' text' (before ++ rows) end)
-PrintsRows T offset body line text T' offset' body' line' text' rows (Err _) = Unit {0}
+-- rows were told
+abbrev pub TellsRows : Table → (offset : ℕ) → (body : List ℕ) → (line line' : Option Line) → List Row
+    → (more : List ℕ) → Type 0
+TellsRows T offset body line line' rows more = (text : List ℕ) (before : List Row) (at end : ℕ)
+    → AreInOrder (length body) at rows end → HasTold T offset body line text before at
+    → HasTold T offset body line' (text ++ more) (before ++ rows) end
 
-pub prints_nothing : (T : Table) (offset : ℕ) (body : List ℕ) (line : Option Line) (text : List ℕ)
-    → PrintsRows T offset body line text T offset body line text [] (Ok tt)
-prints_nothing T offset body line text = (
-  refl,
-  refl,
-  refl,
-  λ before at end e h. subst (λ (rows : List Row). HasTold T offset body line text rows end) (sym (append-nil before))
-      (subst (λ n. HasTold T offset body line text before n) e h),
-)
+-- what a printer is that was told of the rows: more text was put out
+pub record PrintsRows {O E : Type 0} (puts : O → O → List ℕ → Result (Unit {0}) E → Type 0) (T : Table) (offset : ℕ)
+    (body : List ℕ) (line : Option Line) (out : O) (fault : Option (LineFault E)) (T' : Table) (offset' : ℕ)
+    (body' : List ℕ) (line' : Option Line) (out' : O) (fault' : Option (LineFault E)) (rows : List Row) : Type 0 where
+  pub types : T' ≡ T
+  pub offset_is : offset' ≡ offset
+  pub bytes : body' ≡ body
+  pub more : List ℕ
+  pub put : PutsOn puts out fault out' fault' more
+  pub tells : TellsRows T offset body line line' rows more
+
+pub tells_nothing : (T : Table) (offset : ℕ) (body : List ℕ) (line : Option Line)
+    → TellsRows T offset body line line [] []
+tells_nothing T offset body line = λ text before at end e h.
+    subst (λ (t : List ℕ). HasTold T offset body line t (before ++ []) end) (sym (append-nil text))
+    (subst (λ (rows : List Row). HasTold T offset body line text rows end) (sym (append-nil before))
+    (subst (λ (n : ℕ). HasTold T offset body line text before n) e h))
 
 -- rows behind rows
 record GoOn (size at : ℕ) (x y : List Row) (end : ℕ) : Type 0 where
@@ -101,31 +128,58 @@ split_order size at end (r ∷ x) y o =
     let g = split_order size r.end end x y o.3 in
     record { place = g.place; first = (o.0, o.1, o.2, g.first); then = g.then }
 
-pub prints_both : (T : Table) (offset : ℕ) (body : List ℕ) (line : Option Line) (text : List ℕ) (T' : Table)
-    (offset' : ℕ) (body' : List ℕ) (line' : Option Line) (text' : List ℕ) (T_after : Table) (offset_after : ℕ)
-    (body_after : List ℕ) (line_after : Option Line) (text_after : List ℕ)
-    (x y : List Row) (r : Result (Unit {0}) Memory)
-    → PrintsRows T offset body line text T' offset' body' line' text' x (Ok tt)
-    → PrintsRows T' offset' body' line' text' T_after offset_after body_after line_after text_after y r
-    → PrintsRows T offset body line text T_after offset_after body_after line_after text_after (x ++ y) r
-prints_both T offset body line text T' offset' body' line' text' T_after offset_after body_after line_after text_after
-    x y (Ok u) p q = (
-      q.0 ∙ p.0,
-      q.1 ∙ p.1,
-      q.2 ∙ p.2,
-      λ before at end o h.
-          let g = split_order (length body) at end x y o in
-          let there = p.3 before at g.place g.first h in
-          let on = subst (λ (T' : Table). HasTold T' offset body line' text' (before ++ x) g.place
-          → HasTold T' offset body line_after text_after ((before ++ x) ++ y) end) p.0
-          (subst (λ (n : ℕ). HasTold T' n body line' text' (before ++ x) g.place
-          → HasTold T' n body line_after text_after ((before ++ x) ++ y) end) p.1
-          (subst (λ (b : List ℕ). AreInOrder (length b) g.place y end
-          → HasTold T' offset' b line' text' (before ++ x) g.place
-          → HasTold T' offset' b line_after text_after ((before ++ x) ++ y) end) p.2
-          (q.3 (before ++ x) g.place end) g.then)) in
-          subst (λ (rows : List Row). HasTold T offset body line_after text_after rows end) (append_assoc before x y)
-          (on there),
-    )
-prints_both T offset body line text T' offset' body' line' text' T_after offset_after body_after line_after text_after
-    x y (Err e) p q = tt
+tells_both : (T : Table) (offset : ℕ) (body : List ℕ) (line line' line'' : Option Line) (x y : List Row)
+    (more last : List ℕ) → TellsRows T offset body line line' x more → TellsRows T offset body line' line'' y last
+    → TellsRows T offset body line line'' (x ++ y) (more ++ last)
+tells_both T offset body line line' line'' x y more last p q = λ text before at end o h.
+    let g = split_order (length body) at end x y o in
+    let both = q (text ++ more) (before ++ x) g.place end g.then (p text before at g.place g.first h) in
+    subst (λ (t : List ℕ). HasTold T offset body line'' t (before ++ (x ++ y)) end) (append_assoc text more last)
+    (subst (λ (rows : List Row). HasTold T offset body line'' ((text ++ more) ++ last) rows end)
+    (append_assoc before x y) both)
+
+-- by a printer of the same bytes
+pub tells_as : {T U : Table} {o p : ℕ} {b c : List ℕ} (line line' : Option Line) (rows : List Row) (more : List ℕ)
+    → U ≡ T → p ≡ o → c ≡ b → TellsRows U p c line line' rows more → TellsRows T o b line line' rows more
+tells_as {T = T} {U = U} {o = o} {p = p} {b = b} {c = c} line line' rows more is_T is_o is_b h =
+    subst (λ (T : Table). TellsRows T o b line line' rows more) is_T
+    (subst (λ (n : ℕ). TellsRows U n b line line' rows more) is_o
+    (subst (λ (l : List ℕ). TellsRows U p l line line' rows more) is_b h))
+
+pub ends_as : {T U : Table} {o p : ℕ} {b c : List ℕ} (line : Option Line) (more : List ℕ) → U ≡ T → p ≡ o → c ≡ b
+    → EndsLine U p c line more → EndsLine T o b line more
+ends_as {T = T} {U = U} {o = o} {p = p} {b = b} {c = c} line more is_T is_o is_b h =
+    subst (λ (T : Table). EndsLine T o b line more) is_T
+    (subst (λ (n : ℕ). EndsLine U n b line more) is_o (subst (λ (l : List ℕ). EndsLine U p l line more) is_b h))
+
+module _ {O E : Type 0} (puts : O → O → List ℕ → Result (Unit {0}) E → Type 0) where
+  pub prints_nothing : ((a : O) → puts a a [] (Ok tt)) → (T : Table) (offset : ℕ) (body : List ℕ)
+      (line : Option Line) (out : O) (f : Option (LineFault E))
+      → PrintsRows puts T offset body line out f T offset body line out f []
+  prints_nothing nothing T offset body line out f = record {
+    types = refl;
+    offset_is = refl;
+    bytes = refl;
+    more = [];
+    put = puts_nothing puts nothing out f;
+    tells = tells_nothing T offset body line;
+  }
+
+  pub prints_both : ((a b c : O) (x y : List ℕ) (r : Result (Unit {0}) E)
+      → puts a b x (Ok tt) → puts b c y r → puts a c (x ++ y) r)
+      → ((a b : O) (x y : List ℕ) (e : E) → puts a b x (Err e) → puts a b (x ++ y) (Err e))
+      → (T : Table) (o : ℕ) (b : List ℕ) (line : Option Line) (out : O) (f : Option (LineFault E)) (T' : Table)
+      (o' : ℕ) (b' : List ℕ) (line' : Option Line) (out' : O) (f' : Option (LineFault E)) (T'' : Table) (o'' : ℕ)
+      (b'' : List ℕ) (line'' : Option Line) (out'' : O) (f'' : Option (LineFault E)) (x y : List Row)
+      → PrintsRows puts T o b line out f T' o' b' line' out' f' x
+      → PrintsRows puts T' o' b' line' out' f' T'' o'' b'' line'' out'' f'' y
+      → PrintsRows puts T o b line out f T'' o'' b'' line'' out'' f'' (x ++ y)
+  prints_both joined cut T o b line out f T' o' b' line' out' f' T'' o'' b'' line'' out'' f'' x y p q = record {
+    types = q.types ∙ p.types;
+    offset_is = q.offset_is ∙ p.offset_is;
+    bytes = q.bytes ∙ p.bytes;
+    more = p.more ++ q.more;
+    put = puts_both puts joined cut out out' out'' f f' f'' p.more q.more p.put q.put;
+    tells = tells_both T o b line line' line'' x y p.more q.more p.tells
+        (tells_as line' line'' y q.more p.types p.offset_is p.bytes q.tells);
+  }

@@ -1,22 +1,20 @@
 //! The lines of an item: of its count, its type number and its body.
 
-ghost use Rattle.std.specs.Prelude.{◌≡◌, ◌≤◌, ℕ, List, length, IfOk, OnOk, string_bytes};
+ghost use Rattle.std.specs.Prelude.{◌≡◌, ◌≤◌, ℕ, List, length};
 ghost use Rattle.gob_num.specs.Unsigned.{IsUnsigned};
 ghost use Rattle.gob_types.specs.Defined.{types};
-ghost use Rattle.gob_explain.specs.Items.{HasBodyLines, HasItemLines, HasItemShown, HasSomeLine, NamesBody};
+ghost use Rattle.gob_explain.specs.Items.{NamesBody, ShowsFirst, ShowsItemTo};
+ghost use Rattle.gob_explain.specs.Putting.{PutsMore};
 ghost use Rattle.gob_explain.specs.Walk.{between};
 
-use crate::body::{Walked, walk_body};
 use crate::row::Awaited;
 use crate::text::heads::{size_meaning, type_meaning};
-use crate::text::lines::push_line;
-use crate::text::printer::Printer;
-use gob_num::{Memory, uint_at};
+use crate::text::lines_out::LinesOut;
+use crate::text::printer::push_body;
+use gob_json::TextOut;
+use gob_num::uint_at;
 use gob_types::{Table, TypeId};
-use std::alloc::{AllocError, Global};
-
-// No value is deeper that is gone over.
-const MOST_DEPTH: u64 = 1000;
+use std::alloc::Global;
 
 /// How far the lines of an item lead.
 #[derive(Clone, Copy, Debug, PartialEq, Eq)]
@@ -44,72 +42,63 @@ impl Reached {
     }
 }
 
-/// Puts the lines of an item behind the text, as far as they stand in these bytes, and tells how far they lead. The
-/// item begins with the first of the bytes, which stands at this offset of the stream. A value of a type that isn't
-/// ready has no lines, and none may be deeper than 1000. After an error the text has some of the lines.
-pub fn push_item(
+/// Puts out the lines of the first bytes of an item, up to their end: those of its count, its type number and its body,
+/// and a line of what is left where these don't lead to the end. Answers how far they lead. The item begins with the
+/// first of the bytes, which stands at this offset of the stream. A value of a type that isn't ready has no rows, and
+/// none may be deeper than 1000.
+pub fn push_first_bytes<O: TextOut>(
     alloc: Global,
     table: &Table,
     bytes: &[u8],
     offset: u64,
-    out: &mut String,
-) -> Result<Reached, Memory>
-    ensures { IfOk result (λ reached. HasItemLines (types table.now) offset bytes.now (string_bytes out.old)
-        (string_bytes out.new) reached.place) }
+    lines: &mut LinesOut<O>,
+) -> Reached
+    ensures { PutsMore O.puts lines.old.out lines.old.fault lines.new.out lines.new.fault
+        (ShowsFirst (types table.now) offset bytes.now result.place) }
+{
+    let reached = push_item(alloc, table, bytes, offset, lines);
+    if reached.place < bytes.len() {
+        let rest = part(bytes, reached.place, bytes.len());
+        let place = offset.saturating_add(reached.place as u64);
+        let meaning = String::from_str(alloc, "what comes next begins here");
+        lines.put_line(place, rest, 0, meaning);
+    }
+    reached
+}
+
+// Puts out the lines of an item, as far as they stand in these bytes, and answers how far they lead.
+fn push_item<O: TextOut>(
+    alloc: Global,
+    table: &Table,
+    bytes: &[u8],
+    offset: u64,
+    lines: &mut LinesOut<O>,
+) -> Reached
+    ensures put { PutsMore O.puts lines.old.out lines.old.fault lines.new.out lines.new.fault
+        (ShowsItemTo (types table.now) offset bytes.now result.place) }
+    ensures inside { result.place ≤ length bytes.now }
 {
     let Some((count, begin)) = uint_at(bytes, 0) else {
-        return Ok(Reached::at(0));
+        return Reached::at(0);
     };
-    push_count(alloc, part(bytes, 0, begin), count, offset, out)?;
+    let counted = size_meaning(alloc, "an item", count);
+    lines.put_line(offset, part(bytes, 0, begin), 0, counted);
     let Some((number, body)) = uint_at(bytes, begin) else {
-        return Ok(Reached::at(begin));
+        return Reached::at(begin);
     };
-    let named = part(bytes, begin, body);
-    push_type(
-        alloc,
-        table,
-        named,
-        number,
-        offset.saturating_add(begin as u64),
-        out,
-    )?;
+    let named = type_meaning(alloc, table, number);
+    let place = offset.saturating_add(begin as u64);
+    lines.put_line(place, part(bytes, begin, body), 1, named);
     let id = body_type(number);
     let rest = part(bytes, body, bytes.len());
-    let walked = push_body(
-        alloc,
-        table,
-        id,
-        rest,
-        offset.saturating_add(body as u64),
-        out,
-    )?;
-    Ok(Reached {
+    let place = offset.saturating_add(body as u64);
+    let walked = push_body(alloc, table, id, rest, place, lines);
+    Reached {
         place: body + walked.place,
         id: Some(id),
         body,
         awaited: walked.awaited,
-    })
-}
-
-/// Puts the lines of the first bytes of an item behind the text, up to their end: those of [`push_item`], and a line of
-/// what is left where these don't lead to the end. After an error the text has some of the lines.
-pub fn push_first_bytes(
-    alloc: Global,
-    table: &Table,
-    bytes: &[u8],
-    offset: u64,
-    out: &mut String,
-) -> Result<Reached, Memory>
-    ensures { IfOk result (λ reached. HasItemShown (types table.now) offset bytes.now (string_bytes out.old)
-        (string_bytes out.new)) }
-{
-    let reached = push_item(alloc, table, bytes, offset, out)?;
-    if reached.place < bytes.len() {
-        let rest = part(bytes, reached.place, bytes.len());
-        let place = offset.saturating_add(reached.place as u64);
-        push_line(place, rest, 0, "what comes next begins here", out)?;
     }
-    Ok(reached)
 }
 
 // The bytes from one place up to the other.
@@ -117,19 +106,6 @@ fn part(bytes: &[u8], begin: usize, end: usize) -> &[u8]
     ensures { begin ≤ end → end ≤ length bytes.now → result.now ≡ between begin end bytes.now }
 {
     bytes.get(begin..end).unwrap_or(&[])
-}
-
-fn push_count(
-    alloc: Global,
-    bytes: &[u8],
-    count: u64,
-    offset: u64,
-    out: &mut String,
-) -> Result<(), AllocError>
-    ensures { OnOk result (HasSomeLine offset bytes.now 0 (string_bytes out.old) (string_bytes out.new)) }
-{
-    let meaning = size_meaning(alloc, "an item", count)?;
-    push_line(offset, bytes, 0, meaning.as_str(), out)
 }
 
 // The type of the body behind this type number: that of descriptions for a definition.
@@ -141,37 +117,4 @@ fn body_type(number: u64) -> TypeId
         return TypeId(number / 2);
     }
     TypeId::WIRE_TYPE
-}
-
-// Puts the line of a type number behind the text.
-fn push_type(
-    alloc: Global,
-    table: &Table,
-    bytes: &[u8],
-    number: u64,
-    offset: u64,
-    out: &mut String,
-) -> Result<(), AllocError>
-    ensures { OnOk result (HasSomeLine offset bytes.now 1 (string_bytes out.old) (string_bytes out.new)) }
-{
-    let meaning = type_meaning(alloc, table, number)?;
-    push_line(offset, bytes, 1, meaning.as_str(), out)
-}
-
-// Puts the lines of a body behind the text.
-fn push_body(
-    alloc: Global,
-    table: &Table,
-    id: TypeId,
-    body: &[u8],
-    offset: u64,
-    out: &mut String,
-) -> Result<Walked, Memory>
-    ensures { IfOk result (λ walked. HasBodyLines (types table.now) id offset body.now (string_bytes out.old)
-        (string_bytes out.new) walked.place) }
-{
-    let mut printer = Printer::new(alloc, table, body, offset);
-    let walked = walk_body(table, id, body, MOST_DEPTH, &mut printer)?;
-    out.push_str(printer.finish()?.as_str())?;
-    Ok(walked)
 }

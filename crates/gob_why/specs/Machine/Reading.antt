@@ -11,8 +11,9 @@ use Rattle.gob_why.specs.declared.explained.Explained.{Explained}
 
 -- so many bytes were taken of the input, the items that they give were counted, and this is kept
 pub record HasTaken (which : Option Explained) (s : SessionState) (items bytes : ℕ) (read now : Option (List ℕ))
-    (item : List ℕ) (begin : ℕ) (text : List ℕ) : Type 0 where
+    (item : List ℕ) (begin : ℕ) : Type 0 where
   pub taken : List ℕ
+  pub text : List ℕ
   pub input : Consumes read now taken
   pub has : HasReadKept which s items taken item begin text
   pub bytes_are : bytes ≡ length taken

@@ -1,5 +1,5 @@
 -- From piece to piece what was taken is counted, and each end is that of the stream.
-use Rattle.std.proofs.Common.{◌∙◌, [], ap, arith, refl, string_bytes, subst, sym}
+use Rattle.std.proofs.Common.{◌∙◌, [], ap, arith, refl, subst, sym}
 use Rattle.std.proofs.lemmas.List.{length-take-le}
 use Rattle.gob_types.specs.Defined.{types, definition_count}
 use Rattle.gob_stream.specs.Bounds.{Bounds, within_trees}
@@ -19,16 +19,16 @@ pub pieces-init : goal.pieces-init
 pieces-init g c = (
   refl,
   refl,
-  taken_none _ _ _ _ _ _ (g.R.Read.remaining (reader_of c.args.input.now)) c.requires.first,
+  taken_none _ _ _ _ _ [] (g.R.Read.remaining (reader_of c.args.input.now)) c.requires.first,
   c.in_ok-piece.ensures,
 )
 
-pub take_piece-requires-clause-read : goal.take_piece-requires-clause-read
-take_piece-requires-clause-read g c =
-    let h = c.pieces.invariant.2 in record { bytes = h.taken; text = []; has = h.has }
+pub count_piece-requires-clause-read : goal.count_piece-requires-clause-read
+count_piece-requires-clause-read g c =
+    let h = c.pieces.invariant.2 in record { bytes = h.taken; text = h.text; has = h.has }
 
-pub take_piece-requires-clause-limits : goal.take_piece-requires-clause-limits
-take_piece-requires-clause-limits g c = limits_as c.pieces.invariant.0 c.requires.limits
+pub count_piece-requires-clause-limits : goal.count_piece-requires-clause-limits
+count_piece-requires-clause-limits g c = limits_as c.pieces.invariant.0 c.requires.limits
 
 pub returns-in_err-count-clause-counted : goal.returns-in_err-count-clause-counted
 returns-in_err-count-clause-counted g c = λ bytes known.
@@ -72,35 +72,35 @@ returns-then-count-eq0-clause-counted g c = λ bytes known.
     (c.count.ensures.count ∙ ap (λ d. definition_count (types d)) (c.table.ensures ∙ c.in_ok-finish.ensures.types)) refl
     (c.in_ok-finish.ensures.finishes i.2.has.given i.2.taken i.2.has.gave) bytes known
 
-pub returns-in_err-take_piece-clause-counted : goal.returns-in_err-take_piece-clause-counted
-returns-in_err-take_piece-clause-counted g c = λ bytes known.
+pub returns-in_err-count_piece-clause-counted : goal.returns-in_err-count_piece-clause-counted
+returns-in_err-count_piece-clause-counted g c = λ bytes known.
     let i = c.pieces.invariant in
-    let e = c.in_err-take_piece.field-0.0 in
+    let e = c.in_err-count_piece.field-0.0 in
     let M = limits_of c.args.session.now in
     let next = g.R.Read.remaining (reader_of c.read_piece.new.input) in
-    let t = c.take_piece.new in
-    at_error (λ r. EndsCountingGo (within_trees M) bytes next r) c.from_residual-in_err-take_piece.result
-    (reading_fault e) c.from_residual-in_err-take_piece.ensures.1
-    (piece_stops i.2 t.session t.items t.kept.item.items t.kept.begin (string_bytes t.kept.lines) M next _ e
-    (c.in_err-take_piece.ensures.limits ∙ i.0)
+    let t = c.count_piece.new in
+    at_error (λ r. EndsCountingGo (within_trees M) bytes next r) c.from_residual-in_err-count_piece.result
+    (reading_fault e) c.from_residual-in_err-count_piece.ensures.1
+    (piece_stops i.2 t.session t.items t.kept.item.items t.kept.begin _ M next _ e
+    (c.in_err-count_piece.ensures.limits ∙ i.0)
     (piece_came (g.R.Read.remaining (reader_of c.pieces.input))
     (g.R.Read.remaining (reader_of c.read_piece.new.input))
     c.in_ok-count.count c.as_slice.ensures.value c.in_ok-count.ensures.read)
-    (c.in_err-take_piece.ensures.kept i.2.taken [] i.2.has) bytes known)
+    (c.in_err-count_piece.ensures.kept.1 i.2.taken i.2.text i.2.has) bytes known)
 
 pub overflow_add-bytes : goal.overflow_add-bytes
 overflow_add-bytes g c =
     let i = c.pieces.invariant in
     let size = length-take-le c.in_ok-count.count c.as_slice.result.now
     (omega (arith, c.as_slice.ensures.len, c.in_ok-count.ensures.within)) in
-    let t = c.take_piece.new in
+    let t = c.count_piece.new in
     let turn = piece_taken i.2 t.session t.items c.in_ok-count.count _ _ t.kept.item.items t.kept.begin
-    (string_bytes t.kept.lines)
+    _
     (piece_came (g.R.Read.remaining (reader_of c.pieces.input))
     (g.R.Read.remaining (reader_of c.read_piece.new.input))
     c.in_ok-count.count c.as_slice.ensures.value c.in_ok-count.ensures.read)
-    size (c.in_ok-take_piece.ensures.kept i.2.taken [] i.2.has) in
-    let limits = limits_as (c.in_ok-take_piece.ensures.limits ∙ i.0) c.requires.limits in
+    size (c.in_ok-count_piece.ensures.kept.1 i.2.taken i.2.text i.2.has) in
+    let limits = limits_as (c.in_ok-count_piece.ensures.limits ∙ i.0) c.requires.limits in
     omega (arith, bytes_within turn, limits.stream)
 
 pub pieces-smaller : goal.pieces-smaller
@@ -108,14 +108,14 @@ pieces-smaller g c =
     let i = c.pieces.invariant in
     let size = length-take-le c.in_ok-count.count c.as_slice.result.now
     (omega (arith, c.as_slice.ensures.len, c.in_ok-count.ensures.within)) in
-    let t = c.take_piece.new in
+    let t = c.count_piece.new in
     let turn = piece_taken i.2 t.session t.items c.in_ok-count.count _ _ t.kept.item.items t.kept.begin
-    (string_bytes t.kept.lines)
+    _
     (piece_came (g.R.Read.remaining (reader_of c.pieces.input))
     (g.R.Read.remaining (reader_of c.read_piece.new.input))
     c.in_ok-count.count c.as_slice.ensures.value c.in_ok-count.ensures.read)
-    size (c.in_ok-take_piece.ensures.kept i.2.taken [] i.2.has) in
-    let stream = ap (λ (L : Bounds). L.stream) c.in_ok-take_piece.ensures.limits in
+    size (c.in_ok-count_piece.ensures.kept.1 i.2.taken i.2.text i.2.has) in
+    let stream = ap (λ (L : Bounds). L.stream) c.in_ok-count_piece.ensures.limits in
     omega (arith, bytes_within turn, stream, c.if-count-eq0.false)
 
 pub pieces-preserved : goal.pieces-preserved
@@ -123,15 +123,15 @@ pieces-preserved g c =
     let i = c.pieces.invariant in
     let size = length-take-le c.in_ok-count.count c.as_slice.result.now
     (omega (arith, c.as_slice.ensures.len, c.in_ok-count.ensures.within)) in
-    let t = c.take_piece.new in
+    let t = c.count_piece.new in
     let turn = piece_taken i.2 t.session t.items c.in_ok-count.count _ _ t.kept.item.items t.kept.begin
-    (string_bytes t.kept.lines)
+    _
     (piece_came (g.R.Read.remaining (reader_of c.pieces.input))
     (g.R.Read.remaining (reader_of c.read_piece.new.input))
     c.in_ok-count.count c.as_slice.ensures.value c.in_ok-count.ensures.read)
-    size (c.in_ok-take_piece.ensures.kept i.2.taken [] i.2.has) in (
-      c.in_ok-take_piece.ensures.limits ∙ i.0,
+    size (c.in_ok-count_piece.ensures.kept.1 i.2.taken i.2.text i.2.has) in (
+      c.in_ok-count_piece.ensures.limits ∙ i.0,
       c.in_ok-count.ensures.counted ∙ i.1,
-      rw c.in_ok-take_piece.ensures.explained turn,
+      rw c.in_ok-count_piece.ensures.explained turn,
       c.in_ok-count.ensures.room ∙ i.3,
     )

@@ -1,59 +1,72 @@
 -- A value that stands whole is passed, and what comes with a step is kept.
 use Rattle.std.proofs.Common.{◌+◌, ap, arith, refl, []}
 use Rattle.gob_stream.specs.declared.fault.Fault.TheVariants as reading
-use Rattle.gob_why.proofs.KeepingLaws.{item_next, keeps_at, kept_step, no_memory_next, passes_kept, step_fits}
-use Rattle.gob_why.proofs.KeepingLaws.{step_stops_kept, value_fits}
+use Rattle.gob_explain.specs.Machine.Putting.{puts_nothing}
+use Rattle.gob_why.proofs.KeepingLaws.{item_next, keeps_at, kept_step, no_memory_next, nothing_given, passes_kept}
+use Rattle.gob_why.proofs.KeepingLaws.{step_fits, step_stops_kept, value_fits}
 use Rattle.gob_why.proofs.reading.take_next.Goals as goal
 
 pub pass-requires-clause-between : goal.pass-requires-clause-between
-pass-requires-clause-between c =
+pass-requires-clause-between g c =
     let v = rw c.in-Some.is at c.value_next.ensures in v.between
 
 pub pass-requires-clause-item : goal.pass-requires-clause-item
-pass-requires-clause-item c =
+pass-requires-clause-item g c =
     let v = rw c.in-Some.is at c.value_next.ensures in item_next v
 
 pub returns-in_err-pass_value-clause-kept : goal.returns-in_err-pass_value-clause-kept
-returns-in_err-pass_value-clause-kept c = λ bytes text h.
-    keeps_at _ _ c.args.items.now c.args.items.now bytes c.args.piece.now _ _ _ c.from_residual.result
-    reading.Memory c.from_residual.ensures.1
-    (no_memory_next _ c.args.session.now c.pass.new.self c.args.items.now c.args.items.now bytes c.args.piece.now _
-    [] _ 0 text _ _
-    c.pass.ensures.limits c.in_err-pass_value.ensures.lines h)
+returns-in_err-pass_value-clause-kept g c =
+    let p = c.in_err-pass_value.ensures.put in record {
+      text = p.text;
+      put = p.put;
+      holds = λ bytes text h. keeps_at _ _ c.args.items.now c.args.items.now bytes c.args.piece.now _ _ _
+          c.from_residual.result reading.Memory c.from_residual.ensures.1
+          (no_memory_next _ c.args.session.now c.pass.new.self c.args.items.now c.args.items.now bytes
+          c.args.piece.now _ [] _ 0 text p.text c.pass.ensures.limits p.holds h);
+    }
 
 pub overflow_add-items : goal.overflow_add-items
-overflow_add-items c =
+overflow_add-items g c =
     let v = rw c.in-Some.is at c.value_next.ensures in
     omega (arith, value_fits v c.pass.ensures.limits c.requires.limits c.requires.read.has c.pass.ensures.passed)
 
 pub returns-in-Some-clause-kept : goal.returns-in-Some-clause-kept
-returns-in-Some-clause-kept c = λ bytes text h.
+returns-in-Some-clause-kept g c =
     let v = rw c.in-Some.is at c.value_next.ensures in
-    let ended = rw c.table.ensures at c.in_ok-pass_value.ensures.ended in
-    passes_kept _ c.args.session.now c.pass.new.self c.args.items.now _ bytes c.args.piece.now _ _ text _ _ _ _ v
-    c.pass.ensures.limits c.requires.limits refl h c.pass.ensures.passed c.pass.ensures.between ended
+    let p = rw c.table.ensures at c.in_ok-pass_value.ensures.put in record {
+      text = p.text;
+      put = p.put;
+      holds = λ bytes text h. passes_kept _ c.args.session.now c.pass.new.self c.args.items.now _ bytes
+          c.args.piece.now _ _ text _ _ p.text v c.pass.ensures.limits c.requires.limits refl h c.pass.ensures.passed
+          c.pass.ensures.between p.holds;
+    }
 
 pub returns-in_err-step-clause-kept : goal.returns-in_err-step-clause-kept
-returns-in_err-step-clause-kept c = λ bytes text h.
-    let e = c.in_err-step.field-0.0 in
-    keeps_at _ _ c.args.items.now c.args.items.now bytes c.args.piece.now _ _ _ c.from_residual-in_err-step.result e
-    c.from_residual-in_err-step.ensures.1
-    (step_stops_kept _ c.args.session.now c.step.new.self c.args.items.now c.args.items.now bytes c.args.piece.now _
-    _ _ e
-    c.in_err-step.ensures.limits h (c.in_err-step.ensures.advances h.given bytes h.gave))
+returns-in_err-step-clause-kept g c =
+    let e = c.in_err-step.field-0.0 in record {
+      text = [];
+      put = puts_nothing g.O.TextOut.puts g.met.O.TextOut.nothing c.args.lines.now.out c.args.lines.now.fault;
+      holds = λ bytes text h. keeps_at _ _ c.args.items.now c.args.items.now bytes c.args.piece.now _ _ _
+          c.from_residual-in_err-step.result e c.from_residual-in_err-step.ensures.1
+          (step_stops_kept _ c.args.session.now c.step.new.self c.args.items.now c.args.items.now bytes
+          c.args.piece.now _ _ text e c.in_err-step.ensures.limits h
+          (c.in_err-step.ensures.advances h.given bytes h.gave));
+    }
 
 pub returns-in_err-gone_on-clause-kept : goal.returns-in_err-gone_on-clause-kept
-returns-in_err-gone_on-clause-kept c = λ bytes text h.
-    let lines = rw c.in_err-gone_on.was at c.go_on-gone_on.ensures.lines in
-    keeps_at _ _ c.args.items.now c.args.items.now bytes c.args.piece.now _ _ _
-    c.from_residual-in_err-gone_on.result reading.Memory
-    c.from_residual-in_err-gone_on.ensures.1
-    (no_memory_next _ c.args.session.now c.step.new.self c.args.items.now c.args.items.now bytes c.args.piece.now _
-    [] _ 0 text _ _
-    c.in_ok-step.ensures.limits lines h)
+returns-in_err-gone_on-clause-kept g c =
+    let p = rw c.in_err-gone_on.was at c.go_on-gone_on.ensures.put in record {
+      text = p.text;
+      put = p.put;
+      holds = λ bytes text h. keeps_at _ _ c.args.items.now c.args.items.now bytes c.args.piece.now _ _ _
+          c.from_residual-in_err-gone_on.result reading.Memory c.from_residual-in_err-gone_on.ensures.1
+          (no_memory_next _ c.args.session.now c.step.new.self c.args.items.now c.args.items.now bytes
+          c.args.piece.now _ [] _ 0 text p.text c.in_ok-step.ensures.limits
+          (nothing_given _ _ c.in_ok-step.step.item _ _ _ _ _ _ p.text p.holds) h);
+    }
 
 pub overflow_add-items-2 : goal.overflow_add-items-2
-overflow_add-items-2 c =
+overflow_add-items-2 g c =
     let h = c.requires.read.has in
     omega (
       arith,
@@ -63,10 +76,13 @@ overflow_add-items-2 c =
     )
 
 pub returns-clause-kept : goal.returns-clause-kept
-returns-clause-kept c = λ bytes text h.
-    let under_way = rw c.in_ok-gone_on.was at c.go_on-gone_on.ensures.under_way in
-    let ended = rw (c.in_ok-gone_on.was, c.table-2.ensures) at c.go_on-gone_on.ensures.ended in
-    kept_step _ c.args.session.now c.step.new.self c.args.items.now _ bytes c.args.piece.now _ _ text _ _ _ _
-    c.in_ok-step.step.used c.in_ok-step.step.item c.in_ok-step.ensures.limits c.requires.limits c.requires.some
-    (ap (λ n. c.args.items.now + n) c.count_given-given.ensures) h c.in_ok-step.ensures.between under_way ended
-    (c.in_ok-step.ensures.advances h.given bytes h.gave)
+returns-clause-kept g c =
+    let p = rw (c.in_ok-gone_on.was, c.table-2.ensures) at c.go_on-gone_on.ensures.put in record {
+      text = p.text;
+      put = p.put;
+      holds = λ bytes text h. kept_step _ c.args.session.now c.step.new.self c.args.items.now _ bytes
+          c.args.piece.now _ _ text _ _ p.text c.in_ok-step.step.used c.in_ok-step.step.item
+          c.in_ok-step.ensures.limits c.requires.limits c.requires.some
+          (ap (λ n. c.args.items.now + n) c.count_given-given.ensures) h c.in_ok-step.ensures.between p.holds
+          (c.in_ok-step.ensures.advances h.given bytes h.gave);
+    }

@@ -14,8 +14,7 @@ use Rattle.gob_why.proofs.run.tell_stream.Goals as goal
 
 pub read_all-requires-clause-first : goal.read_all-requires-clause-first
 read_all-requires-clause-first g c =
-    kept_first _ _ _ _ _ _ c.in_ok-session.ensures.has_read refl c.new-kept.ensures.item c.new-kept.ensures.begin
-    c.new-kept.ensures.lines
+    kept_first _ _ _ _ _ _ c.in_ok-session.ensures.has_read refl c.new-kept.ensures.item c.new-kept.ensures.begin refl
 
 pub returns-in_err-session-clause-told : goal.returns-in_err-session-clause-told
 returns-in_err-session-clause-told g c = λ bytes known.

@@ -1,32 +1,30 @@
 -- A delta ends the line under way.
-use Rattle.std.proofs.Common.{◌∙◌, ap, arith, string_bytes}
-use Rattle.gob_explain.specs.Lines.{last_of}
-use Rattle.gob_explain.proofs.LineLaws.{alone_delta, alone_told, begins_alone, begun_told, ends_delta, opens_delta}
+use Rattle.std.proofs.Common.{ap, arith, subst, sym}
+use Rattle.gob_types.specs.Defined.{types}
+use Rattle.gob_explain.specs.Putting.{PutsOn}
+use Rattle.gob_explain.proofs.LineLaws.{alone_delta, begun_told, ends_delta, opens_delta}
 use Rattle.gob_explain.proofs.text.printer.Printer.put_delta.Goals as goal
 
-pub returns-then-row-gt0-clause-told : goal.returns-then-row-gt0-clause-told
-returns-then-row-gt0-clause-told g c = λ is rows order inside h.
+pub returns-then-row-eq0-clause-told : goal.returns-then-row-eq0-clause-told
+returns-then-row-eq0-clause-told g c = λ is.
+    let row = c.args.row.now in
+    c.put_alone.ensures.told (alone_delta row.what is)
+    (ends_delta (types c.args.self.now.table.now) row is (omega (arith, c.if-row-eq0.true)))
+
+pub returns-clause-told : goal.returns-clause-told
+returns-clause-told g c = λ is.
     let s = c.args.self.now in
     let e = c.end_line.new.self in
     let n = c.go_on.new.self in
     let row = c.args.row.now in
-    let T = g.S.Shapes.table s.shapes.now in
-    begun_told T (g.S.Shapes.table e.shapes.now) s.offset e.offset s.body.now e.body.now e.line n.line
-    (string_bytes e.text) (string_bytes n.text) rows row c.go_on.ensures.under_way.0
-    (ap (λ x. g.S.Shapes.table x.now) c.in_ok-end_line.ensures.shapes) c.in_ok-end_line.ensures.offset
-    (ap (λ x. x.now) c.in_ok-end_line.ensures.body) c.in_ok-end_line.ensures.none c.go_on.ensures.under_way.1
-    (begins_alone T (last_of rows) row (alone_delta row.what is)) (opens_delta T row is (omega arith)) order inside
-    (c.in_ok-end_line.ensures.printed rows row.begin h.0) c.go_on.ensures.printed
-
-pub returns-clause-told : goal.returns-clause-told
-returns-clause-told g c = λ is rows order inside h.
-    let s = c.args.self.now in
-    let e = c.end_line.new.self in
-    let row = c.args.row.now in
-    let T = g.S.Shapes.table s.shapes.now in
-    alone_told c.push_row.result T (g.S.Shapes.table e.shapes.now) s.offset e.offset s.body.now e.body.now
-    c.push_row.new.self.line (string_bytes e.text) (string_bytes c.push_row.new.self.text) rows row
-    (ap (λ x. g.S.Shapes.table x.now) c.in_ok-end_line.ensures.shapes) c.in_ok-end_line.ensures.offset
-    (ap (λ x. x.now) c.in_ok-end_line.ensures.body) (c.push_row.ensures.under_way ∙ c.in_ok-end_line.ensures.none)
-    (begins_alone T (last_of rows) row (alone_delta row.what is)) (ends_delta T row is (omega arith)) order inside
-    (c.in_ok-end_line.ensures.printed rows row.begin h.0) c.push_row.ensures.printed
+    let p = c.end_line.ensures.ended in record {
+      text = p.text;
+      put = subst (λ l. PutsOn g.O.TextOut.puts s.lines.now.out s.lines.now.fault l.now.out l.now.fault p.text)
+          (sym c.go_on.ensures.lines) p.put;
+      holds = begun_told s.line e.line n.line row c.go_on.ensures.under_way.0 p.text
+          (ap (λ x. types x.now) c.end_line.ensures.table) c.end_line.ensures.offset
+          (ap (λ x. x.now) c.end_line.ensures.body) c.end_line.ensures.none c.go_on.ensures.under_way.1
+          (alone_delta row.what is)
+          (opens_delta (types s.table.now) row is (omega (arith, c.if-row-eq0.false))) p.holds
+          c.go_on.ensures.printed;
+    }
