@@ -1,15 +1,17 @@
 -- What a session reads step by step, written again.
 use Rattle.std.proofs.Common.{◌≡◌, ℕ, ◌+◌, ◌-◌, List, [], ◌∷◌, ◌++◌, length, take, drop, Some, None, refl, sym, ap}
-use Rattle.std.proofs.Common.{subst, ◌∙◌, append_assoc, arith}
+use Rattle.std.proofs.Common.{Err, subst, ◌∙◌, append_assoc, arith}
 use Rattle.std.proofs.Math.Seq.{take-add}
-use Rattle.std.proofs.lemmas.List.{take_rest}
+use Rattle.std.proofs.lemmas.List.{take-append-drop, take_rest}
 use Rattle.gob_types.specs.Base.{base_table}
 use Rattle.gob_types.specs.Defined.{types}
 use Rattle.gob_types.specs.Table.{Table, shape_of}
 use Rattle.gob_stream.specs.Bounds.{Bounds, within_trees}
 use Rattle.gob_filled.specs.Outcome.{FilledOutcome, the_end, EndsFilled, at_the_end}
 use Rattle.gob_filled.specs.Stream.{FilledItem, FilledStream}
-use Rattle.gob_go.specs.Calls.Session.{HasRead, IsBetweenItems}
+use Rattle.gob_stream.specs.declared.fault.Fault.{Fault}
+use Rattle.gob_stream.specs.declared.fault.Fault.TheVariants as fault
+use Rattle.gob_go.specs.Calls.Session.{FinishAnswers, HasRead, IsBetweenItems, StepAnswers}
 use Rattle.gob_go.specs.declared.item.GoItem.{GoItem}
 use Rattle.gob_go.specs.declared.stage.Stage.{Stage}
 use Rattle.gob_go.specs.Machine.HasRead.{StageHasRead, in_count, in_type_number, in_definition, in_put}
@@ -17,7 +19,7 @@ use Rattle.gob_go.specs.Machine.SessionState.{SessionState}
 use Rattle.gob_go.specs.Machine.Stages.{count_at, AdvancesOver, over_some, over_item}
 use Rattle.gob_go.proofs.ItemsLaws.{last_of, one_reading}
 use Rattle.gob_go_writer.specs.Item.{IsItemOf}
-use Rattle.gob_go_writer.specs.Calls.Again.{HasWritten}
+use Rattle.gob_go_writer.specs.Calls.Again.{HasWritten, IsStream, StopsAgain}
 
 -- a session that has taken nothing, and nothing written
 pub nothing_written : {s : SessionState} → HasRead s [] [] → HasWritten s [] []
@@ -104,3 +106,33 @@ pub step_further : (bytes : List ℕ) (used step : ℕ)
     → take used bytes ++ take step (take (length bytes - used) (drop used bytes)) ≡ take (used + step) bytes
 step_further bytes used step =
     ap (λ l. take used bytes ++ take step l) (take_rest bytes used) ∙ sym (take-add used step bytes)
+
+-- so all of them
+pub further : (bytes : List ℕ) (used : ℕ) → take used bytes ++ take (length bytes - used) (drop used bytes) ≡ bytes
+further bytes used = ap (λ l. take used bytes ++ l) (take_rest bytes used) ∙ take-append-drop used bytes
+
+-- a step that is refused, or lacks memory
+pub step_stops : (s s' : SessionState) (items : List FilledItem) (bytes piece : List ℕ) (e : Fault)
+    → StepAnswers s s' items bytes piece (Err e) → StopsAgain (within_trees s.limits) (bytes ++ piece) e
+step_stops s s' items bytes piece (fault.Refused R) a = (items, a.0.outcome)
+step_stops s s' items bytes piece fault.Memory a = tt
+step_stops s s' items bytes piece fault.Read a = absurd a
+step_stops s s' items bytes piece fault.Failed a = absurd a
+
+-- the end of the bytes, where an item is under way
+pub end_stops : (s s' : SessionState) (items : List FilledItem) (bytes : List ℕ) (e : Fault)
+    → FinishAnswers s s' items bytes (Err e) → StopsAgain (within_trees s.limits) bytes e
+end_stops s s' items bytes (fault.Refused R) a = (items, a.0)
+end_stops s s' items bytes fault.Memory a = absurd a
+end_stops s s' items bytes fault.Read a = absurd a
+end_stops s s' items bytes fault.Failed a = absurd a
+
+-- all that was read is a stream
+pub all_read : {s : SessionState} {bytes out : List ℕ} (h : HasWritten s bytes out) → out ≡ bytes
+    → IsStream (within_trees s.limits) bytes
+all_read {s = s} h e = (
+  h.items,
+  h.after.table,
+  subst (λ b. FilledStream base_table (within_trees s.limits) h.items b h.after.table) (sym h.written ∙ e)
+      h.after.stream,
+)

@@ -1,7 +1,9 @@
 //! A stream read and written again.
 
-ghost use Rattle.std.specs.Prelude.{◌≡◌, ◌<◌, ◌≤◌, ◌++◌, ℕ, List, [], length, take, IfOk, OnOk};
-ghost use Rattle.gob_go_writer.specs.Calls.Again.{HasWritten, HasWrittenOn};
+ghost use Rattle.std.specs.Prelude.{◌≡◌, ◌<◌, ◌≤◌, ◌++◌, ℕ, List, [], length, take, IfErr, IfOk, OnOk};
+ghost use Rattle.gob_stream.specs.Bounds.{within_trees};
+ghost use Rattle.gob_go.specs.Calls.Session.{limits_of};
+ghost use Rattle.gob_go_writer.specs.Calls.Again.{HasWritten, HasWrittenOn, IsStream, StopsAgain};
 
 use crate::item::write_item;
 use gob_go::{GoSession, GoStep};
@@ -11,7 +13,9 @@ use std::alloc::Global;
 /// The items of a whole stream, written again as they were read: its own bytes. It refuses what a session refuses, and
 /// an item that is under way at the end as `Ended`. It holds an item and the bytes that were written.
 pub fn write_again(alloc: Global, bytes: &[u8], limits: Limits) -> Result<Vec<u8>, Fault>
-    ensures { IfOk result (λ again. again.items ≡ bytes.now) }
+    ensures again { IfOk result (λ again. again.items ≡ bytes.now) }
+    ensures stream { OnOk result (IsStream (within_trees limits) bytes.now) }
+    ensures stops { IfErr result (StopsAgain (within_trees limits) bytes.now) }
 {
     let Ok(mut session) = GoSession::new(alloc, limits) else {
         return Err(Fault::Memory);
@@ -30,7 +34,9 @@ fn write_items(
     out: &mut Vec<u8>,
 ) -> Result<(), Fault>
     requires { HasWritten session.old [] out.old.items }
-    ensures { OnOk result (HasWritten session.new bytes.now out.new.items) }
+    ensures written { OnOk result (HasWritten session.new bytes.now out.new.items) }
+    ensures stops { IfErr result (StopsAgain (within_trees (limits_of session.old)) bytes.now) }
+    ensures limits { limits_of session.new ≡ limits_of session.old }
 {
     let mut used = 0;
     'steps: for _ in 0..bytes.len() {
@@ -53,6 +59,9 @@ fn write_next(
     ensures written { IfOk result (λ used. (bytes : List ℕ) → HasWritten session.old bytes out.old.items
         → HasWritten session.new (bytes ++ take used piece.now) out.new.items) }
     ensures used { IfOk result (λ used. (0 < length piece.now → 0 < used) × (used ≤ length piece.now)) }
+    ensures stops { IfErr result (λ fault. (bytes : List ℕ) → HasWritten session.old bytes out.old.items
+        → StopsAgain (within_trees (limits_of session.old)) (bytes ++ piece.now) fault) }
+    ensures limits { limits_of session.new ≡ limits_of session.old }
 {
     let GoStep { used, item } = session.step(alloc, piece)?;
     match item {
