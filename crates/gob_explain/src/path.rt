@@ -41,9 +41,8 @@ impl RowSink for Path {
 }
 
 /// The steps from a value to the part that is under way where these bytes end, or to the one that is too deep there,
-/// also in what an interface holds.
-/// `id` is the value's type, and `front` the bytes of its body behind the type number, up to the place that is asked
-/// for. Parts deeper than 1000 aren't looked at.
+/// also in what an interface holds. `id` is the value's type, and `front` the bytes of its body behind the type number,
+/// up to the place that is asked for. Parts deeper than 1000 aren't looked at.
 pub fn path_to(
     alloc: Global,
     table: &Table,
