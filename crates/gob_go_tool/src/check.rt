@@ -1,19 +1,18 @@
 //! The run that says whether bytes are a stream of Go's encoder, and how much there is in it.
 
-ghost use Rattle.std.specs.Prelude.{◌≡◌, ◌≢◌, ◌+◌, ◌<◌, ℕ, List, Option, Some, IfErr, IfOk, length, string_bytes};
+ghost use Rattle.std.specs.Prelude.{◌≡◌, ◌≢◌, ◌+◌, ◌<◌, ℕ, List, Option, Some, IfErr, IfOk, length};
 ghost use Rattle.gob_stream.specs.Bounds.{within_trees};
 ghost use Rattle.gob_stream.specs.Calls.Ends.{failed_reads, failed_writes, reader_of, writer_of};
 ghost use Rattle.gob_filled.specs.Stream.{FilledItem};
 ghost use Rattle.gob_go.specs.Calls.Session.{limits_of};
 ghost use Rattle.gob_go.specs.Calls.Reader.{HasReadFrom, session_of, waits_in};
 ghost use Rattle.gob_tool.specs.Ending.{CountsOnlyWrites};
-ghost use Rattle.gob_tool.specs.Machine.Counting.{CountsCounting, given_count, tally_line};
+ghost use Rattle.gob_tool.specs.Machine.Counting.{CountsCounting, given_count};
 ghost use Rattle.gob_tool.specs.Showing.{CountsReadFaults, CountsWriteFaults, IsFlushedSince};
 ghost use Rattle.gob_go_tool.specs.CheckingGo.{CheckGoAnswers};
 ghost use Rattle.gob_go_tool.specs.Machine.Counting.{CountsNext, EndsCountingGo};
 
 use gob_go::{GoItem, GoReader};
-use gob_num::Memory;
 use gob_stream::{Fault, Input, Limits, Output, Passed};
 use gob_tool::{Tally, ToolFault, end_run};
 use std::alloc::Global;
@@ -54,18 +53,8 @@ fn check_stream<R: Read, W: Write>(
     ensures writes { CountsOnlyWrites (failed_writes output.old) (failed_writes output.new) result }
 {
     let tally = count_stream(alloc, input, limits)?;
-    let line = counts_line(alloc, tally)?;
+    let line = tally.line(alloc)?;
     Ok(output.send_all(line.as_bytes())?)
-}
-
-/// The line of what was counted.
-fn counts_line(alloc: Global, tally: Tally) -> Result<String, Memory>
-    ensures { IfOk result (λ line. string_bytes line ≡ tally_line tally) }
-{
-    let items = tally.items;
-    let types = tally.types;
-    let bytes = tally.bytes;
-    Ok(format!(in alloc; "ok: {items} items, {types} types, {bytes} bytes\n")?)
 }
 
 /// Counts what there is in the stream.

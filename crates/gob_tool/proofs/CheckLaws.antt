@@ -34,7 +34,7 @@ use Rattle.gob_tool.specs.Checking.{definitions_in, counts_line, CheckAnswers, I
 use Rattle.gob_tool.specs.Checking.{is_cut}
 use Rattle.gob_tool.specs.Checking.{is_stopped}
 use Rattle.gob_tool.specs.Machine.Counting.{CountsCounting, CountsNext, CountsOn, CountsSo, EndsCounting, given_count}
-use Rattle.gob_tool.specs.Machine.Counting.{tally_line}
+use Rattle.gob_tool.specs.Checking.{tally_line}
 use Rattle.gob_tool.specs.Ending.{EndsRun, ends_so, flush_fails}
 use Rattle.gob_tool.specs.Fault.{reading_fault}
 use Rattle.gob_tool.proofs.EndLaws.{prefix_kept}

@@ -29,6 +29,10 @@ counts_line items types bytes =
     codes "ok: " ++ (decimal items ++ (codes " items, " ++ (decimal types ++ (codes " types, " ++ (decimal bytes
     ++ (codes " bytes" ++ 10 ∷ []))))))
 
+-- the line of a tally
+abbrev pub tally_line : Tally → List ℕ
+tally_line tally = counts_line tally.items tally.types tally.bytes
+
 -- the bytes are the stream of some items, all of them were read, and this holds of the line that says so
 pub record IsCountedStream (L : Bounds) (bytes : List ℕ) (now : Option (List ℕ)) (P : List ℕ → Type 0) : Type 0 where
   pub items : List StreamItem

@@ -1,21 +1,20 @@
 //! The run that says whether bytes are a stream, and how much there is in it.
 
-ghost use Rattle.std.specs.Prelude.{◌≡◌, ◌≢◌, ◌+◌, ◌<◌, ℕ, List, Option, Some, IfErr, IfOk, length, string_bytes};
+ghost use Rattle.std.specs.Prelude.{◌≡◌, ◌≢◌, ◌+◌, ◌<◌, ℕ, List, Option, Some, IfErr, IfOk, length};
 ghost use Rattle.gob_read.specs.Calls.Builders.{skip_building};
 ghost use Rattle.gob_stream.specs.Bounds.{deepest, no_deeper};
 ghost use Rattle.gob_stream.specs.Calls.Session.{limits_of};
 ghost use Rattle.gob_stream.specs.Calls.Ends.{failed_reads, failed_writes, reader_of, writer_of};
 ghost use Rattle.gob_stream.specs.Item.{StreamItem};
 ghost use Rattle.gob_stream.specs.Calls.Reader.{HasReadFrom, session_of, waits_in};
-ghost use Rattle.gob_tool.specs.Checking.{CheckAnswers};
-ghost use Rattle.gob_tool.specs.Machine.Counting.{CountsNext, given_count, EndsCounting, CountsCounting, tally_line};
+ghost use Rattle.gob_tool.specs.Checking.{CheckAnswers, tally_line};
+ghost use Rattle.gob_tool.specs.Machine.Counting.{CountsNext, given_count, EndsCounting, CountsCounting};
 ghost use Rattle.gob_tool.specs.Showing.{CountsReadFaults, CountsWriteFaults, IsFlushedSince};
 ghost use Rattle.gob_tool.specs.Ending.{CountsOnlyWrites};
 
 use crate::end::end_run;
 use crate::fault::ToolFault;
 use crate::in_memory::Tally;
-use gob_num::Memory;
 use gob_read::SkipBuilder;
 use gob_stream::{Fault, Input, Item, Limits, Output, Passed, StreamReader};
 use std::alloc::Global;
@@ -55,18 +54,8 @@ fn check_stream<R: Read, W: Write>(
     ensures writes { CountsOnlyWrites (failed_writes output.old) (failed_writes output.new) result }
 {
     let tally = count_stream(alloc, input, limits)?;
-    let line = counts_line(alloc, tally)?;
+    let line = tally.line(alloc)?;
     Ok(output.send_all(line.as_bytes())?)
-}
-
-/// The line of what was counted.
-fn counts_line(alloc: Global, tally: Tally) -> Result<String, Memory>
-    ensures { IfOk result (λ line. string_bytes line ≡ tally_line tally) }
-{
-    let items = tally.items;
-    let types = tally.types;
-    let bytes = tally.bytes;
-    Ok(format!(in alloc; "ok: {items} items, {types} types, {bytes} bytes\n")?)
 }
 
 /// Counts what there is in the stream.

@@ -1,11 +1,12 @@
 //! Counting a stream that is held in memory.
 
-ghost use Rattle.std.specs.Prelude.{◌≡◌, ◌<◌, ◌≤◌, ℕ, List, ◌++◌, IfOk, length};
+ghost use Rattle.std.specs.Prelude.{◌≡◌, ◌<◌, ◌≤◌, ℕ, List, ◌++◌, IfOk, length, string_bytes};
 ghost use Rattle.gob_stream.specs.Bounds.{AreLimits, deepest, no_deeper};
 ghost use Rattle.gob_stream.specs.Calls.Session.{limits_of};
-ghost use Rattle.gob_tool.specs.Checking.{TalliesStream};
+ghost use Rattle.gob_tool.specs.Checking.{TalliesStream, tally_line};
 ghost use Rattle.gob_tool.specs.Machine.Tallying.{HasTallied, TalliesAll, TalliesPrefix};
 
+use gob_num::Memory;
 use gob_read::SkipBuilder;
 use gob_stream::{Fault, Limits, Session};
 use std::alloc::Global;
@@ -19,6 +20,18 @@ pub struct Tally {
     pub types: u64,
     /// How many bytes.
     pub bytes: u64,
+}
+
+impl Tally {
+    /// The line that says so of a whole stream: `ok: 6 items, 4 types, 185 bytes`, and its line feed.
+    pub fn line(self, alloc: Global) -> Result<String, Memory>
+        ensures { IfOk result (λ line. string_bytes line ≡ tally_line self) }
+    {
+        let items = self.items;
+        let types = self.types;
+        let bytes = self.bytes;
+        Ok(format!(in alloc; "ok: {items} items, {types} types, {bytes} bytes\n")?)
+    }
 }
 
 /// Goes through a stream that is held in memory, and counts what there is in it. Ok exactly where all of the bytes are

@@ -4,7 +4,7 @@ ghost use Rattle.std.specs.Prelude.{◌≡◌, ℕ, List, Some, IfOk, string_byt
 ghost use Rattle.gob_stream.specs.Bounds.{within_trees};
 ghost use Rattle.gob_stream.specs.Calls.Ends.{failed_reads, failed_writes, reader_of, writer_of};
 ghost use Rattle.gob_tool.specs.Ending.{CountsOnlyWrites};
-ghost use Rattle.gob_tool.specs.Machine.Counting.{tally_line};
+ghost use Rattle.gob_tool.specs.Checking.{tally_line};
 ghost use Rattle.gob_tool.specs.Showing.{CountsReadFaults, CountsWriteFaults, IsFlushedSince};
 ghost use Rattle.gob_why.specs.Why.{IsHeaded, Tells, WhyAnswers, refusal_line};
 
@@ -109,10 +109,7 @@ fn tell_refusal<W: Write>(
 fn whole_text(alloc: Global, tally: Tally, table: &Table, kept: &Kept) -> Result<String, Memory>
     ensures { IfOk result (λ text. IsHeaded (tally_line tally) (string_bytes text)) }
 {
-    let items = tally.items;
-    let types = tally.types;
-    let bytes = tally.bytes;
-    let mut text = format!(in alloc; "ok: {items} items, {types} types, {bytes} bytes\n")?;
+    let mut text = tally.line(alloc)?;
     let words = whole_words(alloc, table, kept)?;
     text.push_str(words.as_str())?;
     Ok(text)

@@ -10,14 +10,9 @@ use Rattle.gob_stream.specs.declared.fault.Fault.{Fault}
 use Rattle.gob_stream.specs.declared.values.Passed.{Passed}
 use Rattle.gob_stream.specs.Calls.Reader.{HasReadFrom, StopsFrom, TakesItems, session_of}
 use Rattle.gob_stream.specs.declared.stream_reader.StreamReader.{StreamReader}
-use Rattle.gob_tool.specs.declared.in_memory.Tally.{Tally}
 use Rattle.gob_tool.specs.declared.fault.ToolFault.{ToolFault}
 use Rattle.gob_tool.specs.declared.fault.ToolFault.TheVariants as fault
-use Rattle.gob_tool.specs.Checking.{IsCountedStream, IsNoStream, counts_line}
-
--- the line of what was counted
-abbrev pub tally_line : Tally → List ℕ
-tally_line tally = counts_line tally.items tally.types tally.bytes
+use Rattle.gob_tool.specs.Checking.{IsCountedStream, IsNoStream}
 
 -- what was taken was counted
 pub record CountsSo (r : StreamReader SkipBuilder (Unit {0})) (read now : Option (List ℕ)) (items bytes : ℕ) : Type

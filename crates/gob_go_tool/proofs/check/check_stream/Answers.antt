@@ -5,7 +5,7 @@ use Rattle.std.proofs.KnownBytes.{Appends-nil}
 use Rattle.gob_stream.specs.Bounds.{within_trees}
 use Rattle.gob_stream.specs.Calls.Ends.{reader_of, writer_of}
 use Rattle.gob_go_tool.specs.CheckingGo.{CheckGoAnswers, is_accepted, is_cut, is_stopped}
-use Rattle.gob_tool.specs.Machine.Counting.{tally_line}
+use Rattle.gob_tool.specs.Checking.{tally_line}
 use Rattle.gob_tool.specs.Fault.{writing_fault}
 use Rattle.gob_tool.specs.Showing.{AppendsPrefix}
 use Rattle.gob_tool.specs.declared.fault.ToolFault.TheVariants as fault

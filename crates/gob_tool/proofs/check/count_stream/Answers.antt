@@ -7,7 +7,8 @@ use Rattle.gob_stream.specs.Calls.Session.{limits_of, types_of}
 use Rattle.gob_stream.specs.Calls.Ends.{failed_reads, reader_of}
 use Rattle.gob_stream.specs.Calls.Reader.{session_of}
 use Rattle.gob_stream.proofs.PublicLaws.{goes_on, has_ended}
-use Rattle.gob_tool.specs.Machine.Counting.{CountsCounting, EndsCounting, tally_line}
+use Rattle.gob_tool.specs.Machine.Counting.{CountsCounting, EndsCounting}
+use Rattle.gob_tool.specs.Checking.{tally_line}
 use Rattle.gob_tool.specs.Fault.{reading_fault}
 use Rattle.gob_tool.specs.declared.in_memory.Tally.{Tally}
 use Rattle.gob_tool.proofs.CheckLaws.{bytes_end, counted_stops, counted_whole, counting_stops, counting_unread}

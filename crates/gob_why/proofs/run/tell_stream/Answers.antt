@@ -4,7 +4,7 @@ use Rattle.std.proofs.KnownBytes.{Appends-nil}
 use Rattle.gob_stream.specs.Bounds.{within_trees}
 use Rattle.gob_stream.specs.Calls.Ends.{reader_of, writer_of}
 use Rattle.gob_go.specs.Calls.Session.{limits_of}
-use Rattle.gob_tool.specs.Machine.Counting.{tally_line}
+use Rattle.gob_tool.specs.Checking.{tally_line}
 use Rattle.gob_tool.specs.declared.fault.ToolFault.TheVariants as fault
 use Rattle.gob_tool.proofs.EndLaws.{at_error}
 use Rattle.gob_why.specs.Why.{WhyAnswers}

@@ -5,7 +5,7 @@ use Rattle.std.proofs.KnownBytes.{Appends-nil}
 use Rattle.gob_stream.specs.Calls.Ends.{writer_of}
 use Rattle.gob_stream.specs.Calls.Writing.{SentPrefix}
 use Rattle.gob_tool.specs.Fault.{writing_fault}
-use Rattle.gob_tool.specs.Machine.Counting.{tally_line}
+use Rattle.gob_tool.specs.Checking.{tally_line}
 use Rattle.gob_tool.specs.declared.fault.ToolFault.TheVariants as fault
 use Rattle.gob_tool.proofs.EndLaws.{at_error}
 use Rattle.gob_why.specs.Why.{Tells}
