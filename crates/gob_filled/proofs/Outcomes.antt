@@ -15,7 +15,7 @@ use Rattle.gob_stream.specs.Refusing as counts
 use Rattle.gob_stream.proofs.Stream.OutcomeLaws.{base_wire}
 use Rattle.gob_filled.specs.Stream.{FilledItem, IsFilledItem, of_definition, of_value, AreFilledItems, no_more}
 use Rattle.gob_filled.specs.Stream.{and_then, FilledStream}
-use Rattle.gob_filled.specs.Outcome.{RefusesFilled, refused_count, refused_body, refused_value, FilledEnding, refused}
+use Rattle.gob_filled.specs.Outcome.{RefusesFilled, refused_count, refused_body, refused_value, Ending, refused}
 use Rattle.gob_filled.specs.Outcome.{EndsFilled, at_the_end, next_refused, within_an_item, FilledOutcome}
 use Rattle.gob_filled.proofs.Strict.{filled_keeps}
 use Rattle.gob_filled.proofs.Items.{one_filled_item}
@@ -97,7 +97,7 @@ no_bytes {z = z} e (refused_value {w = w} f p h) = let b = begins w z p f in
 nothing_behind : (f z : List ℕ) → f ≡ f ++ z → z ≡ []
 nothing_behind f z e = same_end f z [] (sym e ∙ sym (append_nil f))
 
-one_ending : {L : Bounds} {bytes : List ℕ} {items : List FilledItem} {e f : FilledEnding}
+one_ending : {L : Bounds} {bytes : List ℕ} {items : List FilledItem} {e f : Ending}
     → EndsFilled base_table L bytes items e → EndsFilled base_table L bytes items f → e ≡ f
 one_ending (at_the_end s) (at_the_end r) = refl
 one_ending {bytes = bytes} (at_the_end s) (next_refused {f = f} z r w h) = let o =
@@ -127,11 +127,11 @@ one_ending {L = L} (within_an_item {f = g} {T = U} y s v n k) (next_refused {f =
     (subst (λ (f : List ℕ). RefusesFilled base_table L T (length f) z R) (sym o.bytes) h))))
 one_ending (within_an_item z r w n h) (within_an_item y s v m k) = refl
 
-pub one_outcome : {L : Bounds} {bytes : List ℕ} {items others : List FilledItem} {e f : FilledEnding}
+pub one_outcome : {L : Bounds} {bytes : List ℕ} {items others : List FilledItem} {e f : Ending}
     → FilledOutcome base_table L bytes items e → FilledOutcome base_table L bytes others f
     → (items ≡ others) × (e ≡ f)
 one_outcome {L = L} {bytes = bytes} {items = items} {f = f} a b =
-    let p = a.begins in let q = b.begins in
-    let l = a.longest _ q in let k = b.longest _ p in
+    let p = a.gives.begins in let q = b.gives.begins in
+    let l = a.gives.longest _ q in let k = b.gives.longest _ p in
     let o = one_list p.rest q.rest p.stream q.stream (omega arith) (sym p.whole ∙ q.whole) in
     (o.items_are, one_ending a.ends (subst (λ items. EndsFilled base_table L bytes items f) (sym o.items_are) b.ends))

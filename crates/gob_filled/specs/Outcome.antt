@@ -7,6 +7,7 @@ use Rattle.gob_num.specs.Unsigned.{IsUnsigned, IsUnsignedPrefix, IsBadHead, IsNo
 use Rattle.gob_num.specs.Signed.{IsSigned}
 use Rattle.gob_types.specs.declared.id.TypeId.{TypeId}
 use Rattle.gob_types.specs.declared.reason.Reason.TheVariants as reason
+use Rattle.gob_types.specs.Base.{base_table}
 use Rattle.gob_types.specs.Table.{Table}
 use Rattle.gob_value.specs.Tree.{Tree}
 use Rattle.gob_read.specs.Expected.{a_number, nil}
@@ -19,8 +20,10 @@ use Rattle.gob_stream.specs.Bounds.{Bounds}
 use Rattle.gob_stream.specs.Body.{MayPut}
 use Rattle.gob_filled.specs.Definition.{Defines}
 use Rattle.gob_stream.specs.Refusing.{RefusesCount, RefusesBody, refuses}
-use Rattle.gob_filled.specs.Stream.{FilledItem, FilledStream}
+use Rattle.gob_stream.specs.Grammar.{BeginsWithStreamOf, LongestStreamOf, EndsOf, OutcomeOf, Grammar}
+use Rattle.gob_filled.specs.Stream.{FilledItem, IsFilledItem}
 use Rattle.gob_filled.specs.Standing.{Level, Next, in_value, in_filling, Stands}
+pub use Rattle.gob_stream.specs.Grammar.{Ending, the_end, refused, at_the_end, next_refused, within_an_item}
 
 -- a count that stands in a segment which ends at the end, q being what is there of it: it begins no number, or ends the
 -- segment, or counts more than is left, for which the reason ItemTooLong will do
@@ -88,30 +91,21 @@ pub data RefusesFilled (base : Table) (L : Bounds) (T : Table) (offset : ℕ) (z
       → RefusesFilled base L T offset z R
 
 -- how the bytes go on behind the stream of the items
-pub data FilledEnding : Type 0 where
-  the_end : FilledEnding
-  refused : Refusal → FilledEnding
-
-pub data EndsFilled (base : Table) (L : Bounds) (bytes : List ℕ) (items : List FilledItem) : FilledEnding → Type 0 where
-  at_the_end : {T : Table} → FilledStream base L items bytes T → EndsFilled base L bytes items the_end
-  next_refused : {f : List ℕ} {T : Table} {R : Refusal} (z : List ℕ) → FilledStream base L items f T → bytes ≡ f ++ z
-      → RefusesFilled base L T (length f) z R
-      → EndsFilled base L bytes items (refused R)
-  within_an_item : {f : List ℕ} {T : Table} (z : List ℕ) → FilledStream base L items f T → bytes ≡ f ++ z → z ≢ []
-      → ((R : Refusal) → ¬ RefusesFilled base L T (length f) z R)
-      → EndsFilled base L bytes items (refused (refuses (length bytes) (length bytes) reason.Ended))
+abbrev pub EndsFilled : (base : Table) (L : Bounds) (bytes : List ℕ) → List FilledItem → Ending → Type 0
+EndsFilled base L bytes items e = EndsOf (IsFilledItem base L) (RefusesFilled base L) base bytes items e
 
 -- the bytes begin with the stream of the items
-pub record BeginsFilled (base : Table) (L : Bounds) (bytes : List ℕ) (items : List FilledItem) : Type 0 where
-  pub prefix : List ℕ
-  pub rest : List ℕ
-  pub table : Table
-  pub stream : FilledStream base L items prefix table
-  pub whole : bytes ≡ prefix ++ rest
+abbrev pub BeginsFilled : (base : Table) (L : Bounds) (bytes : List ℕ) → List FilledItem → Type 0
+BeginsFilled base L bytes items = BeginsWithStreamOf (IsFilledItem base L) base bytes items
+
+-- and with no longer one
+abbrev pub LongestFilled : (base : Table) (L : Bounds) (bytes : List ℕ) → List FilledItem → Type 0
+LongestFilled base L bytes items = LongestStreamOf (IsFilledItem base L) base bytes items
 
 -- what the bytes give, and how they end
-pub record FilledOutcome (base : Table) (L : Bounds) (bytes : List ℕ) (items : List FilledItem)
-    (e : FilledEnding) : Type 0 where
-  pub begins : BeginsFilled base L bytes items
-  pub longest : (others : List FilledItem) → BeginsFilled base L bytes others → length others ≤ length items
-  pub ends : EndsFilled base L bytes items e
+abbrev pub FilledOutcome : (base : Table) (L : Bounds) (bytes : List ℕ) → List FilledItem → Ending → Type 0
+FilledOutcome base L bytes items e = OutcomeOf (IsFilledItem base L) (RefusesFilled base L) base bytes items e
+
+-- the grammar of the profile
+abbrev pub profile : Grammar FilledItem
+profile = record { is = IsFilledItem base_table; refuses = RefusesFilled base_table }

@@ -16,7 +16,7 @@ use Rattle.gob_stream.specs.Outcome.{RefusesNext}
 use Rattle.gob_filled.specs.Filled.{Filled, filled, no_filling}
 use Rattle.gob_filled.specs.Stream.{FilledItem, defining, putting, IsFilledItem}
 use Rattle.gob_filled.specs.Standing.{IsWholeItem}
-use Rattle.gob_filled.specs.Outcome.{RefusesFilled, FilledEnding, FilledOutcome}
+use Rattle.gob_filled.specs.Outcome.{RefusesFilled, Ending, FilledOutcome}
 
 -- an item of the format as one whose value isn't filled
 abbrev pub unfilled_item : StreamItem → FilledItem
@@ -53,7 +53,7 @@ ItemsStand = (base : Table) (L : Bounds) (T U : Table) (offset : ℕ) (t : TypeI
 
 -- the main law: any bytes have one outcome
 abbrev pub HaveOneOutcome : Type 0
-HaveOneOutcome = (L : Bounds) (bytes : List ℕ) (items others : List FilledItem) (e f : FilledEnding)
+HaveOneOutcome = (L : Bounds) (bytes : List ℕ) (items others : List FilledItem) (e f : Ending)
     → FilledOutcome base_table L bytes items e → FilledOutcome base_table L bytes others f → (items ≡ others) × (e ≡ f)
 
 -- one refusal is given of bytes

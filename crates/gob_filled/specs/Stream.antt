@@ -1,6 +1,6 @@
 -- Streams of items whose values may be filled: an item of a value is one or more segments, each behind its count.
 -- (docs/FORMAT.md, Fillings and segments.)
-use Rattle.std.specs.Prelude.{◌≡◌, ℕ, pos, ◌+◌, ◌-◌, ◌≤◌, List, [], ◌∷◌, ◌++◌, length}
+use Rattle.std.specs.Prelude.{◌≡◌, ℕ, pos, ◌+◌, ◌-◌, ◌≤◌, List, ◌∷◌, ◌++◌, length}
 use Rattle.gob_num.specs.Unsigned.{IsUnsigned, AreBytes}
 use Rattle.gob_num.specs.Signed.{IsSigned}
 use Rattle.gob_types.specs.declared.id.TypeId.{TypeId}
@@ -10,6 +10,7 @@ use Rattle.gob_stream.specs.Bounds.{Bounds}
 use Rattle.gob_stream.specs.Body.{MayPut}
 use Rattle.gob_filled.specs.Definition.{Defines}
 use Rattle.gob_filled.specs.Filled.{cut, Filled, SpellsFilled}
+pub use Rattle.gob_stream.specs.Items.{AreItemsOf, no_more, and_then}
 
 pub data FilledItem : Type 0 where
   -- a type, by its description
@@ -36,12 +37,8 @@ pub data IsFilledItem (base : Table) (L : Bounds) (T : Table) (offset : ℕ) : F
       → IsFilledItem base L T offset (putting t w) f U
 
 -- from this table and offset on, the bytes are these items, and behind them the types are those of the last table
-pub data AreFilledItems (base : Table) (L : Bounds) : Table → ℕ → List FilledItem → List ℕ → Table → Type 0 where
-  no_more : {T : Table} {offset : ℕ} → AreFilledItems base L T offset [] [] T
-  and_then : {T U V : Table} {offset next : ℕ} {i : FilledItem} {items : List FilledItem} {b c : List ℕ}
-      → IsFilledItem base L T offset i b U
-      → next ≡ offset + length b → AreFilledItems base L U next items c V
-      → AreFilledItems base L T offset (i ∷ items) (b ++ c) V
+abbrev pub AreFilledItems : (base : Table) (L : Bounds) → Table → ℕ → List FilledItem → List ℕ → Table → Type 0
+AreFilledItems base L T offset items bytes U = AreItemsOf (IsFilledItem base L) T offset items bytes U
 
 -- the bytes are the stream of the items, and the types behind it are those of the table
 abbrev pub FilledStream : Table → Bounds → List FilledItem → List ℕ → Table → Type 0

@@ -155,16 +155,18 @@ stopped_by {s = s} {items = items} {bytes = bytes} {piece = piece} {d = d} s' a 
     let later = shown_later piece a.stage (items_grown a.stream) r.refuses in (
       record {
         outcome = record {
-          begins = record {
-            prefix = a.prefix;
-            rest = a.under_way ++ piece;
-            table = a.table;
-            stream = a.stream;
-            whole = all;
+          gives = record {
+            begins = record {
+              prefix = a.prefix;
+              rest = a.under_way ++ piece;
+              table = a.table;
+              stream = a.stream;
+              whole = all;
+            };
+            longest = longest (a.under_way ++ piece) a.stream all (λ i U b x h k. no_item x h
+                (subst (λ z. RefusesFilled base_table (within_trees s.limits) a.table (length a.prefix) z R) k
+                r.refuses));
           };
-          longest = longest (a.under_way ++ piece) a.stream all (λ i U b x h k. no_item x h
-              (subst (λ z. RefusesFilled base_table (within_trees s.limits) a.table (length a.prefix) z R) k
-              r.refuses));
           ends = next_refused (a.under_way ++ piece) a.stream all r.refuses;
         };
         shown = r.shown;

@@ -9,7 +9,7 @@ use Rattle.gob_types.specs.Table.{Table}
 use Rattle.gob_stream.specs.declared.fault.Refusal.{Refusal}
 use Rattle.gob_stream.specs.Bounds.{Bounds, within_trees}
 use Rattle.gob_stream.specs.Refusing.{refuses}
-use Rattle.gob_filled.specs.Outcome.{BeginsFilled, FilledOutcome, at_the_end, within_an_item, the_end, refused}
+use Rattle.gob_filled.specs.Outcome.{BeginsFilled, LongestFilled, FilledOutcome, at_the_end, within_an_item, the_end, refused}
 use Rattle.gob_filled.specs.Stream.{FilledItem, FilledStream}
 use Rattle.gob_filled.proofs.Refused.{begins}
 use Rattle.gob_go.specs.Machine.HasRead.{StageHasRead, in_count, in_type_number, in_definition, in_put, HasRead}
@@ -80,14 +80,21 @@ behind_stream a = record {
   whole = a.whole;
 }
 
+-- and with no longer one
+pub given_longest : {s : SessionState} {items : List FilledItem} {bytes : List ℕ} → HasRead s items bytes
+    → LongestFilled base_table (within_trees s.limits) bytes items
+given_longest a = record {
+  begins = behind_stream a;
+  longest = longest a.under_way a.stream a.whole (λ i U b x h k. no_item_yet x a.stage h k);
+}
+
 -- between two items they are the end of a stream
 pub after_none : {s : SessionState} {items : List FilledItem} {bytes : List ℕ} (a : HasRead s items bytes)
     → a.under_way ≡ [] → FilledOutcome base_table (within_trees s.limits) bytes items the_end
 after_none {s = s} {items = items} a e =
     let all = a.whole ∙ ap (λ l. a.prefix ++ l) e ∙ append-nil a.prefix in
     record {
-      begins = behind_stream a;
-      longest = longest a.under_way a.stream a.whole (λ i U b x h k. no_item_yet x a.stage h k);
+      gives = given_longest a;
       ends = at_the_end (subst (λ b. FilledStream base_table (within_trees s.limits) items b a.table) (sym all)
           a.stream);
     }
@@ -98,8 +105,7 @@ after_some : {s : SessionState} {items : List FilledItem} {bytes : List ℕ} (a 
     → FilledOutcome base_table (within_trees s.limits) bytes items
     (refused (refuses (length bytes) (length bytes) reason.Ended))
 after_some a n = record {
-  begins = behind_stream a;
-  longest = longest a.under_way a.stream a.whole (λ i U b x h k. no_item_yet x a.stage h k);
+  gives = given_longest a;
   ends = within_an_item a.under_way a.stream a.whole n (λ R h. unrefused a.stage h);
 }
 

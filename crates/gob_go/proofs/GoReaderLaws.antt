@@ -108,9 +108,11 @@ refused_still {L = L} {R = R} later (next_refused {f = f} {T = T} z s w r) n =
     filled_shown z [] later (wire_of (items_grown s))
     (subst (λ y. RefusesFilled base_table L T (length f) y R) (sym (append-nil z)) r) (filled_there r) in
     record {
-      begins = record { prefix = f; rest = z ++ later; table = T; stream = s; whole = all };
-      longest = longest (z ++ later) s all (λ i U b x h k. no_item x h
-          (subst (λ y. RefusesFilled base_table L T (length f) y R) k still));
+      gives = record {
+        begins = record { prefix = f; rest = z ++ later; table = T; stream = s; whole = all };
+        longest = longest (z ++ later) s all (λ i U b x h k. no_item x h
+            (subst (λ y. RefusesFilled base_table L T (length f) y R) k still));
+      };
       ends = next_refused (z ++ later) s all still;
     }
 refused_still later (within_an_item z s w some other) n = absurd (n refl)
@@ -353,7 +355,7 @@ ends_within {r = r} {items = items} s' (fault.Refused R) h none end finish = λ 
     let L = within_trees (limits_of (session_of r)) in
     let o : FilledOutcome base_table L bytes items (refused R) =
     subst (λ (l : List ℕ). FilledOutcome base_table L l items (refused R)) a.all finish.0 in
-    record { outcome = o; table = table_is [] (sym a.all ∙ sym (append-nil h.taken)) h.gave o.begins }
+    record { outcome = o; table = table_is [] (sym a.all ∙ sym (append-nil h.taken)) h.gave o.gives.begins }
 ends_within s' fault.Read h none end finish = absurd finish
 ends_within s' fault.Memory h none end finish = absurd finish
 ends_within s' fault.Failed h none end finish = absurd finish
@@ -424,7 +426,7 @@ step_stops {r = r} {items = items} s' (fault.Refused R) h f = λ bytes known.
     (refused_still t.left f.0.outcome.ends f.0.shown) in
     record {
       outcome = o;
-      table = table_is (waits_in r ++ t.left) (t.whole ∙ append_assoc h.taken (waits_in r) t.left) h.gave o.begins;
+      table = table_is (waits_in r ++ t.left) (t.whole ∙ append_assoc h.taken (waits_in r) t.left) h.gave o.gives.begins;
     }
 step_stops s' fault.Read h f = absurd f
 step_stops {r = r} {read = read} {now = now} s' fault.Memory h f = λ bytes known.

@@ -1,13 +1,13 @@
 -- What the run that checks a stream of Go's encoder answers, and what it has written then.
 -- (docs/FORMAT.md, What Go's encoder writes beyond its documentation; The program: this project's own.)
-use Rattle.std.specs.Prelude.{◌≡◌, ℕ, ◌≤◌, List, [], length, Option, Some, Result, Ok, Err}
+use Rattle.std.specs.Prelude.{◌≡◌, ℕ, List, [], length, Option, Some, Result, Ok, Err}
 use Rattle.std.specs.Io.KnownBytes.{Appends}
 use Rattle.gob_types.specs.Base.{base_table}
 use Rattle.gob_types.specs.Defined.{definition_count}
 use Rattle.gob_types.specs.Table.{Table}
 use Rattle.gob_stream.specs.Bounds.{Bounds}
 use Rattle.gob_stream.specs.Reading.{SomeTaken}
-use Rattle.gob_filled.specs.Outcome.{BeginsFilled, FilledOutcome, refused}
+use Rattle.gob_filled.specs.Outcome.{LongestFilled, FilledOutcome, refused}
 use Rattle.gob_filled.specs.Stream.{FilledItem, FilledStream}
 use Rattle.gob_tool.specs.declared.fault.ToolFault.{ToolFault}
 use Rattle.gob_tool.specs.declared.fault.ToolFault.TheVariants as fault
@@ -24,9 +24,8 @@ pub record IsCountedGoStream (L : Bounds) (bytes : List ℕ) (now : Option (List
   pub holds : P (counts_line (length items) (definition_count table) (length bytes))
 
 -- the bytes begin with the stream of the items, and with none of more items
-pub record LongestGoStream (L : Bounds) (bytes : List ℕ) (items : List FilledItem) : Type 0 where
-  pub begins : BeginsFilled base_table L bytes items
-  pub longest : (others : List FilledItem) → BeginsFilled base_table L bytes others → length others ≤ length items
+abbrev pub LongestGoStream : Bounds → (bytes : List ℕ) → List FilledItem → Type 0
+LongestGoStream L bytes items = LongestFilled base_table L bytes items
 
 -- why the bytes aren't known to be a stream, where these are left
 abbrev pub IsNoGoStream : Bounds → (bytes : List ℕ) → (now : Option (List ℕ)) → ToolFault → Type 0

@@ -17,7 +17,7 @@ use Rattle.gob_stream.specs.declared.fault.Fault.{Fault}
 use Rattle.gob_stream.specs.declared.fault.Refusal.{Refusal}
 use Rattle.gob_stream.specs.declared.fault.Fault.TheVariants as reading
 use Rattle.gob_stream.proofs.Stream.WireLaws.{wire_ready}
-use Rattle.gob_filled.specs.Outcome.{FilledEnding, FilledOutcome, the_end, refused, EndsFilled, at_the_end}
+use Rattle.gob_filled.specs.Outcome.{Ending, FilledOutcome, the_end, refused, EndsFilled, at_the_end}
 use Rattle.gob_filled.specs.Stream.{FilledItem, IsFilledItem, of_definition, of_value, AreCounted, last_counted}
 use Rattle.gob_filled.specs.Stream.{next_counted, FilledStream, no_more}
 use Rattle.gob_filled.proofs.Outcomes.{one_outcome}
@@ -64,9 +64,11 @@ item_some (of_value may sg k cs) = counted_some cs
 pub whole_outcome : {L : Bounds} {T : Table} {items : List FilledItem} {bytes : List ℕ}
     → FilledStream base_table L items bytes T → FilledOutcome base_table L bytes items the_end
 whole_outcome {T = T} {bytes = bytes} s = record {
-  begins = record { prefix = bytes; rest = []; table = T; stream = s; whole = sym (append-nil bytes) };
-  longest = longest [] s (sym (append-nil bytes))
-      (λ i U b x h e. absurd (omega (arith, item_some h, ap length e, length-append b x)));
+  gives = record {
+    begins = record { prefix = bytes; rest = []; table = T; stream = s; whole = sym (append-nil bytes) };
+    longest = longest [] s (sym (append-nil bytes))
+        (λ i U b x h e. absurd (omega (arith, item_some h, ap length e, length-append b x)));
+  };
   ends = at_the_end s;
 }
 
@@ -157,7 +159,7 @@ on_limits s s' {items = items} {bytes = bytes} {T = T} e p =
     subst (λ (L : Bounds). FilledStream base_table (within_trees L) items bytes T) (sym e) p
 
 -- the outcome under the limits as they were
-outcome_before : (s s' : SessionState) {items : List FilledItem} {bytes : List ℕ} {e : FilledEnding}
+outcome_before : (s s' : SessionState) {items : List FilledItem} {bytes : List ℕ} {e : Ending}
     → s'.limits ≡ s.limits → FilledOutcome base_table (within_trees s'.limits) bytes items e
     → FilledOutcome base_table (within_trees s.limits) bytes items e
 outcome_before s s' {items = items} {bytes = bytes} {e = e} l o =

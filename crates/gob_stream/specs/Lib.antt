@@ -1,6 +1,8 @@
 pub mod Bounds
 pub mod Item
 pub mod Body
+pub mod Grammar
+pub mod Items
 pub mod Stream
 pub mod Refusing
 pub mod Outcome

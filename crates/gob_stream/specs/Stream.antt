@@ -6,6 +6,7 @@ use Rattle.gob_types.specs.Table.{Table}
 use Rattle.gob_stream.specs.Bounds.{Bounds}
 use Rattle.gob_stream.specs.Item.{StreamItem}
 use Rattle.gob_stream.specs.Body.{Body}
+pub use Rattle.gob_stream.specs.Items.{AreItemsOf, no_more, and_then}
 
 -- at this offset the bytes are the item, its count and its body, and the second table is the one behind it
 pub data IsItem (base : Table) (L : Bounds) (T : Table) (offset : ℕ) : StreamItem → List ℕ → Table → Type 0 where
@@ -14,11 +15,8 @@ pub data IsItem (base : Table) (L : Bounds) (T : Table) (offset : ℕ) : StreamI
       → Body base L T i d U → IsItem base L T offset i (c ++ d) U
 
 -- from this table and offset on, the bytes are these items, and behind them the types are those of the last table
-pub data AreItems (base : Table) (L : Bounds) : Table → ℕ → List StreamItem → List ℕ → Table → Type 0 where
-  no_more : {T : Table} {offset : ℕ} → AreItems base L T offset [] [] T
-  and_then : {T U V : Table} {offset next : ℕ} {i : StreamItem} {items : List StreamItem} {b c : List ℕ}
-      → IsItem base L T offset i b U
-      → next ≡ offset + length b → AreItems base L U next items c V → AreItems base L T offset (i ∷ items) (b ++ c) V
+abbrev pub AreItems : (base : Table) (L : Bounds) → Table → ℕ → List StreamItem → List ℕ → Table → Type 0
+AreItems base L T offset items bytes U = AreItemsOf (IsItem base L) T offset items bytes U
 
 -- the bytes are the stream of the items, and the types behind it are those of the table
 abbrev pub Stream : Table → Bounds → List StreamItem → List ℕ → Table → Type 0

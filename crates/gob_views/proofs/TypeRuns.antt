@@ -249,7 +249,7 @@ refused_unsent L r bytes now old new ids text R fault.Write same w e h =
     subst (λ (M : Bounds). BeginsGo (within_trees M) bytes (OfSource (within_trees M) bytes now
     (AppendsPrefix old new))) same (record {
       items = w.given;
-      begins = w.outcome.begins;
+      begins = w.outcome.gives.begins;
       holds = refused_source {P = AppendsPrefix old new} text w e h;
     })
 refused_unsent L r bytes now old new ids text R fault.Memory same w e h = h

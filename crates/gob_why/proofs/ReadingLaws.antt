@@ -82,9 +82,11 @@ still_refused {L = L} {R = R} later (next_refused {f = f} {T = T} z s w r) h =
     filled_shown z [] later (wire_of (items_grown s))
     (subst (λ y. RefusesFilled base_table L T (length f) y R) (sym (append-nil z)) r) (filled_there r) in
     record {
-      begins = record { prefix = f; rest = z ++ later; table = T; stream = s; whole = all };
-      longest = longest (z ++ later) s all (λ i U b x h k. no_item x h
-          (subst (λ y. RefusesFilled base_table L T (length f) y R) k still));
+      gives = record {
+        begins = record { prefix = f; rest = z ++ later; table = T; stream = s; whole = all };
+        longest = longest (z ++ later) s all (λ i U b x h k. no_item x h
+            (subst (λ y. RefusesFilled base_table L T (length f) y R) k still));
+      };
       ends = next_refused (z ++ later) s all still;
     }
 still_refused later (within_an_item z s w some other) h = absurd (h.shown refl)

@@ -63,7 +63,7 @@ pub record EndsWith (L : Bounds) (T : Table) (taken : ℕ) (items : List FilledI
 -- the bytes are refused so behind the items, with this table behind those
 pub record Refuses (L : Bounds) (T : Table) (items : List FilledItem) (bytes : List ℕ) (R : Refusal) : Type 0 where
   pub outcome : FilledOutcome base_table L bytes items (refused R)
-  pub table : outcome.begins.table ≡ T
+  pub table : outcome.gives.begins.table ≡ T
 
 -- the bytes begin with the stream of the items, and with none of more items
 pub record Longest (L : Bounds) (T : Table) (items : List FilledItem) (bytes : List ℕ) : Type 0 where
