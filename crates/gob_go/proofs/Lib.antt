@@ -34,6 +34,7 @@ pub mod PutEndSteps
 pub mod PutSteps
 pub mod ReaderLaws
 pub mod Refusals
+pub mod SessionAnswers
 pub mod SessionSteps
 pub mod StageSteps
 pub mod TypeNumberSteps

@@ -4,3 +4,4 @@ pub mod Reading
 pub mod Honest
 pub mod Machine
 pub mod Calls
+pub mod GoStepping

@@ -4,8 +4,7 @@
 //! A [`GoSession`] takes the bytes in pieces of any lengths and gives [`GoItem`]s. A value is kept as its skeleton,
 //! which is the spelling of a value with nil in its interfaces, and as what fills these nils: see [`Filled`].
 //!
-//! A [`GoReader`] has a session and the bytes that were read and not yet taken, and goes past values in which no
-//! interface holds another as they stand there.
+//! A [`GoReader`] is the reader of `gob_stream` over such a session.
 #![tactic(auto)]
 
 mod around;
@@ -23,9 +22,9 @@ mod next_count;
 mod number;
 mod part;
 mod put;
-mod reader;
 mod session;
 mod stage;
+mod steps;
 mod type_number;
 mod value;
 mod values;
@@ -33,5 +32,5 @@ mod whole;
 
 pub use filled::{Definition, Filled, Filling};
 pub use item::GoItem;
-pub use reader::GoReader;
-pub use session::{GoSession, GoStep};
+pub use session::GoSession;
+pub use steps::GoReader;

@@ -5,7 +5,7 @@ use crate::count::ItemCount;
 use crate::item::GoItem;
 use crate::stage::Stage;
 use gob_num::Memory;
-use gob_stream::{Fault, Limits, refusal};
+use gob_stream::{Fault, Limits, Step, refusal};
 use gob_types::{Reason, Table};
 use std::alloc::Global;
 use std::marker::Model;
@@ -21,15 +21,6 @@ pub struct GoSession {
     pub(crate) taken: u64,
     // What is expected.
     pub(crate) stage: Stage,
-}
-
-/// What became of the front of a piece.
-#[derive(Drop)]
-pub struct GoStep {
-    /// How many bytes of the piece were taken, one at least of a piece that has any.
-    pub used: usize,
-    /// The item that is whole with them, if one is.
-    pub item: Option<GoItem>,
 }
 
 // Not derived, so that a drop is one call in the proofs of what owns one.
@@ -141,7 +132,7 @@ impl GoSession {
     /// Takes some bytes from the front of the piece, one at least where it has any, and none behind the end of an item;
     /// the next call is for the rest of them. A refusal comes in the call that is given the last of the bytes that show
     /// it, and never says `Ended`. After a fault each call answers [`Fault::Failed`].
-    pub fn step(&mut self, alloc: Global, piece: &[u8]) -> Result<GoStep, Fault>
+    pub fn step(&mut self, alloc: Global, piece: &[u8]) -> Result<Step<GoItem>, Fault>
         ensures advances { (items : List FilledItem) (bytes : List ℕ) → HasRead self.old items bytes
             → StepAnswers self.old self.new items bytes piece.now result }
         ensures used { IfOk result (λ step. (0 < length piece.now → 0 < step.used) × (step.used ≤ length piece.now)) }
@@ -156,7 +147,7 @@ impl GoSession {
             return Err(Fault::Failed);
         }
         if piece.is_empty() {
-            return Ok(GoStep {
+            return Ok(Step {
                 used: 0,
                 item: None,
             });
@@ -173,7 +164,7 @@ impl GoSession {
             Ok(stepped) => {
                 self.taken += stepped.used as u64;
                 self.stage = stepped.stage;
-                Ok(GoStep {
+                Ok(Step {
                     used: stepped.used,
                     item: stepped.item,
                 })
@@ -239,7 +230,7 @@ impl GoSession {
     }
 
     // Whether there was a fault. If not, it has read some bytes.
-    fn has_failed(&self) -> bool
+    pub(crate) fn has_failed(&self) -> bool
         ensures failed { MatchBool result (HasFailed self.now) (¬ HasFailed self.now) }
         ensures has_read { ¬ HasFailed self.now → HasReadOn self.now }
     {
@@ -247,7 +238,7 @@ impl GoSession {
     }
 
     // From now on nothing more is read.
-    fn fail(&mut self)
+    pub(crate) fn fail(&mut self)
         ensures failed { HasFailed self.new }
         ensures types { table_of self.new ≡ table_of self.old }
         ensures taken { taken_of self.new ≡ taken_of self.old }

@@ -3,6 +3,8 @@
 #![tactic(auto)]
 
 #[cfg(test)]
+mod faults;
+#[cfg(test)]
 mod hoisted;
 #[cfg(test)]
 mod putting;

@@ -17,8 +17,8 @@ use Rattle.gob_go.specs.Calls.Reader.{StepsOnFrom, Stops, StopsFrom, session_of}
 use Rattle.gob_go.specs.Calls.Session.{HasRead, limits_of, taken_of}
 use Rattle.gob_go.specs.Machine.SessionState.{SessionState}
 use Rattle.gob_go.specs.declared.item.GoItem.{GoItem}
-use Rattle.gob_go.specs.declared.reader.GoReader.{GoReader}
-use Rattle.gob_go.specs.declared.session.GoStep.{GoStep}
+use Rattle.gob_go.specs.Calls.Reader.{GoReader}
+use Rattle.gob_stream.specs.declared.session.Step.{Step}
 use Rattle.gob_go.proofs.GoReaderLaws.{goes_on}
 use Rattle.gob_go.proofs.ItemsLaws.{items_end as items_end_within}
 use Rattle.gob_go.proofs.UnderWayLaws.{stage_bound}
@@ -115,7 +115,7 @@ given_so : {T : Table} {o : Option GoItem} {more : List FilledItem} → GivesIte
 given_so gives_none = refl
 given_so (gives_one m) = refl
 
-pub counts_step : {r q r' : GoReader} {read now : Option (List ℕ)} {given : List FilledItem} {step : GoStep}
+pub counts_step : {r q r' : GoReader} {read now : Option (List ℕ)} {given : List FilledItem} {step : Step GoItem}
     (passed : Passed) → taken_of (session_of q) ≡ taken_of (session_of r)
     → StepsOnFrom q r' read now given step → passed.used ≡ step.used → passed.items ≡ given_count step.item
     → CountsOn r r' read now given passed
@@ -182,11 +182,8 @@ pub counted_stops : (L : Bounds) (T : Table) (items : List FilledItem) (bytes : 
     (e : Fault)
     → Stops L T items bytes now e → IsNoGoStream L bytes now (reading_fault e)
 counted_stops L T items bytes now (reading.Refused R) h = (items, h.outcome)
-counted_stops L T items bytes now reading.Read h = record {
-  bytes = h.bytes;
-  taken = h.taken;
-  holds = (items, record { begins = h.holds.begins; longest = h.holds.longest });
-}
+counted_stops L T items bytes now reading.Read h = record
+    { bytes = h.bytes; taken = h.taken; holds = (items, h.holds.gives) }
 counted_stops L T items bytes now reading.Memory h = tt
 counted_stops L T items bytes now reading.Failed h = absurd h
 

@@ -26,8 +26,8 @@ use Rattle.gob_go.specs.declared.filled.Filled.{Filled, out-Filled}
 use Rattle.gob_go.specs.declared.filled.Filling.{Filling}
 use Rattle.gob_go.specs.declared.item.GoItem.{GoItem}
 use Rattle.gob_go.specs.declared.item.GoItem.TheVariants as item
-use Rattle.gob_go.specs.declared.reader.GoReader.{GoReader}
-use Rattle.gob_go.specs.declared.session.GoStep.{GoStep}
+use Rattle.gob_go.specs.Calls.Reader.{GoReader}
+use Rattle.gob_stream.specs.declared.session.Step.{Step}
 use Rattle.gob_go.proofs.GoReaderLaws.{table_between}
 use Rattle.gob_go.proofs.ItemsLaws.{grown_keeps, items_grown, last_of}
 use Rattle.gob_go_tidy.specs.TidyItem.{BecomesTidy, tidies_filled, tidies_none, tidies_value}
@@ -43,7 +43,7 @@ use Rattle.gob_go_tool.specs.RewritingGo.{AreAnywhere, IsRewritten}
 use Rattle.gob_go_tool.specs.Texts.{IsWholeText}
 
 -- ---- an item that was given is one of a stream
-pub item_given : {r r' : GoReader} {read now : Option (List ℕ)} {given : List FilledItem} {step : GoStep}
+pub item_given : {r r' : GoReader} {read now : Option (List ℕ)} {given : List FilledItem} {step : Step GoItem}
     {kept : GoItem} → StepsOnFrom r r' read now given step → step.item ≡ Some kept → IsBetweenItems (session_of r')
     → IsSpelled (IsItemOf (types_of (session_of r')) kept)
 item_given {r' = r'} {read = read} {now = now} {given = given} {kept = kept} st is between =

@@ -18,7 +18,7 @@ use Rattle.gob_stream.proofs.PublicLaws.{whole_item}
 use Rattle.gob_stream.specs.Calls.Writing.{SentPrefix}
 use Rattle.gob_stream.specs.declared.fault.Fault.{Fault}
 use Rattle.gob_stream.specs.declared.fault.Fault.TheVariants as reading
-use Rattle.gob_stream.proofs.Reader.StreamReaderLaws.{taken_known}
+use Rattle.gob_stream.proofs.Reader.ReaderOfLaws.{ahead_in, taken_known}
 use Rattle.gob_filled.specs.Filled.{filled, no_filling}
 use Rattle.gob_filled.specs.Outcome.{BeginsFilled}
 use Rattle.gob_filled.specs.OutcomeLaws.{unfilled_item}
@@ -28,11 +28,12 @@ use Rattle.gob_go.specs.Calls.Reader.{EndsWith, GivesItems, gives_none, gives_on
 use Rattle.gob_go.specs.Calls.Reader.{PassesOne, StepsOnFrom, Stops, StopsFrom, room_in, session_of, waits_in}
 use Rattle.gob_go.specs.Calls.Session.{IsBetweenItems, limits_of, taken_of, types_of}
 use Rattle.gob_go.specs.declared.item.GoItem.{GoItem}
-use Rattle.gob_go.specs.declared.reader.GoReader.{GoReader}
-use Rattle.gob_go.specs.declared.session.GoStep.{GoStep}
+use Rattle.gob_go.specs.Calls.Reader.{GoReader}
+use Rattle.gob_stream.specs.declared.session.Step.{Step}
 use Rattle.gob_go.proofs.GoReaderLaws.{table_between}
-use Rattle.gob_go.proofs.ItemsLaws.{last_of, longest, one_reading}
-use Rattle.gob_go.proofs.UnderWayLaws.{no_item_yet}
+use Rattle.gob_go.proofs.SessionAnswers.{gives_all}
+use Rattle.gob_go.specs.GoStepping.{go_stepping}
+use Rattle.gob_go.proofs.ItemsLaws.{last_of, one_reading}
 use Rattle.gob_tool.specs.Ending.{EndsRun, ends_so, flush_fails}
 use Rattle.gob_tool.specs.Fault.{reading_fault}
 use Rattle.gob_tool.specs.Showing.{AppendsPrefix}
@@ -65,33 +66,12 @@ begun {r = r} {read = read} {now = now} bytes h known =
       refl,
     )
 
--- no more wait than there is room for
-waits_few : (r : GoReader) → length (waits_in r) ≤ room_in r
-waits_few r = let few = length-take (r.waiting.end - r.waiting.start) (drop r.waiting.start r.waiting.room.items) in
-    omega (arith, few, r.waiting.in_bounds)
-
 -- all of what was read but what waits was taken
 pub no_memory : {r : GoReader} {read now : Option (List ℕ)} {items : List FilledItem} (h : HasReadFrom r read now items)
     → StopsFrom (session_of r) h.gave.table read now items reading.Memory
-no_memory {r = r} {read = read} {now = now} h = λ bytes known.
-    let few = waits_few r in
-    let a = h.gave in
-    record {
-      bytes = h.taken ++ waits_in r;
-      taken = taken_known read now bytes (h.taken ++ waits_in r) known h.input;
-      holds = record {
-        prefix = h.taken;
-        rest = waits_in r;
-        whole = refl;
-        few = omega (arith, few, h.room);
-        gives = record {
-          begins = record
-              { prefix = a.prefix; rest = a.under_way; table = a.table; stream = a.stream; whole = a.whole };
-          longest = longest a.under_way a.stream a.whole (λ i U b x k e. no_item_yet x a.stage k e);
-          table = refl;
-        };
-      };
-    }
+no_memory {r = r} {read = read} {now = now} {items = items} h = λ bytes known.
+    ahead_in go_stepping r read now h.gave.table bytes h.taken h.input
+    (gives_all (session_of r) items h.taken h.gave) h.room known
 
 -- the table behind an item of a value that holds nothing is the one before it
 unfilled_keeps : {L : Bounds} {T V : Table} {offset : ℕ} {t : TypeId} {v : Tree} {b : List ℕ}
@@ -159,7 +139,7 @@ shown_stops L T items bytes now P C reading.Read s h = record {
   taken = s.taken;
   holds = record {
     items = items;
-    longest = record { begins = s.holds.begins; longest = s.holds.longest };
+    longest = s.holds.gives;
     holds = h;
   };
 }
@@ -173,10 +153,12 @@ shown_stops L T items bytes now P C reading.Failed s h = absurd s
 -- no byte gives no item
 none_longest : (L : Bounds) → Longest L base_table [] []
 none_longest L = record {
-  begins = record { prefix = []; rest = []; table = base_table; stream = no_more; whole = refl };
-  longest = λ others b.
-      let few = items_few b.stream in
-      omega (arith, few, ap length b.whole, length-append b.prefix b.rest);
+  gives = record {
+    begins = record { prefix = []; rest = []; table = base_table; stream = no_more; whole = refl };
+    longest = λ others b.
+        let few = items_few b.stream in
+        omega (arith, few, ap length b.whole, length-append b.prefix b.rest);
+  };
   table = refl;
 }
 
@@ -360,7 +342,7 @@ module _ {Is : Table → FilledItem → List ℕ → Type 0} where
       one_next i made begins.0 begins.1
       (subst (λ (T : Table). Is T i made) (sym (table_between h.gave between)) (l i m))
 
-  pub step_made : {r r' : GoReader} {read now : Option (List ℕ)} {given : List FilledItem} {step : GoStep}
+  pub step_made : {r r' : GoReader} {read now : Option (List ℕ)} {given : List FilledItem} {step : Step GoItem}
       {made : List ℕ} → 0 < step.used → limits_of (session_of r') ≡ limits_of (session_of r)
       → StepsOnFrom r r' read now given step
       → TextGiven Is (types_of (session_of r')) step.item made → IfSome step.item (λ _. IsBetweenItems (session_of r'))

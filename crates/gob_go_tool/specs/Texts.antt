@@ -13,7 +13,7 @@ use Rattle.gob_filled.specs.Outcome.{BeginsFilled}
 use Rattle.gob_filled.specs.Stream.{FilledItem, putting}
 use Rattle.gob_go.specs.Calls.Reader.{session_of, waits_in}
 use Rattle.gob_go.specs.Calls.Session.{HasBodyNext, IsBetweenItems, limits_of, types_of}
-use Rattle.gob_go.specs.declared.reader.GoReader.{GoReader}
+use Rattle.gob_go.specs.Calls.Reader.{GoReader}
 use Rattle.gob_tool.specs.declared.fault.ToolFault.{ToolFault}
 use Rattle.gob_tool.specs.Showing.{AppendsPrefix}
 use Rattle.gob_go_tool.specs.RunningGo.{RunGoAnswers}

@@ -13,9 +13,9 @@ ghost use Rattle.gob_tool.specs.Showing.{CountsReadFaults, CountsWriteFaults, Is
 ghost use Rattle.gob_go_tool.specs.Texts.{TextsAnswers};
 ghost use Rattle.gob_go_tool.specs.Machine.Texts.{AppendsTexts, HasReadSome, MakesNext, WritesNext};
 
-use gob_go::{GoItem, GoReader, GoStep};
+use gob_go::{GoItem, GoReader};
 use gob_num::Memory;
-use gob_stream::{Fault, Input, Limits, Output, WriteFault};
+use gob_stream::{Fault, Input, Limits, Output, Step, WriteFault};
 use gob_tool::{ToolFault, end_run};
 use gob_types::Table;
 use std::alloc::Global;
@@ -203,7 +203,7 @@ fn next_text<M: ItemTexts>(
         reader.pass(used);
         return Ok(true);
     }
-    let GoStep { item, .. } = reader.step(alloc)?;
+    let Step { item, .. } = reader.step(alloc)?;
     let Some(item) = item else {
         return Ok(false);
     };

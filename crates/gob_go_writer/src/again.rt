@@ -6,8 +6,8 @@ ghost use Rattle.gob_go.specs.Calls.Session.{limits_of};
 ghost use Rattle.gob_go_writer.specs.Calls.Again.{HasWritten, HasWrittenOn, IsStream, StopsAgain};
 
 use crate::item::write_item;
-use gob_go::{GoSession, GoStep};
-use gob_stream::{Fault, Limits};
+use gob_go::GoSession;
+use gob_stream::{Fault, Limits, Step};
 use std::alloc::Global;
 
 /// The items of a whole stream, written again as they were read: its own bytes. It refuses what a session refuses, and
@@ -63,7 +63,7 @@ fn write_next(
         → StopsAgain (within_trees (limits_of session.old)) (bytes ++ piece.now) fault) }
     ensures limits { limits_of session.new ≡ limits_of session.old }
 {
-    let GoStep { used, item } = session.step(alloc, piece)?;
+    let Step { used, item } = session.step(alloc, piece)?;
     match item {
         None => Ok(used),
         Some(item) => match write_item(alloc, session.table(), &item, out) {

@@ -18,4 +18,6 @@ pub mod NumberSteps
 pub mod StageSteps
 pub mod AdvanceSteps
 pub mod WaitingLaws
-pub mod StreamReaderLaws
+pub mod ReaderOfLaws
+pub mod StrictReaderLaws
+pub mod SessionAnswers

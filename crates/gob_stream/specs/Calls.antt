@@ -3,6 +3,7 @@ pub mod Reads
 pub mod SessionLaws
 pub mod Session
 pub mod Waiting
+pub mod ReaderOf
 pub mod Reader
 pub mod Ends
 pub mod Writing

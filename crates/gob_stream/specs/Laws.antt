@@ -1,9 +1,8 @@
 -- The laws of streams: their bytes tell their items, whatever the base table, the limits and the shapes are.
 -- They follow from Go's encoding/gob documentation, Encoding Details; docs/FORMAT.md, Items and streams.
-use Rattle.std.specs.Prelude.{◌≡◌, ℕ, ◌+◌, ◌≤◌, ◌⊎◌, List, [], ◌++◌, length, take, Option, Some, Result, Ok, Err}
+use Rattle.std.specs.Prelude.{◌≡◌, ℕ, ◌≤◌, ◌⊎◌, List, [], ◌++◌, length, take, Option, Some, Result, Ok, Err}
 use Rattle.gob_types.specs.Table.{Table}
 use Rattle.gob_types.specs.Base.{base_table}
-use Rattle.gob_types.specs.Defined.{types}
 use Rattle.gob_stream.specs.declared.fault.Refusal.{Refusal}
 use Rattle.gob_stream.specs.declared.fault.Fault.{Fault}
 use Rattle.gob_stream.specs.declared.fault.Fault.TheVariants as fault

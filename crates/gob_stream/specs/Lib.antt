@@ -11,6 +11,8 @@ pub mod WriterRefusal
 pub mod Devices
 pub mod Reading
 pub mod Whole
+pub mod Stepping
+pub mod StrictStepping
 pub mod Honest
 pub mod Laws
 pub mod Calls

@@ -1,6 +1,6 @@
 -- A stream: items one after another, each a count and a body of so many bytes, of types that were defined before.
 -- (Go's encoding/gob documentation, Encoding Details; docs/FORMAT.md, Items and streams.)
-use Rattle.std.specs.Prelude.{◌≡◌, ℕ, ◌+◌, ◌≤◌, List, [], ◌∷◌, ◌++◌, length}
+use Rattle.std.specs.Prelude.{ℕ, ◌+◌, ◌≤◌, List, ◌++◌, length}
 use Rattle.gob_num.specs.Unsigned.{IsUnsigned}
 use Rattle.gob_types.specs.Table.{Table}
 use Rattle.gob_stream.specs.Bounds.{Bounds}

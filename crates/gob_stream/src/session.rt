@@ -26,11 +26,11 @@ pub struct Session<B: Builder> {
 
 /// What became of the front of a piece.
 #[derive(Drop)]
-pub struct Step<O: Drop> {
+pub struct Step<I: Drop> {
     /// How many bytes of the piece were taken, one at least of a piece that has any.
     pub used: usize,
-    /// The item that is whole with them.
-    pub item: Option<Item<O>>,
+    /// The item that is whole with them, if one is.
+    pub item: Option<I>,
 }
 
 // Not derived, so that a drop is one call in the proofs of what owns one.
@@ -145,7 +145,7 @@ impl<B: Builder> Session<B> {
     /// Takes some bytes from the front of the piece, one at least where it has any, and none behind the end of an item.
     /// A refusal comes in the call that is given the last of the bytes that show it, and never says `Ended`.
     /// After a fault each call answers [`Fault::Failed`].
-    pub fn step(&mut self, alloc: Global, piece: &[u8]) -> Result<Step<B::Out>, Fault>
+    pub fn step(&mut self, alloc: Global, piece: &[u8]) -> Result<Step<Item<B::Out>>, Fault>
         ensures advances { (items : List StreamItem) (bytes : List ℕ)
             → HasRead B.building self.old items bytes
             → StepAnswers B.building self.old self.new items bytes piece.now result }

@@ -36,6 +36,7 @@ impl<B: Builder> Session<B> {
     pub fn pass_values(&mut self, piece: &[u8]) -> Passed
         ensures passed { ReadsItems B.building self.old self.new result.items result.used piece.now }
         ensures between { 0 < result.used → IsBetweenItems self.new }
+        ensures both { 0 < result.items → IsBetweenItems self.old × IsBetweenItems self.new }
         ensures stays { HasFailed self.old → (result.items ≡ 0) × (result.used ≡ 0) × StaysAsItWas self.old self.new }
         ensures taken { taken_of self.new ≡ taken_of self.old + result.used }
         ensures types { table_of self.new ≡ table_of self.old }

@@ -26,7 +26,7 @@ use Rattle.gob_stream.proofs.PublicLaws.{counted_some, stands_within}
 use Rattle.gob_stream.specs.Calls.Reader.{EndsWith, Fills, GivesItems, gives_none, gives_one, HasReadFrom, PassesFrom}
 use Rattle.gob_stream.specs.Calls.Reader.{StepsOnFrom, Stops}
 use Rattle.gob_stream.specs.Calls.Reader.{StopsFrom, session_of}
-use Rattle.gob_stream.specs.declared.stream_reader.StreamReader.{StreamReader}
+use Rattle.gob_stream.specs.Calls.Reader.{StreamReader}
 use Rattle.gob_stream.proofs.PublicLaws.{goes_on}
 use Rattle.gob_tool.specs.declared.in_memory.Tally.{Tally}
 use Rattle.gob_tool.specs.declared.fault.ToolFault.{ToolFault}
@@ -131,7 +131,7 @@ given_so gives_none = refl
 given_so (gives_one m) = refl
 
 pub counts_step : {r q r' : StreamReader SkipBuilder (Unit {0})} {read now : Option (List ℕ)} {given : List StreamItem}
-    {step : Step (Unit {0})} (passed : Passed) → taken_of (session_of q) ≡ taken_of (session_of r)
+    {step : Step (declared.Item (Unit {0}))} (passed : Passed) → taken_of (session_of q) ≡ taken_of (session_of r)
     → StepsOnFrom skip_building q r' read now given step → passed.used ≡ step.used
     → passed.items ≡ given_count step.item
     → CountsOn r r' read now given passed

@@ -20,7 +20,7 @@ use Rattle.gob_stream.specs.Calls.Reader.{GivesAllBut, GivesItems, gives_none, g
 use Rattle.gob_stream.specs.Calls.Reader.{TakesItems, most_ahead, room_in, session_of}
 use Rattle.gob_stream.specs.Calls.Reader.{waits_in}
 use Rattle.gob_tool.proofs.CheckLaws.{items_few}
-use Rattle.gob_stream.specs.declared.stream_reader.StreamReader.{StreamReader}
+use Rattle.gob_stream.specs.Calls.Reader.{StreamReader}
 
 -- bytes of one length that both come first are the same, where they are known
 same_first : (read now next : Option (List ℕ)) (a b x y : List ℕ) → length a ≡ length b → Consumes read now (a ++ x)
@@ -122,12 +122,14 @@ nothing_given L = record {
   whole = refl;
   few = omega arith;
   gives = record {
-    begins = record { prefix = []; rest = []; table = base_table; stream = no_more; whole = refl };
-    longest = λ others b.
-        let few = items_few b.stream in
-        omega (arith, few, ap length b.whole, length-append b.prefix b.rest);
+    gives = record {
+      begins = record { prefix = []; rest = []; table = base_table; stream = no_more; whole = refl };
+      longest = λ others b.
+          let few = items_few b.stream in
+          omega (arith, few, ap length b.whole, length-append b.prefix b.rest);
+    };
+    table = refl;
   };
-  table = refl;
 }
 
 module _ {X O : Type 0} {most : ℕ} (building : Building X O most) where
@@ -171,13 +173,13 @@ module _ {X O : Type 0} {most : ℕ} (building : Building X O most) where
       }
 
   -- by a step
-  pub record StepsBehind (r r' : StreamReader X O) (items : List StreamItem) (taken : List ℕ) (step : Step O) : Type
+  pub record StepsBehind (r r' : StreamReader X O) (items : List StreamItem) (taken : List ℕ) (step : Step (declared.Item O)) : Type
       0 where
     pub more : List StreamItem
     pub gives : GivesItems building.means step.item more
     pub behind : TakesBehind r r' items more taken step.used
 
-  pub steps_behind : {r r' : StreamReader X O} {items : List StreamItem} {taken : List ℕ} {step : Step O}
+  pub steps_behind : {r r' : StreamReader X O} {items : List StreamItem} {taken : List ℕ} {step : Step (declared.Item O)}
       (a : HasRead building (session_of r) items taken)
       → StepsOnFrom building r r' (Some (taken ++ waits_in r)) (Some []) items step
       → StepsBehind r r' items taken step

@@ -191,7 +191,7 @@ given_lines T (gives_one {given = given} {i = i} m) =
     let seen : item_view given ≡ i = cc in
     ap (λ (i : StreamItem). line T i) seen ∙ sym (append-nil (line T i))
 
-pub step_line_made : {r r' : Trees} {read now : Option (List ℕ)} {given : List StreamItem} {step : Step Value}
+pub step_line_made : {r r' : Trees} {read now : Option (List ℕ)} {given : List StreamItem} {step : Step (declared.Item Value)}
     {made : List ℕ}
     → 0 < step.used → StepsOnFrom tree_building r r' read now given step → made ≡ line_given (types_of (session_of r'))
     step.item

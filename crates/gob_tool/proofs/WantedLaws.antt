@@ -13,6 +13,7 @@ use Rattle.gob_stream.specs.Item.{StreamItem, defines, puts}
 use Rattle.gob_stream.specs.Reading.{CountsReads}
 use Rattle.gob_stream.specs.declared.fault.Fault.{Fault}
 use Rattle.gob_stream.specs.declared.fault.Fault.TheVariants as reading
+use Rattle.gob_stream.specs.declared.item.Item as declared
 use Rattle.gob_stream.specs.declared.session.Step.{Step}
 use Rattle.gob_stream.proofs.PublicLaws.{stands_within}
 use Rattle.gob_stream.specs.Calls.Reader.{EndsWith, HasReadFrom, StepsOnFrom, Stops, session_of}
@@ -56,7 +57,7 @@ pub finds_first : (r : Trees) (read : Option (List ℕ)) → HasReadFrom tree_bu
     → FindsSo r read read None
 finds_first r read has = record { given = []; has = has; is = refl }
 
-pub finds_step : {r q r' : Trees} {read now next : Option (List ℕ)} {first found : Option TypeId} {step : Step Value}
+pub finds_step : {r q r' : Trees} {read now next : Option (List ℕ)} {first found : Option TypeId} {step : Step (declared.Item Value)}
     (p : FindsSo r read now first) → StepsOnFrom tree_building q r' read next p.given step
     → found ≡ first_type_of first (first_type (views_given step.item)) → FindsSo r' read next found
 finds_step {first = first} {step = step} p t e = record {

@@ -21,7 +21,7 @@ use Rattle.gob_go.specs.Meaning.{ItemMeans, means_definition, means_value}
 use Rattle.gob_go.specs.declared.filled.Filled.{Filled}
 use Rattle.gob_go.specs.declared.item.GoItem.{GoItem}
 use Rattle.gob_go.specs.declared.item.GoItem.TheVariants as item
-use Rattle.gob_go.specs.declared.reader.GoReader.{GoReader}
+use Rattle.gob_go.specs.Calls.Reader.{GoReader}
 use Rattle.gob_go_plain.proofs.PublicLaws.{ValueText, says_unfilled}
 use Rattle.gob_go_tool.specs.Texts.{IsWholeText}
 use Rattle.gob_views.specs.Machine.Tapes.{IsTapeOf}

@@ -22,8 +22,9 @@ use Rattle.gob_filled.specs.Stream.{FilledItem, FilledStream}
 use Rattle.gob_go.specs.Calls.Reader.{EndsWith, HasReadFrom, KnowsTypes, PassesFrom, StepsOnFrom, StopsFrom, session_of}
 use Rattle.gob_go.specs.Calls.Session.{IsBetweenItems, limits_of, taken_of, types_of}
 use Rattle.gob_go.specs.Reading.{LeadsBehind}
-use Rattle.gob_go.specs.declared.reader.GoReader.{GoReader}
-use Rattle.gob_go.specs.declared.session.GoStep.{GoStep}
+use Rattle.gob_go.specs.Calls.Reader.{GoReader}
+use Rattle.gob_stream.specs.declared.session.Step.{Step}
+use Rattle.gob_go.specs.declared.item.GoItem.{GoItem}
 use Rattle.gob_go.proofs.LeadingLaws.{leads_nowhere}
 use Rattle.gob_tool.specs.declared.fault.ToolFault.{ToolFault}
 use Rattle.gob_tool.specs.declared.fault.ToolFault.TheVariants as fault
@@ -67,7 +68,7 @@ gathers_passed {read = read} {now = now} r' passed p between same s =
       t.onward,
     )
 
-pub gathers_step : {r r' : GoReader} {read now : Option (List ℕ)} {old : List TypeId} {step : GoStep}
+pub gathers_step : {r r' : GoReader} {read now : Option (List ℕ)} {old : List TypeId} {step : Step GoItem}
     (new : List TypeId) (s : GathersSo r read now old) → 0 < step.used → StepsOnFrom r r' read now s.given step
     → IdsGiven step.item old new
     → GathersSo r' read now new × (taken_of (session_of r) < taken_of (session_of r'))

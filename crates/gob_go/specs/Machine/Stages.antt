@@ -37,7 +37,7 @@ use Rattle.gob_go.specs.declared.levels.Goes.TheVariants as goes
 use Rattle.gob_go.specs.declared.part.Part.{Part}
 use Rattle.gob_go.specs.declared.part.Part.TheVariants as part
 use Rattle.gob_go.specs.declared.part.PartTaken.{PartTaken}
-use Rattle.gob_go.specs.declared.session.GoStep.{GoStep}
+use Rattle.gob_stream.specs.declared.session.Step.{Step}
 use Rattle.gob_go.specs.declared.stage.Stage.{Stage}
 use Rattle.gob_go.specs.declared.stage.Stage.TheVariants as stage
 use Rattle.gob_go.specs.declared.stage.Stepped.{Stepped}
@@ -304,7 +304,7 @@ pub data AdvancesOver (s' : SessionState) (items : List FilledItem) (bytes piece
       → AdvancesOver s' items bytes piece used (Some given)
 
 -- what a step over the front of a piece answers, behind these bytes, of which the items were given
-abbrev pub StepAnswers : (s s' : SessionState) → List FilledItem → (bytes piece : List ℕ) → Result GoStep Fault
+abbrev pub StepAnswers : (s s' : SessionState) → List FilledItem → (bytes piece : List ℕ) → Result (Step GoItem) Fault
     → Type 0
 StepAnswers s s' items bytes piece (Ok step) = AdvancesOver s' items bytes piece step.used step.item
 StepAnswers s s' items bytes piece (Err (fault.Refused R)) =

@@ -7,7 +7,7 @@ use Rattle.gob_stream.specs.declared.values.Passed.{Passed}
 use Rattle.gob_filled.specs.Stream.{FilledItem}
 use Rattle.gob_go.specs.Calls.Reader.{HasReadFrom, StopsFrom, TakesItems, session_of}
 use Rattle.gob_go.specs.Calls.Session.{taken_of}
-use Rattle.gob_go.specs.declared.reader.GoReader.{GoReader}
+use Rattle.gob_go.specs.Calls.Reader.{GoReader}
 use Rattle.gob_tool.specs.Checking.{tally_line}
 use Rattle.gob_tool.specs.declared.fault.ToolFault.{ToolFault}
 use Rattle.gob_tool.specs.declared.in_memory.Tally.{Tally}

@@ -9,7 +9,7 @@ use Rattle.gob_go.specs.Meaning.{ItemMeans}
 use Rattle.gob_go.specs.Calls.Reader.{HasReadFrom, StopsFrom, session_of}
 use Rattle.gob_go.specs.Calls.Session.{limits_of, taken_of}
 use Rattle.gob_go.specs.declared.item.GoItem.{GoItem}
-use Rattle.gob_go.specs.declared.reader.GoReader.{GoReader}
+use Rattle.gob_go.specs.Calls.Reader.{GoReader}
 use Rattle.gob_tool.specs.declared.fault.ToolFault.{ToolFault}
 use Rattle.gob_tool.specs.Showing.{AppendsPrefix}
 use Rattle.gob_go_tool.specs.RunningGo.{RunGoAnswers}

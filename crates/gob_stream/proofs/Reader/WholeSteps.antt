@@ -126,16 +126,8 @@ whole_item {L = L} {T = T} {offset = offset} {id = id} most e b w =
 
 pub has_item : {L : Bounds} {T : Table} {offset : ℕ} {id : TypeId} {body : List ℕ} {used : ℕ} {piece : List ℕ} {d : ℕ}
     (most : ℕ) → d ≡ min L.depth most → HasBody L T offset id body used piece → IsWhole T id d body
-    → HasItem (no_deeper most L) T offset used
-has_item {id = id} {used = used} {piece = piece} most e b w =
-    record {
-      item =
-          puts id w.value;
-      bytes = take used piece;
-      counted = whole_item most e b w;
-      size = length-take-le used piece
-          b.within;
-    }
+    → (i : StreamItem) × IsItem base_table (no_deeper most L) T offset i (take used piece) T
+has_item {id = id} most e b w = (puts id w.value, whole_item most e b w)
 
 -- ---- between two items
 pub between_at : {X O : Type 0} {s : SessionState X O} {at : CountStage} → s.stage ≡ stage.Count at → at.begin ≡ s.taken

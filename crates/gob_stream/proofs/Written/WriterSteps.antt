@@ -21,7 +21,7 @@ use Rattle.gob_stream.specs.Laws.{AtLeast}
 use Rattle.gob_stream.specs.Item.{StreamItem}
 use Rattle.gob_stream.specs.Stream.{Stream, IsItem}
 use Rattle.gob_stream.specs.WriterRefusal.{RefusesItem}
-use Rattle.gob_stream.specs.Calls.Writing.{HasWritten, HasWrittenSome, HasWriterFailed, IsUsableWriter, has_failed}
+use Rattle.gob_stream.specs.Calls.Writing.{HasWritten, HasWrittenSome, IsUsableWriter, has_failed}
 use Rattle.gob_stream.specs.Calls.Writing.{has_written, SentPrefix, SendAnswers}
 use Rattle.gob_stream.specs.Calls.Writing.{WritesItem, Leaves, CountsWriterFaults, WriteEffects}
 use Rattle.gob_stream.proofs.Stream.StreamLaws.{one_more, wider_counted}

@@ -237,7 +237,7 @@ pub data AdvancesOver {X O : Type 0} {most : ℕ} (building : Building X O most)
 
 -- what a step over the front of a piece answers, behind these bytes, of which the items were given
 abbrev pub StepAnswers : {X O : Type 0} {most : ℕ} → Building X O most → (s s' : SessionState X O) → List StreamItem
-    → (bytes piece : List ℕ) → Result (Step O) Fault → Type 0
+    → (bytes piece : List ℕ) → Result (Step (declared.Item O)) Fault → Type 0
 StepAnswers building s s' items bytes piece (Ok step) =
     AdvancesOver building s' items bytes piece step.used step.item
 StepAnswers {most = most} building s s' items bytes piece (Err (fault.Refused R)) =

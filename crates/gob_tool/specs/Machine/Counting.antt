@@ -9,7 +9,7 @@ use Rattle.gob_stream.specs.Item.{StreamItem}
 use Rattle.gob_stream.specs.declared.fault.Fault.{Fault}
 use Rattle.gob_stream.specs.declared.values.Passed.{Passed}
 use Rattle.gob_stream.specs.Calls.Reader.{HasReadFrom, StopsFrom, TakesItems, session_of}
-use Rattle.gob_stream.specs.declared.stream_reader.StreamReader.{StreamReader}
+use Rattle.gob_stream.specs.Calls.Reader.{StreamReader}
 use Rattle.gob_tool.specs.declared.fault.ToolFault.{ToolFault}
 use Rattle.gob_tool.specs.declared.fault.ToolFault.TheVariants as fault
 use Rattle.gob_tool.specs.Checking.{IsCountedStream, IsNoStream}

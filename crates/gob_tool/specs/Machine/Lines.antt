@@ -14,7 +14,7 @@ use Rattle.gob_stream.specs.Item.{StreamItem, item_view, puts}
 use Rattle.gob_stream.specs.declared.fault.Fault.{Fault}
 use Rattle.gob_stream.specs.declared.item.Item as declared
 use Rattle.gob_stream.specs.Calls.Reader.{Begins, HasReadFrom, StopsFrom, session_of, waits_in}
-use Rattle.gob_stream.specs.declared.stream_reader.StreamReader.{StreamReader}
+use Rattle.gob_stream.specs.Calls.Reader.{StreamReader}
 use Rattle.gob_tool.specs.declared.fault.ToolFault.{ToolFault}
 use Rattle.gob_tool.specs.Line.{line, lines}
 use Rattle.gob_tool.specs.Showing.{AppendsPrefix, OfLines, RunAnswers}

@@ -23,7 +23,7 @@ use Rattle.gob_tape.specs.declared.tape_builder.TapeBuilder.{TapeBuilder}
 use Rattle.gob_tape.specs.Meaning.{Means}
 use Rattle.gob_tidy.specs.TidiedWhole.{TidiesWhole}
 use Rattle.gob_stream.specs.Calls.Reader.{HasReadFrom, most_ahead, room_in, session_of, waits_in}
-use Rattle.gob_stream.specs.declared.stream_reader.StreamReader.{StreamReader}
+use Rattle.gob_stream.specs.Calls.Reader.{StreamReader}
 use Rattle.gob_tool.specs.declared.fault.ToolFault.{ToolFault}
 use Rattle.gob_tool.specs.Rewriting.{content, content_type, with_content, AreItemsTidied, RewriteAnswers}
 use Rattle.gob_tool.specs.Showing.{CountsReadFaults}

@@ -2,7 +2,8 @@
 use Rattle.std.proofs.Common.{◌≡◌, ◌∙◌, ap, arith, drop, length}
 use Rattle.gob_types.specs.Defined.{types}
 use Rattle.gob_go.specs.Calls.Reader.{waits_in}
-use Rattle.gob_go.specs.declared.session.GoStep.{GoStep}
+use Rattle.gob_stream.specs.declared.session.Step.{Step}
+use Rattle.gob_go.specs.declared.item.GoItem.{GoItem}
 use Rattle.gob_stream.specs.declared.fault.Fault.TheVariants as reading
 use Rattle.gob_views.proofs.TypeRuns.{gathers_passed, gathers_step, gathers_stopped, next_at}
 use Rattle.gob_views.proofs.types.gather_next.Goals as goal
@@ -28,7 +29,7 @@ returns-in_err-step-clause-gathered c = λ read now s.
     let on = (gathers_passed c.pass_values-passed.new.self c.pass_values-passed.result p.passed p.between
     (ap (λ d. types d) p.table) s).0 in
     next_at c.args.reader.now _ read now _ c.from_residual.result e c.from_residual.ensures.1
-    (gathers_stopped GoStep _ now e on.has.gave.table on c.in_err-step.ensures.limits
+    (gathers_stopped (Step GoItem) _ now e on.has.gave.table on c.in_err-step.ensures.limits
     (c.in_err-step.ensures.stepped read now on.given on.has) (c.in_err-step.ensures.refused read now on.given on.has))
 
 pub returns-in_err-kept-clause-gathered : goal.returns-in_err-kept-clause-gathered

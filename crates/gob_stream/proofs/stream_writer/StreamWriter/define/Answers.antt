@@ -1,17 +1,16 @@
-use Rattle.std.proofs.Common.{[], ◌++◌, refl, ap}
+use Rattle.std.proofs.Common.{refl, ap}
 use Rattle.std.proofs.lemmas.Result.{err_from_is_err_and}
 use Rattle.gob_value.specs.View.{view}
 use Rattle.gob_types.specs.declared.denial.Denial.TheVariants as denial
 use Rattle.gob_stream.specs.Bounds.{within_trees}
 use Rattle.gob_stream.specs.Item.{defines}
 use Rattle.gob_stream.specs.Machine.WriterState.{WriterState}
-use Rattle.gob_stream.specs.Calls.Writing.{HasWrittenSome}
 use Rattle.gob_stream.specs.WriterRefusal.{refused_body}
 use Rattle.gob_stream.proofs.DenialLaws.{denial_weaker}
 use Rattle.gob_stream.proofs.Written.WritingLaws.{body_alone, whole_item}
 use Rattle.gob_stream.proofs.Written.WriterSteps.{denied_writes, trees_within, sent_writes, denied_effects}
 use Rattle.gob_stream.proofs.Written.WriterSteps.{sent_effects}
-use Rattle.gob_stream.proofs.Written.WriterSteps.{HasItem, usable_behind, failed_wrote, failed_effects}
+use Rattle.gob_stream.proofs.Written.WriterSteps.{usable_behind, failed_wrote, failed_effects}
 use Rattle.gob_stream.proofs.stream_writer.StreamWriter.define.Goals as goal
 
 pub returns-in_err-shape : goal.returns-in_err-shape

@@ -1,16 +1,15 @@
-use Rattle.std.proofs.Common.{[], ◌++◌, refl, ap}
+use Rattle.std.proofs.Common.{refl}
 use Rattle.std.proofs.lemmas.Result.{err_from_is_err_and}
 use Rattle.gob_value.specs.View.{view}
 use Rattle.gob_stream.specs.Bounds.{within_trees}
 use Rattle.gob_stream.specs.Item.{puts}
 use Rattle.gob_stream.specs.Machine.WriterState.{WriterState}
-use Rattle.gob_stream.specs.Calls.Writing.{HasWrittenSome}
 use Rattle.gob_stream.specs.WriterRefusal.{refused_body}
 use Rattle.gob_stream.proofs.DenialLaws.{denial_weaker}
 use Rattle.gob_stream.proofs.Written.WritingLaws.{body_alone, whole_item}
 use Rattle.gob_stream.proofs.Written.WriterSteps.{denied_writes, trees_within, sent_writes, denied_effects}
 use Rattle.gob_stream.proofs.Written.WriterSteps.{sent_effects}
-use Rattle.gob_stream.proofs.Written.WriterSteps.{HasItem, usable_behind, failed_wrote, failed_effects}
+use Rattle.gob_stream.proofs.Written.WriterSteps.{usable_behind, failed_wrote, failed_effects}
 use Rattle.gob_stream.proofs.stream_writer.StreamWriter.put.Goals as goal
 
 pub returns-in_err-spell_value : goal.returns-in_err-spell_value

@@ -1,0 +1,197 @@
+-- What the session of streams of Go's encoder answers, in the words of any session.
+use Rattle.std.proofs.Common.{◌≡◌, ◌≢◌, ℕ, List, [], ◌∷◌, ◌++◌, length, Option, Ok, Err, Result, ◌∙◌, ap, sym, subst, refl}
+use Rattle.std.proofs.Common.{◌+◌, append-nil, append_assoc, arith, take, length-append, None, Some, IfSome}
+use Rattle.std.proofs.Common.{Bool, true, false, IsTrue, MatchBool}
+use Rattle.std.proofs.lemmas.List.{length-take-le}
+use Rattle.gob_types.specs.Base.{base_table}
+use Rattle.gob_types.specs.Defined.{types}
+use Rattle.gob_types.specs.Table.{Table}
+use Rattle.gob_types.specs.declared.reason.Reason.TheVariants as reason
+use Rattle.gob_stream.specs.Bounds.{Bounds, within_trees}
+use Rattle.gob_stream.specs.Stepping.{AdvancesBy, FinishAnswersBy, GivesAllBy, GivesItemsOf, GivesNoMoreBy}
+use Rattle.gob_stream.specs.Stepping.{ReadsItemsBy, StepAnswersBy}
+use Rattle.gob_stream.specs.Stepping.{gives_none, gives_one}
+use Rattle.gob_stream.specs.declared.fault.Fault.{Fault}
+use Rattle.gob_stream.specs.declared.fault.Fault.TheVariants as fault
+use Rattle.gob_stream.specs.declared.fault.Refusal.{Refusal}
+use Rattle.gob_stream.specs.declared.session.Step.{Step}
+use Rattle.gob_stream.specs.declared.whole.Awaited.{Awaited}
+use Rattle.gob_filled.specs.Outcome.{BeginsFilled, EndsFilled, FilledOutcome, RefusesFilled, at_the_end, next_refused}
+use Rattle.gob_filled.specs.Outcome.{within_an_item, the_end, refused}
+use Rattle.gob_filled.specs.Stream.{FilledItem, FilledStream}
+use Rattle.gob_filled.proofs.Outcomes.{no_item}
+use Rattle.gob_filled.proofs.Shown.{filled_shown, filled_there}
+use Rattle.gob_go.specs.Calls.Session.{FinishAnswers, HasBegunNext, HasFailed, HasRead, IsBetweenItems}
+use Rattle.gob_go.specs.Calls.Session.{ReadsItems, StepAnswers, limits_of, types_of}
+use Rattle.gob_go.specs.GoStepping.{go_stepping}
+use Rattle.gob_go.specs.Machine.SessionState.{SessionState}
+use Rattle.gob_go.specs.Machine.Stages.{AdvancesOver, over_some, over_item}
+use Rattle.gob_go.specs.Meaning.{ItemMeans}
+use Rattle.gob_go.specs.Reading.{LeadsAtMostTo, LeadsBehind, RefusesBehind}
+use Rattle.gob_go.specs.declared.item.GoItem.{GoItem}
+use Rattle.gob_go.proofs.AdvanceSteps.{not_read}
+use Rattle.gob_go.proofs.FeedSteps.{between_table}
+use Rattle.gob_go.proofs.FinishSteps.{count_begins_here, given_longest}
+use Rattle.gob_go.proofs.ItemsLaws.{items_grown, longest, one_reading, wire_of}
+use Rattle.gob_go.proofs.LeadingLaws.{refused_lead}
+use Rattle.gob_go.proofs.UnderWayLaws.{under_way_lead}
+use Rattle.gob_go.proofs.WholeSteps.{begun_no_next, types_between}
+
+-- ---- the types behind the items
+-- no byte of an item is under way, so they are the session's
+pub table_between : {s : SessionState} {items : List FilledItem} {bytes : List ℕ} (a : HasRead s items bytes)
+    → IsBetweenItems s → a.table ≡ types_of s
+table_between a between = sym (between_table a.stage between)
+
+-- they are behind the items of all bytes that begin so
+table_is : {s : SessionState} {items : List FilledItem} {taken bytes : List ℕ} (more : List ℕ) → bytes ≡ taken ++ more
+    → (a : HasRead s items taken)
+    → (b : BeginsFilled base_table (within_trees (limits_of s)) bytes items) → b.table ≡ a.table
+table_is more e a b =
+    (one_reading b.rest (a.under_way ++ more) b.stream a.stream
+    (sym b.whole ∙ e ∙ ap (λ (l : List ℕ). l ++ more) a.whole ∙ append_assoc a.prefix a.under_way more)).table
+
+-- ---- what was read
+-- what it has given is all that the bytes give
+pub gives_all : (s : SessionState) → GivesAllBy go_stepping s
+gives_all s = λ items bytes h. record {
+  gives = record {
+    begins = record { prefix = h.prefix; rest = h.under_way; table = h.table; stream = h.stream; whole = h.whole };
+    longest = (given_longest h).longest;
+  };
+  table = refl;
+}
+
+-- and the first bytes of an item that isn't whole give none
+pub gives_no_more : (s : SessionState) (piece : List ℕ) (o : Option Awaited) → IfSome o (λ a. IsBetweenItems s)
+    → IfSome o (λ a. HasBegunNext s a.id a.head a.size piece) → IfSome o (λ a. GivesNoMoreBy go_stepping s piece)
+gives_no_more s piece None between begun = tt
+gives_no_more s piece (Some w) between begun = λ items bytes h.
+    let none : h.under_way ≡ [] = count_begins_here h between refl in
+    let whole : bytes ++ piece ≡ h.prefix ++ piece =
+    ap (λ l. l ++ piece) (h.whole ∙ ap (λ y. h.prefix ++ y) none ∙ append-nil h.prefix) in
+    record {
+      gives = record {
+        begins = record { prefix = h.prefix; rest = piece; table = h.table; stream = h.stream; whole = whole };
+        longest = longest piece h.stream whole (begun_no_next begun);
+      };
+      table = refl;
+    }
+
+-- a session that has failed has read nothing
+pub failed_unread : (s : SessionState) (failed : Bool) → MatchBool failed (HasFailed s) (¬ HasFailed s)
+    → IsTrue failed → (items : List FilledItem) (bytes : List ℕ) → ¬ HasRead s items bytes
+failed_unread s true f u items bytes h = not_read h f
+failed_unread s false f u items bytes h = let no : false ≡ true = u in cc
+
+-- ---- a step
+-- a refusal that some bytes show is that of all bytes that begin with them
+pub refused_still : {L : Bounds} {bytes : List ℕ} {items : List FilledItem} {R : Refusal} (later : List ℕ)
+    → EndsFilled base_table L bytes items (refused R) → R.reason ≢ reason.Ended
+    → FilledOutcome base_table L (bytes ++ later) items (refused R)
+refused_still {L = L} {R = R} later (next_refused {f = f} {T = T} z s w r) n =
+    let all = ap (λ (l : List ℕ). l ++ later) w ∙ append_assoc f z later in
+    let still : RefusesFilled base_table L T (length f) (z ++ later) R =
+    filled_shown z [] later (wire_of (items_grown s))
+    (subst (λ y. RefusesFilled base_table L T (length f) y R) (sym (append-nil z)) r) (filled_there r) in
+    record {
+      gives = record {
+        begins = record { prefix = f; rest = z ++ later; table = T; stream = s; whole = all };
+        longest = longest (z ++ later) s all (λ i U b x h k. no_item x h
+            (subst (λ y. RefusesFilled base_table L T (length f) y R) k still));
+      };
+      ends = next_refused (z ++ later) s all still;
+    }
+refused_still later (within_an_item z s w some other) n = absurd (n refl)
+
+-- the types where bytes are refused are those where they lead
+refused_behind : {L : Bounds} {bytes : List ℕ} {items : List FilledItem} {R : Refusal} {U : Table}
+    → RefusesBehind L bytes items R U → LeadsBehind L bytes items U
+refused_behind {L = L} r = record {
+  prefix = r.prefix;
+  rest = r.rest;
+  table = r.table;
+  stream = r.stream;
+  whole = r.whole;
+  types = subst (λ U. LeadsAtMostTo L r.table (length r.prefix) r.rest U) (sym r.refuses.table)
+      (refused_lead r.refuses.refuses);
+}
+
+advances : {s s' : SessionState} {items : List FilledItem} {bytes piece : List ℕ} (step : Step GoItem)
+    {item : Option GoItem} → HasRead s items bytes → step.item ≡ item → AdvancesOver s' items bytes piece step.used item
+    → AdvancesBy go_stepping s s' items bytes piece step
+advances {s' = s'} {items = items} {bytes = bytes} {piece = piece} step h e (over_some some within a) = record {
+  more = [];
+  gives = subst (λ o. GivesItemsOf (λ g i. ItemMeans (types_of s') g i) o []) (sym e) gives_none;
+  after = subst (λ l. HasRead s' l (bytes ++ take step.used piece)) (sym (append-nil items)) a;
+  onward = omega (
+    arith,
+    h.taken,
+    a.taken,
+    length-append bytes (take step.used piece),
+    length-take-le step.used piece within,
+  );
+}
+advances {s' = s'} {bytes = bytes} {piece = piece} step h e (over_item {i = i} some within means a) = record {
+  more = i ∷ [];
+  gives = subst (λ o. GivesItemsOf (λ g i. ItemMeans (types_of s') g i) o (i ∷ [])) (sym e) (gives_one means);
+  after = a;
+  onward = omega (
+    arith,
+    h.taken,
+    a.taken,
+    length-append bytes (take step.used piece),
+    length-take-le step.used piece within,
+  );
+}
+
+pub steps : (s s' : SessionState) (items : List FilledItem) (bytes piece : List ℕ) (result : Result (Step GoItem) Fault)
+    → (h : HasRead s items bytes) → StepAnswers s s' items bytes piece result
+    → StepAnswersBy go_stepping h.table s s' items bytes piece result
+steps s s' items bytes piece (Ok step) h a = advances step h refl a
+steps s s' items bytes piece (Err (fault.Refused R)) h f = (
+  λ rest.
+      let o = refused_still rest f.0.outcome.ends f.0.shown in
+      record { outcome = o; table = table_is (piece ++ rest) (append_assoc bytes piece rest) h o.gives.begins },
+  refused_behind f.1,
+)
+steps s s' items bytes piece (Err fault.Read) h f = absurd f
+steps s s' items bytes piece (Err fault.Memory) h f = gives_all s items bytes h
+steps s s' items bytes piece (Err fault.Failed) h f = absurd f
+
+-- ---- the end
+-- the types where all that was taken leads
+taken_lead : {s : SessionState} {items : List FilledItem} {taken : List ℕ} → HasRead s items taken
+    → LeadsBehind (within_trees (limits_of s)) taken items (types_of s)
+taken_lead a = record {
+  prefix = a.prefix;
+  rest = a.under_way;
+  table = a.table;
+  stream = a.stream;
+  whole = a.whole;
+  types = under_way_lead a.stage;
+}
+
+pub finishes : (s s' : SessionState) (items : List FilledItem) (bytes : List ℕ) (r : Result (Unit {0}) Fault)
+    → types_of s' ≡ types_of s → (h : HasRead s items bytes) → FinishAnswers s s' items bytes r
+    → FinishAnswersBy go_stepping h.table s s' items bytes r
+finishes s s' items bytes (Ok u) same h f = (whole f.0.ends, h.taken)
+  where
+    whole : EndsFilled base_table (within_trees (limits_of s)) bytes items the_end
+        → FilledStream base_table (within_trees (limits_of s)) items bytes (types_of s)
+    whole (at_the_end p) =
+        let one = one_reading h.under_way [] h.stream p (sym h.whole ∙ sym (append-nil bytes)) in
+        subst (λ T. FilledStream base_table (within_trees (limits_of s)) items bytes T)
+        (sym (types_between h.stage one.rest ∙ one.table)) p
+finishes s s' items bytes (Err (fault.Refused R)) same h f = (
+  record { outcome = f.0; table = table_is [] (sym (append-nil bytes)) h f.0.gives.begins },
+  subst (λ U. LeadsBehind (within_trees (limits_of s)) bytes items U) (sym same) (taken_lead h),
+)
+finishes s s' items bytes (Err fault.Read) same h f = f
+finishes s s' items bytes (Err fault.Memory) same h f = f
+finishes s s' items bytes (Err fault.Failed) same h f = f
+
+-- ---- past items of values that stand whole
+pub passes : {s s' : SessionState} {count used : ℕ} {piece : List ℕ} → ReadsItems s s' count used piece
+    → ReadsItemsBy go_stepping s s' count used piece
+passes p = record { given = p.given; counted = p.counted; none = p.none; within = p.within; passed = p.passed }

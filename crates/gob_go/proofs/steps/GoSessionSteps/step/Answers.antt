@@ -1,0 +1,7 @@
+use Rattle.gob_go.proofs.SessionAnswers.{steps}
+use Rattle.gob_go.proofs.steps.GoSessionSteps.step.Goals as goal
+
+pub returns-clause-stepped : goal.returns-clause-stepped
+returns-clause-stepped c = λ items bytes h.
+    steps c.args.self.now c.step.new.self items bytes c.args.piece.now c.step.result h
+    (c.step.ensures.advances items bytes h)

@@ -1,0 +1,69 @@
+//! The session of streams of Go's encoder, as a reader asks it.
+
+use crate::item::GoItem;
+use crate::session::GoSession;
+use gob_num::Memory;
+use gob_stream::{Awaited, Fault, Limits, Passed, ReaderOf, Step, Steps, Whole};
+use gob_types::Table;
+use std::alloc::Global;
+
+/// A reader of one stream of Go's encoder, from its first byte on. Where an item is refused, its definitions in front of
+/// that place are among the types of [`ReaderOf::table`].
+pub type GoReader = ReaderOf<GoSession>;
+
+impl Steps for GoSession {
+    ghost use Rattle.gob_filled.specs.Stream.{FilledItem};
+    ghost use Rattle.gob_go.specs.GoStepping.{go_stepping};
+
+    type Item = GoItem;
+
+    ghost Told = { FilledItem };
+
+    ghost stepping = { go_stepping };
+
+    fn begin(alloc: Global, limits: Limits) -> Result<GoSession, Memory> {
+        GoSession::new(alloc, limits)
+    }
+
+    fn step(&mut self, alloc: Global, piece: &[u8]) -> Result<Step<GoItem>, Fault> {
+        self.step(alloc, piece)
+    }
+
+    fn finish(&mut self) -> Result<(), Fault> {
+        self.finish()
+    }
+
+    fn awaited(&self, piece: &[u8]) -> Option<Awaited> {
+        self.awaited(piece)
+    }
+
+    #[inline(always)]
+    fn whole_value<'a>(&self, piece: &'a [u8]) -> Option<Whole<'a>> {
+        self.whole_value(piece)
+    }
+
+    fn pass(&mut self, item: &[u8]) {
+        self.pass(item);
+    }
+
+    fn pass_values(&mut self, piece: &[u8]) -> Passed {
+        self.pass_values(piece)
+    }
+
+    #[inline(always)]
+    fn has_failed(&self) -> bool {
+        self.has_failed()
+    }
+
+    fn fail(&mut self) {
+        self.fail();
+    }
+
+    fn table(&self) -> &Table {
+        self.table()
+    }
+
+    fn limits(&self) -> Limits {
+        self.limits()
+    }
+}

@@ -1,0 +1,7 @@
+use Rattle.gob_stream.proofs.Reader.SessionAnswers.{finishes}
+use Rattle.gob_stream.proofs.session_steps.SessionSteps.finish.Goals as goal
+
+pub returns-clause-finished : goal.returns-clause-finished
+returns-clause-finished g c = λ items bytes h.
+    finishes g.B.Builder.building c.args.self.now c.finish.new.self items bytes c.finish.result h
+    (c.finish.ensures.finishes items bytes h)
