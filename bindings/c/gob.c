@@ -68,12 +68,12 @@ gob_reader *gob_open(const gob_limits *limits, gob_fault *fault) {
 }
 
 gob_status gob_feed(gob_reader *reader, const void *piece, size_t count, gob_fault *fault) {
-    gob_raw_feed(reader->raw, some_bytes(piece, count), count, fault, &reader->raw);
+    gob_raw_feed(&reader->raw, some_bytes(piece, count), count, fault);
     return fault->status;
 }
 
 gob_status gob_finish(gob_reader *reader, gob_fault *fault) {
-    gob_raw_finish(reader->raw, fault, &reader->raw);
+    gob_raw_finish(&reader->raw, fault);
     return fault->status;
 }
 
@@ -110,8 +110,8 @@ static bool more_room(gob_reader *reader) {
 }
 
 static void hand_out(gob_reader *reader) {
-    gob_raw_take(reader->raw, reader->heads, HEADS, reader->nodes, reader->node_room, reader->bytes, reader->byte_room,
-                 &reader->handed, &reader->raw);
+    gob_raw_take(&reader->raw, reader->heads, HEADS, reader->nodes, reader->node_room, reader->bytes, reader->byte_room,
+                 &reader->handed);
     reader->given = 0;
 }
 
@@ -174,14 +174,14 @@ static size_t type_place(const gob_reader *reader, uint32_t id) {
 static gob_item *asked(gob_reader *reader, uint32_t id) {
     struct raw_handed told;
     gob_node no_node;
-    gob_raw_type(reader->raw, id, &no_node, 0, &nowhere, 0, &told, &reader->raw);
+    gob_raw_type(&reader->raw, id, &no_node, 0, &nowhere, 0, &told);
     if (told.waiting == 0) return NULL;
     size_t node_room = told.next_nodes, byte_room = told.next_bytes;
     gob_item *item = malloc(sizeof *item + node_room * sizeof(gob_node) + byte_room + 1);
     if (item == NULL) return NULL;
     gob_node *nodes = (gob_node *)(item + 1);
     unsigned char *bytes = (unsigned char *)(nodes + node_room);
-    gob_raw_type(reader->raw, id, nodes, node_room, bytes, byte_room, &told, &reader->raw);
+    gob_raw_type(&reader->raw, id, nodes, node_room, bytes, byte_room, &told);
     *item = (gob_item){
         .kind = GOB_DEFINE,
         .id = id,

@@ -1,13 +1,14 @@
 //! The reader of gob streams for C: a static library. Only the layer of C in bindings/c calls its exports. That layer
 //! has the memory functions, the room for items and the public header.
 //!
-//! A reader stands behind a pointer that C keeps. Each call is given the pointer as a [`Handle`], and writes the
-//! pointer that stands for the reader from then on, which has not changed.
+//! A reader stands behind a pointer that C keeps, its [`Handle`]. Each call is lent the handle, takes the reader out of
+//! it, and leaves there the one that it tells of.
 #![tactic(auto)]
 
-ghost use Rattle.std.specs.Prelude.{◌≡◌};
+ghost use Rattle.std.specs.Prelude.{◌≡◌, IfSome, IsSome};
 ghost use Rattle.gob_c.specs.Asked.{asked_bounds};
-ghost use Rattle.gob_c.specs.Calls.{OpenTold, FeedTold, FinishTold, TakeTold, ShapeTold, CheckTold};
+ghost use Rattle.gob_c.specs.Held.{GoesOn};
+ghost use Rattle.gob_c.specs.Calls.{OpenTold, IsNew, FeedTold, FinishTold, TakeTold, ShapeTold, CheckTold};
 
 mod counts;
 mod handle;
@@ -23,22 +24,29 @@ use gob_tool::check_bytes;
 use gob_types::TypeId;
 use handle::Handle;
 use limits::Asked;
+use parts::Parts;
 use std::alloc::Global;
+use std::mem::replace;
 use told::Told;
 
-/// Makes a reader that has taken no byte and keeps to these limits, tells how that ended, and writes the reader's
-/// pointer to `at` where one was made.
+/// Makes a reader that has taken no byte and keeps to these limits, and tells how that ended. The handle holds it where
+/// one was made.
 #[unsafe(no_mangle)]
-pub extern "C" fn gob_raw_open(alloc: Global, asked: &Asked, told: &mut Told, at: &mut *mut u8)
-    ensures { OpenTold (asked_bounds asked.now) told.new }
+pub extern "C" fn gob_raw_open(
+    alloc: Global,
+    asked: &Asked,
+    told: &mut Told,
+    reader: &mut Handle,
+)
+    ensures { OpenTold (asked_bounds asked.now) told.new reader.old.value reader.new.value }
 {
     let Some(limits) = asked.limits() else {
         *told = Told::plain(4);
         return;
     };
     match opened(alloc, limits) {
-        Some(reader) => {
-            *at = reader;
+        Some(boxed) => {
+            give(boxed, reader);
             *told = Told::plain(0);
         }
         None => *told = Told::plain(2),
@@ -48,69 +56,71 @@ pub extern "C" fn gob_raw_open(alloc: Global, asked: &Asked, told: &mut Told, at
 /// Takes the next piece of the stream, and tells how that ended. The items that are whole with it wait from then on,
 /// also those before a fault.
 #[unsafe(no_mangle)]
-pub extern "C" fn gob_raw_feed(
-    alloc: Global,
-    reader: Handle,
-    piece: &[u8],
-    told: &mut Told,
-    at: &mut *mut u8,
-)
-    ensures { FeedTold reader.value piece.now told.new }
+pub extern "C" fn gob_raw_feed(alloc: Global, reader: &mut Handle, piece: &[u8], told: &mut Told)
+    requires { IsSome reader.old.value }
+    ensures { GoesOn reader.old.value reader.new.value (λ old new. FeedTold old new piece.now told.new) }
 {
-    let mut boxed = taken(reader);
+    let mut boxed = taken(alloc, reader);
     *told = Told::of(boxed.feed(alloc, piece));
-    *at = leak(boxed);
+    give(boxed, reader);
 }
 
 /// Says that no byte follows, and tells how that ended.
 #[unsafe(no_mangle)]
-pub extern "C" fn gob_raw_finish(reader: Handle, told: &mut Told, at: &mut *mut u8)
-    ensures { FinishTold reader.value told.new }
+pub extern "C" fn gob_raw_finish(alloc: Global, reader: &mut Handle, told: &mut Told)
+    requires { IsSome reader.old.value }
+    ensures { GoesOn reader.old.value reader.new.value (λ old new. FinishTold old new told.new) }
 {
-    let mut boxed = taken(reader);
+    let mut boxed = taken(alloc, reader);
     *told = Told::of(boxed.finish());
-    *at = leak(boxed);
+    give(boxed, reader);
 }
 
 /// Hands out the items that wait, as many as there is room for, and tells how many, and how much room the next needs.
 #[unsafe(no_mangle)]
 pub extern "C" fn gob_raw_take(
-    reader: Handle,
+    alloc: Global,
+    reader: &mut Handle,
     heads: &mut [Head],
     nodes: &mut [FlatNode],
     pool: &mut [u8],
     told: &mut HandedOut,
-    at: &mut *mut u8,
 )
-    ensures { TakeTold reader.value (record { heads = heads.old; nodes = nodes.old; pool = pool.old })
-        (record { heads = heads.new; nodes = nodes.new; pool = pool.new }) told.new }
+    requires { IsSome reader.old.value }
+    ensures { GoesOn reader.old.value reader.new.value (λ old new. TakeTold old new
+        (record { heads = heads.old; nodes = nodes.old; pool = pool.old })
+        (record { heads = heads.new; nodes = nodes.new; pool = pool.new }) told.new) }
 {
-    let mut boxed = taken(reader);
+    let mut boxed = taken(alloc, reader);
     *told = boxed.take(heads, nodes, pool);
-    *at = leak(boxed);
+    give(boxed, reader);
 }
 
 /// Hands out the definition of a type, where the stream has one by now and there is room for it, and tells whether.
 #[unsafe(no_mangle)]
 pub extern "C" fn gob_raw_type(
-    reader: Handle,
+    alloc: Global,
+    reader: &mut Handle,
     id: u64,
     nodes: &mut [FlatNode],
     pool: &mut [u8],
     told: &mut HandedOut,
-    at: &mut *mut u8,
 )
-    ensures { ShapeTold reader.value (record { 0 = id }) nodes.old nodes.new pool.old pool.new told.new }
+    requires { IsSome reader.old.value }
+    ensures { GoesOn reader.old.value reader.new.value (λ old new. ShapeTold old new (record { 0 = id })
+        nodes.old nodes.new pool.old pool.new told.new) }
 {
-    let boxed = taken(reader);
+    let boxed = taken(alloc, reader);
     *told = boxed.shape(TypeId(id), nodes, pool);
-    *at = leak(boxed);
+    give(boxed, reader);
 }
 
 /// Lets the reader go.
 #[unsafe(no_mangle)]
-pub extern "C" fn gob_raw_close(reader: Handle) {
-    drop(taken(reader));
+pub extern "C" fn gob_raw_close(reader: Handle)
+    requires { IsSome reader.value }
+{
+    drop(reader.into_parts().into_box());
 }
 
 /// Goes through a stream that is held in memory, and keeps nothing of it. What there is in it is written to `counts`,
@@ -141,26 +151,25 @@ pub extern "C" fn gob_raw_check(
     }
 }
 
-// The pointer of a new reader, on the heap; None for want of memory.
-fn opened(alloc: Global, limits: Limits) -> Option<*mut u8> {
-    match Reader::new(alloc, limits) {
-        Ok(reader) => match Box::new(alloc, reader) {
-            Ok(boxed) => Some(leak(boxed)),
-            Err(_) => None,
-        },
-        Err(_) => None,
-    }
-}
-
-// The pointer of a reader, which C keeps and gives to the next call.
-fn leak(reader: Box<Reader>) -> *mut u8 {
-    let (at, _) = Box::into_raw_with_allocator(reader);
-    at as *mut u8
-}
-
-// The reader that C gives back.
-fn taken(reader: Handle) -> Box<Reader>
-    ensures { result.value ≡ reader.value }
+// A new reader, on the heap; None for want of memory.
+fn opened(alloc: Global, limits: Limits) -> Option<Box<Reader>>
+    ensures { IfSome result (λ boxed. IsNew boxed.value limits) }
 {
-    reader.into_parts().into_box()
+    let reader = Reader::new(alloc, limits).ok()?;
+    Box::new(alloc, reader).ok()
+}
+
+// The reader that the handle holds, which holds none then.
+fn taken(alloc: Global, handle: &mut Handle) -> Box<Reader>
+    requires { IsSome handle.old.value }
+    ensures { handle.old.value ≡ Some result.value }
+{
+    replace(handle, Handle::empty(alloc)).into_parts().into_box()
+}
+
+// Gives the handle a reader.
+fn give(reader: Box<Reader>, handle: &mut Handle)
+    ensures { handle.new.value ≡ Some reader.value }
+{
+    *handle = Handle::of(Parts::of(reader));
 }

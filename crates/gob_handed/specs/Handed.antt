@@ -1,5 +1,5 @@
 -- What is handed out of items: heads, nodes and bytes. (docs/LIBRARY.md, Flat nodes: this project's own.)
-use Rattle.std.specs.Prelude.{ℕ, List, [], ◌∷◌, ◌++◌, length, map}
+use Rattle.std.specs.Prelude.{ℕ, ◌≤◌, List, [], ◌∷◌, ◌++◌, length, map}
 use Rattle.gob_types.specs.declared.id.TypeId.{TypeId}
 use Rattle.gob_types.specs.Table.{Table, shape_of}
 use Rattle.gob_stream.specs.declared.item.Item.{Item}
@@ -7,6 +7,7 @@ use Rattle.gob_stream.specs.declared.item.Item.TheVariants as item
 use Rattle.gob_tape.specs.Flat.{Flat}
 use Rattle.gob_tape.specs.declared.flat.FlatNode.{FlatNode}
 use Rattle.gob_tape.specs.FlatNodes.{flat}
+use Rattle.gob_handed.specs.declared.head.HandedOut.{HandedOut}
 use Rattle.gob_handed.specs.declared.head.Head.{Head}
 use Rattle.gob_handed.specs.Definition.{shape_nodes, shape_bytes}
 
@@ -48,3 +49,7 @@ pub data AreHanded (T : Table) : List (Item Flat) → List Head → List FlatNod
       → AreHanded T is hs ns bs
       → AreHanded T (is ++ i ∷ []) (hs ++ item_head T i (length ns) (length bs) ∷ [])
       (ns ++ item_nodes T i) (bs ++ item_bytes T i)
+
+-- no more is told than there was room for: so many heads, nodes and bytes
+abbrev pub IsWithin : HandedOut → (heads nodes bytes : ℕ) → Type 0
+IsWithin told heads nodes bytes = (told.items ≤ heads) × (told.nodes ≤ nodes) × (told.bytes ≤ bytes)
