@@ -36,6 +36,7 @@ struct gob_reader {
     size_t node_room, byte_room;
     struct raw_handed handed; /* what stands in the room */
     uint64_t given;           /* how many of these items gob_next has given */
+    bool lacks;               /* an item waits for which there was no memory */
     gob_item **types;         /* the definitions that were asked for, by their ids */
     size_t type_count, type_room;
 };
@@ -45,6 +46,12 @@ static const gob_limits standard = {67108864, 1000, 10000, 68719476736};
 /* The archive takes no NULL for bytes, also where there are none. */
 static const unsigned char *some_bytes(const void *bytes, size_t count) {
     return count != 0 ? bytes : &nowhere;
+}
+
+/* How a call ended that wasn't passed on. */
+static gob_status ended(gob_status status, gob_fault *fault) {
+    *fault = (gob_fault){.status = status};
+    return status;
 }
 
 static bool has_room(gob_reader *reader) {
@@ -57,8 +64,10 @@ static bool has_room(gob_reader *reader) {
 }
 
 gob_reader *gob_open(const gob_limits *limits, gob_fault *fault) {
+    gob_fault unseen;
     gob_reader *reader = calloc(1, sizeof *reader);
-    *fault = (gob_fault){.status = GOB_NO_MEMORY};
+    if (fault == NULL) fault = &unseen;
+    ended(GOB_NO_MEMORY, fault);
     if (reader != NULL && has_room(reader)) {
         gob_raw_open(limits != NULL ? limits : &standard, fault, &reader->raw);
     }
@@ -68,11 +77,18 @@ gob_reader *gob_open(const gob_limits *limits, gob_fault *fault) {
 }
 
 gob_status gob_feed(gob_reader *reader, const void *piece, size_t count, gob_fault *fault) {
+    gob_fault unseen;
+    if (fault == NULL) fault = &unseen;
+    if (reader == NULL || (piece == NULL && count != 0)) return ended(GOB_MISUSED, fault);
     gob_raw_feed(&reader->raw, some_bytes(piece, count), count, fault);
     return fault->status;
 }
 
 gob_status gob_finish(gob_reader *reader, gob_fault *fault) {
+    gob_fault unseen;
+    if (fault == NULL) fault = &unseen;
+    if (reader == NULL) return ended(GOB_MISUSED, fault);
+    if (reader->lacks) return ended(GOB_NO_MEMORY, fault);
     gob_raw_finish(&reader->raw, fault);
     return fault->status;
 }
@@ -119,14 +135,13 @@ static void hand_out(gob_reader *reader) {
 static int some_items(gob_reader *reader) {
     if (reader->given < reader->handed.items) return 1;
     hand_out(reader);
-    if (reader->handed.items == 0 && reader->handed.waiting != 0) {
-        if (!more_room(reader)) return -1;
-        hand_out(reader);
-    }
-    return reader->handed.items != 0 ? 1 : reader->handed.waiting != 0 ? -1 : 0;
+    if (reader->handed.items == 0 && reader->handed.waiting != 0 && more_room(reader)) hand_out(reader);
+    reader->lacks = reader->handed.items == 0 && reader->handed.waiting != 0;
+    return reader->lacks ? -1 : reader->handed.items != 0;
 }
 
 int gob_take(gob_reader *reader, gob_batch *batch) {
+    if (reader == NULL || batch == NULL) return -1;
     int some = some_items(reader);
     *batch = (gob_batch){0};
     if (some != 1) return some;
@@ -143,6 +158,7 @@ int gob_take(gob_reader *reader, gob_batch *batch) {
 }
 
 int gob_next(gob_reader *reader, gob_item *item) {
+    if (reader == NULL || item == NULL) return -1;
     int some = some_items(reader);
     if (some != 1) return some;
     const gob_head *head = &reader->heads[reader->given++];
@@ -204,6 +220,7 @@ static bool has_type_room(gob_reader *reader) {
 }
 
 const gob_item *gob_type(gob_reader *reader, uint32_t id) {
+    if (reader == NULL) return NULL;
     size_t place = type_place(reader, id);
     if (place < reader->type_count && reader->types[place]->id == id) return reader->types[place];
     if (!has_type_room(reader)) return NULL;
@@ -219,6 +236,11 @@ const gob_item *gob_type(gob_reader *reader, uint32_t id) {
 /* ---- the rest */
 
 gob_status gob_check(const void *bytes, size_t count, const gob_limits *limits, gob_counts *counts, gob_fault *fault) {
+    gob_fault unseen;
+    gob_counts uncounted;
+    if (fault == NULL) fault = &unseen;
+    if (counts == NULL) counts = &uncounted;
+    if (bytes == NULL && count != 0) return ended(GOB_MISUSED, fault);
     gob_raw_check(some_bytes(bytes, count), count, limits != NULL ? limits : &standard, counts, fault);
     return fault->status;
 }

@@ -6,17 +6,24 @@
  *
  *     gob_fault fault;
  *     gob_item item;
+ *     int some = 0;
  *     gob_reader *reader = gob_open(NULL, &fault);
- *     while (fault.status == GOB_OK && (count = fread(piece, 1, sizeof piece, stdin)) > 0) {
+ *     while (fault.status == GOB_OK && some == 0 && (count = fread(piece, 1, sizeof piece, stdin)) > 0) {
  *         gob_feed(reader, piece, count, &fault);
- *         while (gob_next(reader, &item) == 1) use(&item);      (also the items before a fault)
+ *         while ((some = gob_next(reader, &item)) == 1) use(&item);      (also the items before a fault)
  *     }
- *     if (fault.status == GOB_OK) gob_finish(reader, &fault);
+ *     if (fault.status == GOB_OK || some < 0) gob_finish(reader, &fault);
  *     gob_close(reader);
+ *
+ * Behind it fault.status says how that ended: GOB_OK exactly where all of the bytes are a stream, and each item was used.
  *
  * Ownership. The caller owns the reader and lets it go by gob_close, once. The library keeps no pointer that it is
  * given: a piece may be reused as soon as gob_feed returns. What it hands out it owns: see gob_next, gob_take and
  * gob_type for how long that stands. All memory comes from malloc: 1.5 MB for a reader, and more for larger items.
+ *
+ * Misuse. NULL for a reader, as gob_close leaves none, and NULL for a piece that has a length are answered: GOB_MISUSED,
+ * -1 or NULL. Nothing can tell a reader that was let go, one that another thread is in, a piece that is shorter than its
+ * length says, or an item whose time is over.
  *
  * Threads. A reader stays on the thread that opened it. Different readers may be used in different threads at once. No
  * call may be made from a signal handler.
@@ -55,11 +62,12 @@ typedef enum gob_status {
     GOB_REFUSED = 1,    /* the bytes are no gob stream: reason, place and seen say why */
     GOB_NO_MEMORY = 2,  /* malloc had none */
     GOB_FAILED = 3,     /* the reader met a fault in a call before, and reads no more */
-    GOB_BAD_LIMITS = 4  /* the depth is 0 or above 65536, or the stream above 2^63 - 1 */
+    GOB_BAD_LIMITS = 4, /* the depth is 0 or above 65536, or the stream above 2^63 - 1 */
+    GOB_MISUSED = 5     /* the call was given NULL for a reader, or for bytes that have a length; nothing was done */
 } gob_status;
 
 /* How a call ended. Offsets are those of the stream, in bytes from 0, whatever pieces it came in. Each call that takes a
- * gob_fault writes all of it, and takes no NULL for it. */
+ * gob_fault writes all of it; NULL may stand for it, where the answer is enough. */
 typedef struct gob_fault {
     uint32_t status; /* a gob_status */
     uint32_t reason; /* where refused, 1 to 22: why (gob_reason_name); else 0 */
@@ -179,16 +187,19 @@ GOB_API gob_reader *gob_open(const gob_limits *limits, gob_fault *fault);
  * fault->status. */
 GOB_API gob_status gob_feed(gob_reader *reader, const void *piece, size_t count, gob_fault *fault);
 
-/* Says that no byte follows. GOB_OK exactly between two items; else refused, with the reason Ended. The answer is
- * fault->status. */
+/* Says that no byte follows. GOB_OK exactly between two items; else refused, with the reason Ended. GOB_NO_MEMORY while an
+ * item waits for which gob_next or gob_take had no memory: nothing has changed then, and both can be tried again. The
+ * answer is fault->status. */
 GOB_API gob_status gob_finish(gob_reader *reader, gob_fault *fault);
 
 /* The next item that is whole. 1: it is in `item`, whose pointers stand until the next gob_next, gob_take or gob_close of
- * this reader. 0: there is none until more is fed. -1: there is no memory for it, and it is kept. */
+ * this reader. 0: there is none until more is fed. -1: there is no memory for it, and it is kept; so it is where NULL was
+ * given. */
 GOB_API int gob_next(gob_reader *reader, gob_item *item);
 
 /* The definition of a type that the stream has given so far, or of one of the types 16 to 24 of which descriptions are
- * made. NULL where there is none, and where there is no memory. It stands until gob_close. */
+ * made. NULL where there is none, and where there is no memory: of a type that a value has, or that a definition names
+ * which a value has, only there. It stands until gob_close. */
 GOB_API const gob_item *gob_type(gob_reader *reader, uint32_t id);
 
 /* Lets the reader go, with all that it handed out. NULL is let pass. */
@@ -219,7 +230,7 @@ typedef struct gob_batch {
 
 /* The next items that are whole, some thousands at the most. 1: they are in `batch`, whose pointers stand until the next
  * gob_next, gob_take or gob_close of this reader. 0: there is none until more is fed. -1: there is no memory for the
- * next one, and it is kept. */
+ * next one, and it is kept; so it is where NULL was given. */
 GOB_API int gob_take(gob_reader *reader, gob_batch *batch);
 
 /* ---- Checking */
@@ -231,8 +242,8 @@ typedef struct gob_counts {
 } gob_counts;
 
 /* Goes through a whole stream that is held in memory, and keeps nothing of it. `bytes` may be NULL where there are none,
- * and `limits` for the standard ones. `counts` is written where the answer, which is fault->status, is GOB_OK: exactly
- * where all of the bytes are a stream. */
+ * `limits` for the standard ones, and `counts` where the answer is enough. `counts` is written where that, fault->status,
+ * is GOB_OK: exactly where all of the bytes are a stream. */
 GOB_API gob_status gob_check(const void *bytes, size_t count, const gob_limits *limits, gob_counts *counts,
                              gob_fault *fault);
 

@@ -1,4 +1,5 @@
-/* Prints the values of a gob stream, as Go would write them: print <STREAM
+/* Prints the values of a gob stream, as Go would write them: print <STREAM. The status is 0 exactly where all of the bytes
+ * are a stream, and each of its values was printed.
  *
  *     cc print.c $(pkg-config --cflags --libs gob) -o print
  */
@@ -6,6 +7,7 @@
 
 #include <inttypes.h>
 #include <stdio.h>
+#include <stdlib.h>
 
 static void put_bytes(const gob_item *item, const gob_node *node) {
     fwrite(gob_bytes_of(item, node), 1, node->second, stdout);
@@ -15,31 +17,38 @@ static void put_hex(const gob_item *item, const gob_node *node) {
     for (uint64_t i = 0; i < node->second; i++) printf("%02x", gob_bytes_of(item, node)[i]);
 }
 
-/* The node of a definition that names the type of a part. NULL where there was no memory for the definition. */
-static const gob_node *named(const gob_item *definition, uint64_t place) {
-    return definition != NULL ? &definition->nodes[place] : NULL;
+static int out_of_memory(void) {
+    fflush(stdout);
+    fprintf(stderr, "print: out of memory\n");
+    return 2;
+}
+
+/* The definition of a type that a value has. There is one: only memory may be wanting. */
+static const gob_item *definition_of(gob_reader *reader, uint32_t type) {
+    const gob_item *definition = gob_type(reader, type);
+    if (definition == NULL) exit(out_of_memory());
+    return definition;
 }
 
 static const gob_node *put(gob_reader *reader, const gob_item *item, const gob_node *node, uint32_t type);
 
 /* The parts of a part, and what stands behind them. */
 static const gob_node *put_parts(gob_reader *reader, const gob_item *item, const gob_node *node, uint32_t type) {
-    const gob_item *definition = gob_type(reader, type);
+    const gob_item *definition = definition_of(reader, type);
     const gob_node *part = node + 1;
-    if (definition == NULL) return printf("..."), gob_after(node);
     for (uint64_t i = 0; i < node->first; i++) {
         if (i > 0) printf(", ");
         if (node->kind == GOB_STRUCT) {
-            const gob_node *field = named(definition, 1 + part->number);
+            const gob_node *field = &definition->nodes[1 + part->number];
             put_bytes(definition, field);
             printf(": ");
             part = put(reader, item, part, field->number);
             continue;
         }
-        part = put(reader, item, part, named(definition, 1)->number);
+        part = put(reader, item, part, definition->nodes[1].number);
         if (node->kind == GOB_MAP) {
             printf(": ");
-            part = put(reader, item, part, named(definition, 2)->number);
+            part = put(reader, item, part, definition->nodes[2].number);
         }
     }
     return part;
@@ -71,17 +80,19 @@ int main(void) {
     size_t count;
     gob_fault fault;
     gob_item item;
+    int some = 0;
     gob_reader *reader = gob_open(NULL, &fault);
-    while (fault.status == GOB_OK && (count = fread(piece, 1, sizeof piece, stdin)) > 0) {
+    while (fault.status == GOB_OK && some == 0 && (count = fread(piece, 1, sizeof piece, stdin)) > 0) {
         gob_feed(reader, piece, count, &fault);
-        while (gob_next(reader, &item) == 1) {
+        while ((some = gob_next(reader, &item)) == 1) {
             if (item.kind != GOB_VALUE) continue;
             put(reader, &item, item.nodes, item.id);
             putchar('\n');
         }
     }
-    if (fault.status == GOB_OK) gob_finish(reader, &fault);
+    if (fault.status == GOB_OK || some < 0) gob_finish(reader, &fault);
     gob_close(reader);
+    if (fault.status == GOB_NO_MEMORY) return out_of_memory();
     if (fault.status == GOB_REFUSED) {
         fprintf(stderr, "print: %s at byte %" PRIu64 "\n", gob_reason_name(fault.reason), fault.place);
     }

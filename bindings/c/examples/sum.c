@@ -1,4 +1,5 @@
-/* Sums a field of the structs in a gob stream, where it is an int: sum FIELD <STREAM. The sum wraps around.
+/* Sums a field of the structs in a gob stream, where it is an int: sum FIELD <STREAM. The sum wraps around. It is printed
+ * where all of the bytes are a stream, and each of its values was looked at: then the status is 0.
  *
  *     cc sum.c $(pkg-config --cflags --libs gob) -o sum
  */
@@ -13,10 +14,9 @@ static int has_name(const gob_item *definition, const gob_node *node, const char
     return node->second == strlen(name) && memcmp(gob_bytes_of(definition, node), name, node->second) == 0;
 }
 
-/* The int of that field in a value, or 0: a field that is absent is zero. */
-static int64_t field_of(gob_reader *reader, const gob_item *value, const char *name) {
-    const gob_item *definition = gob_type(reader, value->id);
-    if (value->nodes->kind != GOB_STRUCT || definition == NULL) return 0;
+/* The int of that field in a value of this type, or 0: a field that is absent is zero. */
+static int64_t field_of(const gob_item *definition, const gob_item *value, const char *name) {
+    if (value->nodes->kind != GOB_STRUCT) return 0;
     const gob_node *end = value->nodes + value->count;
     for (const gob_node *field = value->nodes + 1; field != end; field = gob_after(field)) {
         if (field->kind == GOB_INT && has_name(definition, &definition->nodes[1 + field->number], name)) {
@@ -26,22 +26,35 @@ static int64_t field_of(gob_reader *reader, const gob_item *value, const char *n
     return 0;
 }
 
+/* Adds the field of each value that is whole: 0, or -1 for want of memory. */
+static int add(gob_reader *reader, const char *name, uint64_t *sum) {
+    gob_item item;
+    int some;
+    while ((some = gob_next(reader, &item)) == 1) {
+        if (item.kind != GOB_VALUE) continue;
+        const gob_item *definition = gob_type(reader, item.id);
+        if (definition == NULL) return -1;
+        *sum += (uint64_t)field_of(definition, &item, name);
+    }
+    return some;
+}
+
 int main(int argc, char **argv) {
     unsigned char piece[65536];
     size_t count;
     uint64_t sum = 0;
+    int some = 0;
     gob_fault fault;
-    gob_item item;
     if (argc != 2) return fprintf(stderr, "usage: sum FIELD <STREAM\n"), 2;
     gob_reader *reader = gob_open(NULL, &fault);
-    while (fault.status == GOB_OK && (count = fread(piece, 1, sizeof piece, stdin)) > 0) {
+    while (fault.status == GOB_OK && some == 0 && (count = fread(piece, 1, sizeof piece, stdin)) > 0) {
         gob_feed(reader, piece, count, &fault);
-        while (gob_next(reader, &item) == 1) {
-            if (item.kind == GOB_VALUE) sum += (uint64_t)field_of(reader, &item, argv[1]);
-        }
+        some = add(reader, argv[1], &sum);
     }
     if (fault.status == GOB_OK) gob_finish(reader, &fault);
     gob_close(reader);
+    if (some < 0 || fault.status == GOB_NO_MEMORY) return fprintf(stderr, "sum: out of memory\n"), 2;
+    if (fault.status != GOB_OK) return fprintf(stderr, "sum: %s\n", gob_reason_name(fault.reason)), 1;
     printf("%" PRId64 "\n", (int64_t)sum);
-    return fault.status != GOB_OK;
+    return 0;
 }

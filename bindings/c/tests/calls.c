@@ -156,8 +156,29 @@ static void readers_are_let_go(void) {
     }
 }
 
+/* NULL for what no call can do without. */
+static void misuse_is_due(void) {
+    gob_fault fault;
+    gob_item item = {.count = 7};
+    gob_batch batch = {.items = 7};
+    gob_counts counts = {7, 7};
+    DUE(gob_feed(NULL, point, sizeof point, &fault) == GOB_MISUSED && is_fault(&fault, GOB_MISUSED, 0, 0, 0, 0));
+    DUE(gob_finish(NULL, &fault) == GOB_MISUSED && is_fault(&fault, GOB_MISUSED, 0, 0, 0, 0));
+    DUE(gob_next(NULL, &item) == -1 && item.count == 7 && gob_take(NULL, &batch) == -1 && batch.items == 7);
+    DUE(gob_type(NULL, 65) == NULL);
+    DUE(gob_check(NULL, 1, NULL, &counts, &fault) == GOB_MISUSED && counts.items == 7);
+    gob_reader *reader = gob_open(NULL, NULL);
+    DUE(gob_feed(reader, NULL, 1, &fault) == GOB_MISUSED && gob_feed(reader, NULL, 1, NULL) == GOB_MISUSED);
+    DUE(gob_feed(reader, point, sizeof point, NULL) == GOB_OK);
+    DUE(gob_next(reader, NULL) == -1 && gob_take(reader, NULL) == -1);
+    DUE(gob_next(reader, &item) == 1 && item.kind == GOB_DEFINE && gob_finish(reader, NULL) == GOB_OK);
+    DUE(gob_check(point, sizeof point, NULL, NULL, NULL) == GOB_OK);
+    gob_close(reader);
+}
+
 int main(void) {
     items_are_due();
+    misuse_is_due();
     batches_are_due();
     faults_are_due();
     limits_are_due();
