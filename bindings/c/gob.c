@@ -247,6 +247,8 @@ gob_status gob_check(const void *bytes, size_t count, const gob_limits *limits, 
 
 uint32_t gob_abi(void) { return GOB_ABI; }
 
+const char *gob_version(void) { return GOB_VERSION; }
+
 const char *gob_reason_name(uint32_t reason) {
     static const char *const names[] = {
         "",          "BadHead",      "NotMinimal",   "ItemTooLong",   "StreamTooLong", "Short",
@@ -255,4 +257,33 @@ const char *gob_reason_name(uint32_t reason) {
         "KindCount", "WrongId",      "BadReference", "BadLength",     "Ended",
     };
     return reason < sizeof names / sizeof *names ? names[reason] : "";
+}
+
+const char *gob_reason_text(uint32_t reason) {
+    static const char *const texts[] = {
+        "",
+        "No number begins with this byte.",
+        "This number is spelled in more bytes than it needs.",
+        "More bytes are announced here than the limit allows, or what is around them.",
+        "The stream would be longer than 64 GiB.",
+        "The item ends here, and its value isn't complete.",
+        "The value is complete here, and its item goes on.",
+        "A type is defined under a number that no type may have.",
+        "A type is defined under a number that has one already.",
+        "More than 10,000 types are defined.",
+        "A value has a type that isn't defined, or leads to one that isn't.",
+        "A value has a type of arrays that hold themselves, of which there is no value.",
+        "Before a value that is no struct a byte other than 0 stands.",
+        "A bool is neither 0 nor 1.",
+        "An array has another length than its type says.",
+        "A struct has no such field.",
+        "An interface holds a value here.",
+        "Parts lie in one another deeper than the limit allows.",
+        "A definition gives no kind of type, or more than one.",
+        "A definition names another number than the type that it defines.",
+        "A definition leads to a number that no type can have.",
+        "A definition gives an array a length below 0.",
+        "The file ends within an item.",
+    };
+    return reason < sizeof texts / sizeof *texts ? texts[reason] : "";
 }

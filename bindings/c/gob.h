@@ -55,6 +55,10 @@ extern "C" {
 /* GOB_ABI of the library that was found, to be compared with the header's. */
 GOB_API uint32_t gob_abi(void);
 
+/* The version that this header is of, and the version of the library that was found. It is never freed. */
+#define GOB_VERSION "0.1.0"
+GOB_API const char *gob_version(void);
+
 /* ---- How a call ends */
 
 typedef enum gob_status {
@@ -70,18 +74,49 @@ typedef enum gob_status {
  * gob_fault writes all of it; NULL may stand for it, where the answer is enough. */
 typedef struct gob_fault {
     uint32_t status; /* a gob_status */
-    uint32_t reason; /* where refused, 1 to 22: why (gob_reason_name); else 0 */
+    uint32_t reason; /* where refused: why, GOB_REASON_BAD_HEAD or another; else 0 */
     uint64_t id;     /* the type id that the reason speaks of, where gob_speaks_of_id says so; else 0 */
     uint64_t place;  /* where refused: the first refused byte; else 0 */
     uint64_t seen;   /* where refused: how many bytes of the stream show it; else 0 */
 } gob_fault;
 
+/* Why bytes are refused. */
+enum {
+    GOB_REASON_BAD_HEAD = 1,
+    GOB_REASON_NOT_MINIMAL = 2,
+    GOB_REASON_ITEM_TOO_LONG = 3,
+    GOB_REASON_STREAM_TOO_LONG = 4,
+    GOB_REASON_SHORT = 5,
+    GOB_REASON_EXTRA = 6,
+    GOB_REASON_RESERVED_TYPE = 7,
+    GOB_REASON_DEFINED_TWICE = 8,
+    GOB_REASON_TOO_MANY_TYPES = 9,
+    GOB_REASON_UNDEFINED_TYPE = 10,
+    GOB_REASON_BOTTOMLESS = 11,
+    GOB_REASON_SINGLE_TAG = 12,
+    GOB_REASON_BOOL = 13,
+    GOB_REASON_ARRAY_COUNT = 14,
+    GOB_REASON_FIELD_NUMBER = 15,
+    GOB_REASON_INTERFACE_VALUE = 16,
+    GOB_REASON_TOO_DEEP = 17,
+    GOB_REASON_KIND_COUNT = 18,
+    GOB_REASON_WRONG_ID = 19,
+    GOB_REASON_BAD_REFERENCE = 20,
+    GOB_REASON_BAD_LENGTH = 21,
+    GOB_REASON_ENDED = 22
+};
+
 /* The name of a reason: "BadHead" for 1, and so on; "" for any other number. It is never freed. */
 GOB_API const char *gob_reason_name(uint32_t reason);
 
-/* Whether a reason speaks of a type id, which may be 0: ReservedType, DefinedTwice, UndefinedType, Bottomless. */
+/* What is wrong, in a sentence: "No number begins with this byte." for 1, as `gob why` says it; "" for any other number.
+ * It is never freed. */
+GOB_API const char *gob_reason_text(uint32_t reason);
+
+/* Whether a reason speaks of a type id, which may be 0. */
 static inline int gob_speaks_of_id(uint32_t reason) {
-    return reason == 7 || reason == 8 || reason == 10 || reason == 11;
+    return reason == GOB_REASON_RESERVED_TYPE || reason == GOB_REASON_DEFINED_TWICE ||
+           reason == GOB_REASON_UNDEFINED_TYPE || reason == GOB_REASON_BOTTOMLESS;
 }
 
 /* ---- Parts of values, and definitions */
@@ -164,6 +199,51 @@ static inline const gob_node *gob_after(const gob_node *node) {
     return node + (node->kind >= GOB_LIST && node->kind <= GOB_STRUCT ? node->second : 1);
 }
 
+/* The field of this name in a struct, whose type has this definition. NULL where it is absent, as a field that is zero
+ * is, and where the node is no struct, or the type has no such field. */
+static inline const gob_node *gob_field(const gob_item *definition, const gob_node *node, const char *name) {
+    if (node->kind != GOB_STRUCT) return NULL;
+    size_t size = strlen(name);
+    const gob_node *end = gob_after(node);
+    for (const gob_node *field = node + 1; field != end; field = gob_after(field)) {
+        const gob_node *named = &definition->nodes[1 + field->number];
+        if (named->second == size && memcmp(gob_bytes_of(definition, named), name, size) == 0) return field;
+    }
+    return NULL;
+}
+
+/* What a part is: 1 where it is a bool, an int, a uint or a float, which is written then; else 0, also of NULL. */
+static inline int gob_as_bool(const gob_node *node, int *is) {
+    if (node == NULL || node->kind != GOB_BOOL) return 0;
+    *is = node->first != 0;
+    return 1;
+}
+
+static inline int gob_as_int(const gob_node *node, int64_t *number) {
+    if (node == NULL || node->kind != GOB_INT) return 0;
+    *number = gob_int_of(node);
+    return 1;
+}
+
+static inline int gob_as_uint(const gob_node *node, uint64_t *number) {
+    if (node == NULL || node->kind != GOB_UINT) return 0;
+    *number = node->first;
+    return 1;
+}
+
+static inline int gob_as_float(const gob_node *node, double *number) {
+    if (node == NULL || node->kind != GOB_FLOAT) return 0;
+    *number = gob_float_of(node);
+    return 1;
+}
+
+/* The bytes of a string, which end with no 0, and how many they are; NULL where the part is none. */
+static inline const char *gob_as_text(const gob_item *item, const gob_node *node, size_t *size) {
+    if (node == NULL || node->kind != GOB_STRING) return NULL;
+    *size = node->second;
+    return (const char *)gob_bytes_of(item, node);
+}
+
 /* ---- Reading */
 
 /* What a stream may have. What goes beyond is refused. */
@@ -187,8 +267,8 @@ GOB_API gob_reader *gob_open(const gob_limits *limits, gob_fault *fault);
  * fault->status. */
 GOB_API gob_status gob_feed(gob_reader *reader, const void *piece, size_t count, gob_fault *fault);
 
-/* Says that no byte follows. GOB_OK exactly between two items; else refused, with the reason Ended. GOB_NO_MEMORY while an
- * item waits for which gob_next or gob_take had no memory: nothing has changed then, and both can be tried again. The
+/* Says that no byte follows. GOB_OK exactly between two items; else refused, with the reason Ended. GOB_NO_MEMORY while
+ * an item waits for which gob_next or gob_take had no memory: nothing has changed then, and both can be tried again. The
  * answer is fault->status. */
 GOB_API gob_status gob_finish(gob_reader *reader, gob_fault *fault);
 

@@ -19,5 +19,7 @@ void free(void *at);
 void *memcpy(void *to, const void *from, size_t count);
 void *memmove(void *to, const void *from, size_t count);
 void *memset(void *to, int byte, size_t count);
+int memcmp(const void *one, const void *other, size_t count);
+size_t strlen(const char *text);
 
 #endif

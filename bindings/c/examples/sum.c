@@ -7,24 +7,6 @@
 
 #include <inttypes.h>
 #include <stdio.h>
-#include <string.h>
-
-/* Whether a definition's node has this name. */
-static int has_name(const gob_item *definition, const gob_node *node, const char *name) {
-    return node->second == strlen(name) && memcmp(gob_bytes_of(definition, node), name, node->second) == 0;
-}
-
-/* The int of that field in a value of this type, or 0: a field that is absent is zero. */
-static int64_t field_of(const gob_item *definition, const gob_item *value, const char *name) {
-    if (value->nodes->kind != GOB_STRUCT) return 0;
-    const gob_node *end = value->nodes + value->count;
-    for (const gob_node *field = value->nodes + 1; field != end; field = gob_after(field)) {
-        if (field->kind == GOB_INT && has_name(definition, &definition->nodes[1 + field->number], name)) {
-            return gob_int_of(field);
-        }
-    }
-    return 0;
-}
 
 /* Adds the field of each value that is whole: 0, or -1 for want of memory. */
 static int add(gob_reader *reader, const char *name, uint64_t *sum) {
@@ -34,7 +16,9 @@ static int add(gob_reader *reader, const char *name, uint64_t *sum) {
         if (item.kind != GOB_VALUE) continue;
         const gob_item *definition = gob_type(reader, item.id);
         if (definition == NULL) return -1;
-        *sum += (uint64_t)field_of(definition, &item, name);
+        int64_t number = 0;
+        gob_as_int(gob_field(definition, item.nodes, name), &number);      /* a field that is absent is zero */
+        *sum += (uint64_t)number;
     }
     return some;
 }

@@ -139,7 +139,11 @@ static void counts_are_due(void) {
     DUE(gob_check(point, sizeof point, NULL, &counts, &fault) == GOB_OK && counts.items == 2 && counts.types == 1);
     DUE(gob_check(point, 36, NULL, &counts, &fault) == GOB_REFUSED && is_fault(&fault, GOB_REFUSED, 22, 0, 36, 36));
     DUE(gob_abi() == GOB_ABI);
+    DUE(strcmp(gob_version(), GOB_VERSION) == 0);
     DUE(strcmp(gob_reason_name(0), "") == 0 && strcmp(gob_reason_name(23), "") == 0);
+    DUE(strcmp(gob_reason_text(0), "") == 0 && strcmp(gob_reason_text(23), "") == 0);
+    DUE(strcmp(gob_reason_name(GOB_REASON_ENDED), "Ended") == 0 && GOB_REASON_ENDED == 22);
+    DUE(strcmp(gob_reason_text(GOB_REASON_FIELD_NUMBER), "A struct has no such field.") == 0);
 }
 
 /* Let go of at every place of the stream, with items that were taken and with items that wait. */
@@ -154,6 +158,38 @@ static void readers_are_let_go(void) {
             gob_close(reader);
         }
     }
+}
+
+static void fields_are_due(void) {
+    gob_fault fault;
+    gob_item item;
+    int64_t number = 7;
+    uint64_t size = 7;
+    double real = 7;
+    int is = 7;
+    size_t length;
+    gob_reader *reader = gob_open(NULL, &fault);
+    gob_feed(reader, point, sizeof point, &fault);
+    DUE(gob_next(reader, &item) == 1 && gob_next(reader, &item) == 1);
+    const gob_item *definition = gob_type(reader, item.id);
+    const gob_node *x = gob_field(definition, item.nodes, "X"), *y = gob_field(definition, item.nodes, "Y");
+    DUE(x == item.nodes + 1 && y == item.nodes + 2);
+    DUE(gob_field(definition, item.nodes, "Z") == NULL && gob_field(definition, item.nodes, "") == NULL);
+    DUE(gob_field(definition, x, "X") == NULL);
+    DUE(gob_as_int(y, &number) == 1 && number == 33 && gob_as_int(item.nodes, &number) == 0 && number == 33);
+    DUE(gob_as_uint(x, &size) == 0 && gob_as_bool(x, &is) == 0 && gob_as_float(x, &real) == 0);
+    DUE(size == 7 && is == 7 && real == 7 && gob_as_text(&item, x, &length) == NULL);
+    DUE(gob_as_bool(NULL, &is) == 0 && gob_as_int(NULL, &number) == 0 && gob_as_text(&item, NULL, &length) == NULL);
+    gob_close(reader);
+    static const gob_node leaves[] = {
+        {0, 1, 0, GOB_BOOL, 0}, {0, 200, 0, GOB_UINT, 0}, {0, 0x3ff8000000000000, 0, GOB_FLOAT, 0},
+        {0, 1, 2, GOB_STRING, 0},
+    };
+    item.bytes = (const unsigned char *)"go!";
+    DUE(gob_as_bool(&leaves[0], &is) == 1 && is == 1 && gob_as_uint(&leaves[1], &size) == 1 && size == 200);
+    DUE(gob_as_float(&leaves[2], &real) == 1 && real == 1.5);
+    const char *text = gob_as_text(&item, &leaves[3], &length);
+    DUE(text != NULL && length == 2 && memcmp(text, "o!", 2) == 0);
 }
 
 /* NULL for what no call can do without. */
@@ -179,6 +215,7 @@ static void misuse_is_due(void) {
 int main(void) {
     items_are_due();
     misuse_is_due();
+    fields_are_due();
     batches_are_due();
     faults_are_due();
     limits_are_due();
