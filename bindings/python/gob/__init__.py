@@ -20,17 +20,20 @@ from __future__ import annotations
 
 import ctypes
 import os
+from contextlib import contextmanager
 from enum import IntEnum
 from itertools import groupby, repeat
+from threading import get_ident
 from typing import Any, BinaryIO, Callable, Iterable, Iterator, Mapping, NamedTuple, Union
 
 from ._decode import Decoder, Opaque, Options, Pairs
 from ._library import Batch, Counts, Fault, Limits as _Limits, library
+from ._source import Source as _Declared
 from ._types import Field, Type, type_of
 from . import go
 
 __all__ = ["Field", "Limits", "Opaque", "Pairs", "Reader", "Reason", "Refused", "Summary", "Type", "check", "go",
-           "iter_items", "iter_values", "load", "loads"]
+           "iter_items", "iter_values", "load", "loads", "source", "types"]
 
 Source = Union[str, "os.PathLike[str]", bytes, bytearray, memoryview, BinaryIO, Iterable[bytes]]
 _Made = Callable[[Type, Iterator[Any]], Iterable[Any]]
@@ -116,13 +119,16 @@ class Reader:
     it.
 
     A reader stays on the thread that made it, and is let go of there: by `close`, as a context manager, or with its
-    last reference. Readers in several threads are independent of each other.
+    last reference. A call from another thread raises RuntimeError, as does one by what a call calls itself. Readers in
+    several threads are independent of each other.
     """
+
+    _handle: int | None = None
 
     def __init__(self, *, limits: Limits | None = None, structs: str = "dict", zeros: bool = False,
                  tagged: str | None = None, opaque: Callable[[Opaque], Any] | None = None):
-        self._handle: int | None = None
         self._fault = Fault()
+        self._thread, self._is_busy = get_ident(), False
         chosen = None if limits is None else ctypes.byref(_Limits(*limits))
         self._handle = library.gob_open(chosen, ctypes.byref(self._fault))
         if not self._handle:
@@ -133,11 +139,29 @@ class Reader:
 
     def close(self) -> None:
         """Lets the reader go. It can be called again."""
+        with self._alone():
+            self._let_go()
+
+    def _let_go(self) -> None:
         handle, self._handle = self._handle, None
         if handle:
             library.gob_close(handle)
 
-    __del__ = close
+    # whoever lets the last reference go is in no call, whatever thread that is
+    __del__ = _let_go
+
+    @contextmanager
+    def _alone(self) -> Iterator[None]:
+        """What is within is done by the reader's thread, and by one call at a time."""
+        if get_ident() != self._thread:
+            raise RuntimeError("a reader stays on the thread that made it")
+        if self._is_busy:
+            raise RuntimeError("a call of this reader isn't over yet")
+        self._is_busy = True
+        try:
+            yield
+        finally:
+            self._is_busy = False
 
     def __enter__(self) -> Reader:
         return self
@@ -158,10 +182,17 @@ class Reader:
         """
         return self._fed(piece, _typed)
 
-    def _fed(self, piece: bytes | bytearray | memoryview, made: _Made) -> list[Any]:
-        data = piece if isinstance(piece, bytes) else bytes(piece)  # by ctypes no other read-only buffer goes
-        library.gob_feed(self._open(), data, len(data), ctypes.byref(self._fault))
-        taken = self._taken(made)
+    def _fed(self, piece: bytes | bytearray | memoryview, made: _Made | None) -> list[Any]:
+        # by ctypes no other read-only buffer goes
+        data = piece if isinstance(piece, bytes) else memoryview(piece).tobytes()
+        with self._alone():
+            library.gob_feed(self._open(), data, len(data), ctypes.byref(self._fault))
+            try:
+                taken = self._taken(made)
+            except BaseException:
+                # some of the values are lost, so none that follow may be taken for the next
+                self._let_go()
+                raise
         try:
             _raise(self._fault)
         except Refused as refused:
@@ -171,7 +202,8 @@ class Reader:
 
     def finish(self) -> None:
         """Says that no byte follows. Raises `Refused` with the reason `Ended` inside an item."""
-        library.gob_finish(self._open(), ctypes.byref(self._fault))
+        with self._alone():
+            library.gob_finish(self._open(), ctypes.byref(self._fault))
         _raise(self._fault)
 
     def _open(self) -> int:
@@ -179,32 +211,46 @@ class Reader:
             raise ValueError("the reader is closed")
         return self._handle
 
-    def _taken(self, made: _Made) -> list[Any]:
-        batch, decoder = Batch(), self._decoder
-        taken: list[Any] = []
+    def _batches(self) -> Iterator[tuple[bytes, bytes, bytes]]:
+        """The heads, nodes and bytes of the items that are whole."""
+        batch = Batch()
         while (some := library.gob_take(self._handle, ctypes.byref(batch))) == 1:
-            heads = _copied(batch.heads, 48 * batch.items).cast("Q")
-            nodes = ctypes.string_at(batch.nodes, 32 * batch.node_count)
-            pool = ctypes.string_at(batch.bytes, batch.byte_count) if batch.byte_count else b""
-            decoder.fill(nodes, pool)
-            first, base = heads[1::6].tolist(), heads[3::6].tolist()
-            at = 0
-            # items of one kind and type that follow one another
-            for (id, kind), run in groupby(zip(heads[0::6].tolist(), heads[5::6].tolist())):
-                end = at + sum(1 for _ in run)
-                if kind == 1:
-                    words = memoryview(nodes).cast("Q")[4 * first[at]:4 * (first[at] + heads[6 * at + 2])].tolist()
-                    self._define(id, words, pool[base[at]:base[at] + heads[6 * at + 4]])
-                else:
-                    taken.extend(made(self._type(id), map(decoder.of(id), first[at:end], base[at:end])))
-                at = end
+            yield (_copied(batch.heads, 48 * batch.items), _copied(batch.nodes, 32 * batch.node_count),
+                   _copied(batch.bytes, batch.byte_count))
         if some < 0:
             raise MemoryError
+
+    def _taken(self, made: _Made | None) -> list[Any]:
+        taken: list[Any] = []
+        for some, nodes, pool in self._batches():
+            self._define(some, nodes, pool)
+            if made is not None:
+                self._decoder.fill(nodes, pool)
+                self._decode(memoryview(some).cast("Q"), made, taken)
         return taken
 
-    def _define(self, id: int, words: list[int], names: bytes) -> None:
-        self._types[id] = _type_from(id, words, names)
-        self._order.append(id)
+    def _define(self, some: bytes, nodes: bytes, pool: bytes) -> None:
+        """Takes the definitions of a batch."""
+        heads, words = memoryview(some).cast("Q"), memoryview(nodes).cast("Q")
+        kinds = heads[5::6].tolist()
+        for at, kind in enumerate(kinds if 1 in kinds else []):
+            if kind == 1:
+                id, first, count, begin, size, _ = heads[6 * at:6 * at + 6].tolist()
+                of_nodes = words[4 * first:4 * (first + count)].tolist()
+                self._types[id] = _type_from(id, of_nodes, pool[begin:begin + size])
+                self._order.append(id)
+
+    def _decode(self, heads: memoryview, made: _Made, taken: list[Any]) -> None:
+        """Appends the values of the batch that the decoder has."""
+        first, base = heads[1::6].tolist(), heads[3::6].tolist()
+        at = 0
+        # items of one kind and type that follow one another
+        for (id, kind), run in groupby(zip(heads[0::6].tolist(), heads[5::6].tolist())):
+            end = at + sum(1 for _ in run)
+            if kind == 2:
+                values = map(self._decoder.of(id), first[at:end], base[at:end])
+                taken.extend(made(self._type(id), values))
+            at = end
 
     def _type(self, id: int) -> Type:
         known = self._types.get(id)
@@ -213,8 +259,8 @@ class Reader:
             if not found:
                 raise KeyError(id)
             item = found.contents
-            words = _copied(ctypes.cast(item.nodes, ctypes.c_void_p).value, 32 * item.count).cast("Q").tolist()
-            known = self._types[id] = _type_from(id, words, ctypes.string_at(item.bytes, item.size))
+            words = memoryview(_copied(ctypes.cast(item.nodes, ctypes.c_void_p).value, 32 * item.count)).cast("Q")
+            known = self._types[id] = _type_from(id, words.tolist(), _copied(item.bytes, item.size))
         return known
 
 
@@ -238,8 +284,8 @@ def _bare(type: Type, values: Iterator[Any]) -> Iterator[Any]:
     return values
 
 
-def _copied(at: int | None, size: int) -> memoryview:
-    return memoryview(ctypes.string_at(at, size) if at is not None and size else b"")
+def _copied(at: int | None, size: int) -> bytes:
+    return ctypes.string_at(at, size) if at is not None and size else b""
 
 
 def _type_from(id: int, words: list[int], names: bytes) -> Type:
@@ -263,6 +309,8 @@ def _pieces(source: Any, size: int) -> Iterator[bytes]:
     elif hasattr(source, "read"):
         while piece := source.read(size):
             yield piece
+        if piece is None:
+            raise BlockingIOError("the source has no bytes yet")
     else:
         yield from source
 
@@ -282,19 +330,24 @@ def iter_values(source: Source, **options: Any) -> Iterator[Any]:
 
 
 def _each(source: Source, made: _Made, *, piece: int = 65536, **options: Any) -> Iterator[Any]:
-    with Reader(**options) as reader:
-        try:
-            for part in _pieces(source, piece):
-                try:
-                    taken = reader._fed(part, made)
-                except Refused as refused:
-                    yield from refused.values
-                    raise
-                yield from taken
-            reader.finish()
-        except Refused as refused:
-            refused.path = _path(source)
-            raise
+    reader = Reader(**options)
+    try:
+        for part in _pieces(source, piece):
+            # whoever asks for the next value, one at a time, may be another thread
+            reader._thread = get_ident()
+            try:
+                taken = reader._fed(part, made)
+            except Refused as refused:
+                yield from refused.values
+                raise
+            yield from taken
+        reader._thread = get_ident()
+        reader.finish()
+    except Refused as refused:
+        refused.path = _path(source)
+        raise
+    finally:
+        reader._let_go()
 
 
 def load(source: Source, *, piece: int = 1 << 20, **options: Any) -> Values:
@@ -314,7 +367,28 @@ def load(source: Source, *, piece: int = 1 << 20, **options: Any) -> Values:
 
 def loads(data: bytes | bytearray | memoryview, **options: Any) -> Values:
     """All values of a stream that is held in memory."""
-    return load(bytes(data), **options)
+    return load(memoryview(data), **options)
+
+
+def types(source: Source, *, piece: int = 1 << 20, **options: Any) -> dict[int, Type]:
+    """The types of a stream by their ids, in its order. No values are made.
+
+    Where the bytes are refused, `Refused` has the types before the fault as its `values`.
+    """
+    with Reader(**options) as reader:
+        try:
+            for part in _pieces(source, piece):
+                reader._fed(part, None)
+            reader.finish()
+        except Refused as refused:
+            refused.values, refused.path = list(reader.types.values()), _path(source)
+            raise
+        return reader.types
+
+
+def source(types: Mapping[int, Type]) -> str:
+    """Go source that declares these types, as `gob types` prints it: a file that compiles, in ASCII."""
+    return _Declared(types).text()
 
 
 def check(source: Source, *, limits: Limits | None = None) -> Summary:

@@ -2,10 +2,20 @@
 from __future__ import annotations
 
 import argparse
+import io
 import os
 import sys
 
 import gob
+
+
+def _say_types(source: gob.Source) -> None:
+    try:
+        types = gob.types(source)
+    except gob.Refused as refused:
+        print(gob.source({type.id: type for type in refused.values}), end="")
+        raise
+    print(gob.source(types), end="")
 
 
 def main() -> int:
@@ -15,16 +25,18 @@ def main() -> int:
     parser.add_argument("--types", action="store_true", help="print the types that the stream defines, as Go source")
     parser.add_argument("--check", action="store_true", help="say how many values, types and bytes there are")
     words = parser.parse_args()
+    if isinstance(sys.stdout, io.TextIOWrapper):
+        sys.stdout.reconfigure(errors="backslashreplace")
     source = words.file or sys.stdin.buffer
     try:
         if words.check:
             print(gob.check(source))
         elif words.types:
-            types = gob.load(source).types
-            print("\n".join(type.go(types) for type in types.values()))
+            _say_types(source)
         else:
             for value in gob.iter_values(source, zeros=words.zeros, opaque=gob.go.known):
-                print(value)
+                # as Python writes it, so that no byte of a file tells a terminal what to do
+                print(repr(value))
         sys.stdout.flush()
     except gob.Refused as refused:
         sys.stdout.flush()
@@ -34,8 +46,8 @@ def main() -> int:
         # whoever closed the pipe has what they wanted; so that nothing more is written at the end
         os.dup2(os.open(os.devnull, os.O_WRONLY), sys.stdout.fileno())
         return 2
-    except OSError as error:
-        print(f"gob: {error}", file=sys.stderr)
+    except (OSError, MemoryError, RecursionError) as error:
+        print(f"gob: {str(error) or 'out of memory'}", file=sys.stderr)
         return 2
     return 0
 

@@ -38,29 +38,10 @@ class Type:
         return tuple(names)
 
     def go(self, types: Mapping[int, Type]) -> str:
-        """The type as Go source declares it. The stream doesn't tell the widths of numbers, nor pointers."""
-        if self.kind == "struct":
-            lines = "".join(f"\t{field.name} {go_name(field.type, types)}\n" for field in self.fields)
-            return f"type {self.name or '_'} struct {{\n{lines}}}"
-        if self.kind == "opaque":
-            return f"type {self.name or '_'} any // encodes itself: {self.marshal}"
-        return f"type {self.name or '_'} {go_name(self.id, types)}"
+        """How Go source declares the type, as `source` does. A stream doesn't tell how wide numbers are."""
+        from ._source import Source
 
-
-def go_name(id: int, types: Mapping[int, Type]) -> str:
-    """How Go source names the type."""
-    if id in BASIC:
-        return BASIC[id]
-    known = types.get(id)
-    if known is None:
-        return f"type{id}"
-    if known.kind == "slice":
-        return "[]" + go_name(known.elem, types)
-    if known.kind == "array":
-        return f"[{known.len}]" + go_name(known.elem, types)
-    if known.kind == "map":
-        return f"map[{go_name(known.key, types)}]{go_name(known.elem, types)}"
-    return known.name or f"type{id}"
+        return Source(types).declaration(self)
 
 
 def type_of(id: int, nodes: Sequence[Sequence[int]], text: Callable[[int, int], str]) -> Type:

@@ -9,6 +9,7 @@ raises ValueError where the bytes are not what Go's own type writes, and `known`
 from __future__ import annotations
 
 import ipaddress
+import operator
 import struct
 from datetime import datetime, timedelta, timezone
 from fractions import Fraction
@@ -20,9 +21,84 @@ Address = Union[ipaddress.IPv4Address, ipaddress.IPv6Address]
 
 
 class Time(datetime):
-    """A time.Time: a datetime, whose microseconds are cut, and beside it `nanosecond`, 0 to 999999999."""
+    """A time.Time: a datetime, whose microseconds are cut, and beside it `nanosecond`, 0 to 999999999.
 
-    nanosecond: int = 0
+    Pickles, copies, `astimezone`, `replace`, and adding or subtracting a timedelta keep the nanoseconds; `replace` sets
+    them by `nanosecond`, or by `microsecond` with 0 behind it. Comparing heeds them. What datetime itself gives has
+    microseconds alone: texts, and the difference of two times.
+    """
+
+    _behind = 0  # the microsecond, 0 to 999
+
+    def __new__(cls, *args: Any, nanosecond: int | None = None, **kwargs: Any) -> Time:
+        made = super().__new__(cls, *args, **kwargs)
+        return made if nanosecond is None else made.replace(nanosecond=nanosecond)
+
+    @property
+    def nanosecond(self) -> int:
+        return 1000 * self.microsecond + self._behind
+
+    def __repr__(self) -> str:
+        return f"{super().__repr__()[:-1]}, nanosecond={self.nanosecond})"
+
+    def __reduce_ex__(self, protocol: Any) -> tuple[Any, ...]:
+        made, state = super().__reduce_ex__(protocol)[:2]
+        return _restored, (made, state, self._behind)
+
+    def replace(self, *args: Any, nanosecond: int | None = None, **kwargs: Any) -> Time:
+        if nanosecond is not None:
+            kwargs["microsecond"] = nanosecond // 1000
+            return _with(super().replace(*args, **kwargs), nanosecond % 1000)
+        has_microsecond = len(args) > 6 or "microsecond" in kwargs
+        return _with(super().replace(*args, **kwargs), 0 if has_microsecond else self._behind)
+
+    __replace__ = replace
+
+    def astimezone(self, tz: Any = None) -> Time:
+        return _with(super().astimezone(tz), self._behind)
+
+    def __add__(self, other: Any) -> Any:
+        return _with(super().__add__(other), self._behind)
+
+    __radd__ = __add__
+
+    def __sub__(self, other: Any) -> Any:
+        return _with(super().__sub__(other), self._behind)
+
+    def _told(self, other: Any, told: Any, behind: Callable[[int, int], bool]) -> Any:
+        # pandas calls the digits behind the microsecond by this name
+        return behind(self._behind, getattr(other, "nanosecond", 0) % 1000) if super().__eq__(other) is True else told
+
+    def __eq__(self, other: object) -> Any:
+        return self._told(other, super().__eq__(other), operator.eq)
+
+    def __ne__(self, other: object) -> Any:
+        return self._told(other, super().__ne__(other), operator.ne)
+
+    def __lt__(self, other: Any) -> Any:
+        return self._told(other, super().__lt__(other), operator.lt)
+
+    def __le__(self, other: Any) -> Any:
+        return self._told(other, super().__le__(other), operator.le)
+
+    def __gt__(self, other: Any) -> Any:
+        return self._told(other, super().__gt__(other), operator.gt)
+
+    def __ge__(self, other: Any) -> Any:
+        return self._told(other, super().__ge__(other), operator.ge)
+
+    __hash__ = datetime.__hash__
+
+
+def _with(at: Any, behind: int) -> Any:
+    """The time with these nanoseconds behind its microsecond; what is no time is given back."""
+    if isinstance(at, Time):
+        at._behind = behind
+    return at
+
+
+def _restored(made: Callable[..., Time], state: tuple[Any, ...], behind: int) -> Any:
+    return _with(made(*state), behind)
 
 
 def time(value: Opaque) -> Time:
@@ -32,7 +108,7 @@ def time(value: Opaque) -> Time:
     at = datetime(1, 1, 1, tzinfo=timezone.utc) + timedelta(seconds=seconds, microseconds=nanos // 1000)
     at = at.astimezone(zone)
     made = Time(at.year, at.month, at.day, at.hour, at.minute, at.second, at.microsecond, zone)
-    made.nanosecond = nanos
+    made._behind = nanos % 1000
     return made
 
 

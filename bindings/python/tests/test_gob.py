@@ -3,7 +3,9 @@
 GOB_STREAMS names the folder of the streams, GOB_LAYOUT what bindings/c/tests/layout.c prints.
 """
 import contextlib
+import copy
 import ctypes
+import datetime
 import gc
 import importlib.util
 import io
@@ -20,7 +22,7 @@ import tempfile
 import threading
 import unittest
 import weakref
-from datetime import timedelta
+from datetime import timedelta, timezone
 from fractions import Fraction
 from unittest import mock
 
@@ -78,6 +80,37 @@ def natural(value, id, types):
             return gob.Pairs(pairs)
     marshal = {"gob": "GobEncode", "binary": "MarshalBinary", "text": "MarshalText"}[kind]
     return gob.Opaque(row["name"], marshal, bytes.fromhex(value["opaque"]))
+
+
+# What Go 1.19 wrote of struct { A []float64; B [2]int; C []bool }: the definitions; {1, 2}, {3, 4}, then {5, 6.5},
+# {0, 0}; and {1, 2}, {3, 4}, true, then nil, {5, -6}, false, then {-0.5}, {0, 0}, true.
+PAIRS = bytes.fromhex(
+    "28ff8103010105506169727301ff8200010301014101ff840001014201ff860001014301ff8800000017ff83020101095b5d666c6f61743634"
+    "01ff84000108000016ff85010101065b325d696e7401ff860001040104000014ff87020101065b5d626f6f6c01ff880001020000")
+EQUAL = bytes.fromhex("0dff820102fef03f4001020608000fff820102fe1440fe1a400102000000")
+RAGGED = [bytes.fromhex(text) for text in ("10ff820102fef03f400102060801010100", "0aff8202020a0b01010000",
+                                           "0fff820101fee0bf0102000001010100")]
+# []float64 1, 2.5 and 3, 4; and map[string]int a 1, 7, "x", []int 1, then 2, 3.
+FLOATS = bytes.fromhex("17ff83020101095b5d666c6f6174363401ff8400010800000aff840002fef03ffe04400aff840002fe0840fe1040")
+SEVERAL = bytes.fromhex("0eff89040102ff8a00010c0104000007ff8a00010161020304000e040c0001780cff8b020102ff8c000104000005"
+                        "ff8c00010206ff8c00020406")
+# struct { At time.Time; N int }: 2026-11-27T01:02:03.123456789+01:00 and 1, 2 alone, 1700-01-02T03:04:05.000000001Z and
+# 3; and the year 1500.
+EVENT = bytes.fromhex("21ff8d030101054576656e7401ff8e0001020102417401ff900001014e010400000010ff8f0501010454696d6501ff"
+                      "90000000")
+NEAR = bytes.fromhex("16ff8e010f010000000ee29abf7b075bcd15003c01020005ff8e02040016ff8e010f010000000c7bb971250000000"
+                     "1ffff010600")
+FAR = bytes.fromhex("16ff8e010f010000000b03889ba500000001ffff010600")
+# struct { A *[2]int; M map[string]int; S []string }: all nil, then {1, 2}, a 1, "b".
+ZEROS = bytes.fromhex(
+    "26ff910301010350747201ff9200010301014101ff860001014d01ff8a0001015301ff9400000016ff85010101065b325d696e7401ff860001"
+    "04010400000eff89040102ff8a00010c0104000016ff93020101085b5d737472696e6701ff9400010c000003ff920010ff9201020204010101"
+    "61020101016200")
+
+
+def listed(column):
+    """The values of a column, its arrays as lists."""
+    return [value.tolist() if hasattr(value, "tolist") else value for value in column]
 
 
 def opaque(data, name="T"):
@@ -203,12 +236,42 @@ class Values(unittest.TestCase):
         with tempfile.TemporaryDirectory() as folder:
             path = pathlib.Path(folder) / "point.gob"
             path.write_bytes(POINT)
+            source = "package types\n\n// type 65\ntype Point struct {\n\tX int\n\tY int\n}\n"
             for words, due in [([], "{'X': 22, 'Y': 33}\n"), (["--check"], "Summary(values=1, types=1, bytes=40)\n"),
-                               (["--types"], "type Point struct {\n\tX int\n\tY int\n}\n")]:
+                               (["--types"], source)]:
                 said = io.StringIO()
                 with mock.patch.object(sys, "argv", ["gob", *words, str(path)]), contextlib.redirect_stdout(said):
                     self.assertEqual(gob.__main__.main(), 0)
                 self.assertEqual(said.getvalue(), due)
+
+    def test_nothing_of_a_file_reaches_a_terminal(self):
+        coloured = POINT.replace(b"Point", b"\x1b[31m").replace(b"X", b"\x1b")
+        source = b"package types\n\n// type 65\ntype T65 struct {\n\tY int\n\t// \\x1b int\n}\n"
+        text = bytes.fromhex("080c00051b5b33316d")
+        for data, words, due in [(coloured, ["--types"], source), (coloured, [], b"{'\\x1b': 22, 'Y': 33}\n"),
+                                 (text, [], b"'\\x1b[31m'\n")]:
+            ran = subprocess.run([sys.executable, "-m", "gob", *words], input=data, capture_output=True, check=True)
+            self.assertEqual(ran.stdout, due)
+
+    def test_types_are_read_without_values(self):
+        many = [POINT] + [POINT[32:] * 1000] * 1000
+        self.assertEqual(gob.types(many), gob.loads(POINT).types)
+        words = [sys.executable, "-m", "gob", "--types"]
+        counted = f"import resource, subprocess, sys; subprocess.run({words}, check=True); " \
+            "print(resource.getrusage(resource.RUSAGE_CHILDREN).ru_maxrss)"
+        ran = subprocess.run([sys.executable, "-c", counted], input=b"".join(many), capture_output=True, check=True)
+        self.assertLess(int(ran.stdout.split()[-1]), 60_000)
+        with self.assertRaises(gob.Refused) as caught:
+            gob.types(POINT[:36])
+        self.assertEqual([type.name for type in caught.exception.values], ["Point"])
+
+    @unittest.skipUnless("GOB" in os.environ, "GOB names no program")
+    def test_types_are_those_of_the_program(self):
+        for path in sorted(STREAMS.glob("*.gob")):
+            with self.subTest(stream=path.name), contextlib.suppress(gob.Refused):
+                types = gob.types(path)
+                ran = subprocess.run([os.environ["GOB"], "types", path], capture_output=True, check=True)
+                self.assertEqual(gob.source(types), ran.stdout.decode())
 
     def test_a_closed_pipe_ends_the_command(self):
         read, written = os.pipe()
@@ -255,6 +318,36 @@ class Opaque(unittest.TestCase):
         self.assertEqual(gob.go.prefix(opaque("0a00000008")), (ipaddress.ip_address("10.0.0.0"), 8))
         self.assertEqual(gob.go.text(opaque("68747470733a2f2f612e6578616d706c652f")), "https://a.example/")
 
+    def test_nanoseconds_stay(self):
+        # the time that a Go program wrote as time.Date(2026, 11, 27, 1, 2, 3, 123456789, time.FixedZone("", 3600))
+        at, hour = gob.go.time(opaque("010000000ee29abf7b075bcd15003c")), timedelta(hours=1)
+        rows = [(f"pickle {number}", pickle.loads(pickle.dumps(at, number))) for number in range(6)]
+        rows += [("copy", copy.copy(at)), ("deepcopy", copy.deepcopy(at)), ("replace", at.replace(year=2000)),
+                 ("no zone", at.replace(tzinfo=None)), ("astimezone", at.astimezone(timezone.utc)),
+                 ("its own zone", at.astimezone(at.tzinfo)), ("+", at + hour), ("+ from the left", hour + at),
+                 ("-", at - hour), ("text", eval(repr(at), {"datetime": datetime, "Time": gob.go.Time}))]
+        for what, made in rows:
+            with self.subTest(what):
+                self.assertIs(type(made), gob.go.Time)
+                self.assertEqual(made.nanosecond, 123456789)
+        self.assertEqual(at.replace(microsecond=5).nanosecond, 5000)
+        self.assertEqual(at.replace(nanosecond=7).microsecond, 0)
+        self.assertEqual(gob.go.Time(2026, 1, 1, nanosecond=999999999).microsecond, 999999)
+        self.assertEqual(at - at.replace(nanosecond=0), timedelta(microseconds=123456))
+
+    def test_comparing_heeds_nanoseconds(self):
+        at = gob.go.time(opaque("010000000ee29abf7b075bcd15003c"))
+        before, plain = at.replace(nanosecond=123456788), datetime.datetime.fromisoformat(at.isoformat())
+        for other in (before, plain):
+            self.assertTrue(at != other and at > other and at >= other and other < at and other <= at)
+            self.assertFalse(at == other or at < other or at <= other or other > at or other >= at)
+        self.assertEqual(at.replace(nanosecond=123456000), plain)
+        self.assertEqual(hash(at.replace(nanosecond=123456000)), hash(plain))
+        self.assertEqual(len({at, before, plain, at.astimezone(timezone.utc)}), 3)
+        self.assertNotEqual(at, 5)
+        with self.assertRaises(TypeError):
+            at < 5  # noqa: B015
+
     def test_other_bytes(self):
         for explain in (gob.go.time, gob.go.big_int, gob.go.big_rat, gob.go.big_float, gob.go.address_port):
             for wrong in ("", "05", "01ff") if explain is not gob.go.address_port else ("", "05"):
@@ -266,18 +359,82 @@ class Opaque(unittest.TestCase):
 
 @unittest.skipUnless(importlib.util.find_spec("numpy"), "numpy isn't there")
 class Columns(unittest.TestCase):
-    def test_columns_are_the_fields(self):
+    def test_columns_are_the_values(self):
         import gob.columns
 
         self.assertEqual(gob.columns.load([POINT, POINT[32:] * 9])["Point"]["X"].tolist(), [22] * 10)
-        for name in ("basics", "lists", "nested", "page"):
-            path = STREAMS / f"{name}.gob"
-            for struct, columns in gob.columns.load(path).items():
-                values = [value for type, value in gob.iter_items(path, zeros=True) if type.name == struct]
-                for field, column in columns.items():
-                    # an absent list or map is None in a column
-                    due = [None if value[field] in ([], {}) else value[field] for value in values]
-                    self.assertEqual(column.tolist(), due, (name, struct, field))
+        for name in ("basics", "lists", "nested", "page", "several", "colors", "index"):
+            values = {}
+            for type, value in gob.iter_items(STREAMS / f"{name}.gob", zeros=True):
+                values.setdefault(type.id, []).append(value)
+            columns = gob.columns.load(STREAMS / f"{name}.gob").values()
+            for due, of_type in zip(values.values(), columns):
+                if not isinstance(of_type, dict):
+                    of_type, due = {"value": of_type}, [{"value": value} for value in due]
+                for field, column in of_type.items():
+                    self.assertEqual(listed(column), [value[field] for value in due], (name, field))
+            self.assertEqual(len(columns), len(values))
+
+    def test_lists_of_numbers(self):
+        import gob.columns
+
+        equal = gob.columns.load(PAIRS + EQUAL)["Pairs"]
+        self.assertEqual([(column.dtype.str, column.shape) for column in equal.values()],
+                         [("<f8", (2, 2)), ("<i8", (2, 2)), ("|b1", (2, 0))])
+        self.assertEqual([listed(column) for column in equal.values()],
+                         [[[1.0, 2.0], [5.0, 6.5]], [[3, 4], [0, 0]], [[], []]])
+        ragged = gob.columns.load([PAIRS, *RAGGED])["Pairs"]
+        self.assertEqual([(column.dtype.str, column.shape) for column in ragged.values()],
+                         [("|O", (3,)), ("<i8", (3, 2)), ("|b1", (3, 1))])
+        self.assertEqual([listed(column) for column in ragged.values()],
+                         [[[1.0, 2.0], [], [-0.5]], [[3, 4], [5, -6], [0, 0]], [[True], [False], [True]]])
+        self.assertEqual({column.dtype.str for column in ragged["A"]}, {"<f8"})
+
+    def test_values_that_are_no_structs(self):
+        import gob.columns
+
+        columns = gob.columns.load(FLOATS)
+        self.assertEqual({name: listed(column) for name, column in columns.items()},
+                         {"[]float64": [[1.0, 2.5], [3.0, 4.0]]})
+        columns = gob.columns.load(SEVERAL)
+        self.assertEqual({name: listed(column) for name, column in columns.items()},
+                         {"map[string]int": [{"a": 1}], "int": [7], "string": ["x"], "[]int": [[1], [2, 3]]})
+
+    def test_times_have_all_digits(self):
+        import gob.columns
+        import numpy
+
+        for options in ({}, {"opaque": gob.go.known}):
+            at = gob.columns.load(EVENT + NEAR, **options)["Event"]["At"]
+            self.assertEqual(at.dtype.str, "<M8[ns]")
+            self.assertEqual(numpy.datetime_as_string(at).tolist(),
+                             ["2026-11-27T00:02:03.123456789", "NaT", "1700-01-02T03:04:05.000000001"])
+        # a year that datetime64[ns] doesn't have
+        at = gob.columns.load([EVENT + NEAR, FAR])["Event"]["At"].tolist()
+        self.assertEqual([time and (time.isoformat(), time.nanosecond) for time in at],
+                         [("2026-11-27T01:02:03.123456+01:00", 123456789), None, ("1700-01-02T03:04:05+00:00", 1),
+                          ("1500-01-02T03:04:05+00:00", 1)])
+        at = gob.columns.load(EVENT + NEAR, opaque=lambda value: len(value.data))["Event"]["At"].tolist()
+        self.assertEqual(at, [15, None, 15])
+        # not what Go's time writes
+        other = gob.columns.load(EVENT + NEAR.replace(bytes.fromhex("0f0100"), bytes.fromhex("0f0300")))["Event"]["At"]
+        self.assertIsInstance(other[0], gob.Opaque)
+
+    @unittest.skipUnless(importlib.util.find_spec("pandas"), "pandas isn't there")
+    def test_frames(self):
+        import gob.columns
+        import pandas
+
+        frame = gob.columns.frames(EVENT + NEAR)["Event"]
+        self.assertEqual((frame["At"].dtype.str, frame["At"][0].nanosecond), ("<M8[ns]", 789))
+        frame = gob.columns.frames(ZEROS)["Ptr"]
+        self.assertEqual(frame["M"].tolist(), [{}, {"a": 1}])
+        self.assertEqual(frame["S"].tolist(), [[], ["b"]])
+        self.assertEqual(listed(frame["A"].to_numpy()), [None, [1, 2]])
+        self.assertEqual(listed(gob.columns.frames(FLOATS)["[]float64"]["value"].to_numpy()), [[1.0, 2.5], [3.0, 4.0]])
+        values = pandas.DataFrame(gob.iter_values(EVENT + NEAR[:23], opaque=gob.columns.known))
+        self.assertEqual(values["At"][0].isoformat(), "2026-11-27T01:02:03.123456789+01:00")
+        self.assertIsInstance(gob.load(EVENT + FAR, opaque=gob.columns.known)[0]["At"], gob.go.Time)
 
     def test_a_refused_file_is_named(self):
         import gob.columns
@@ -289,6 +446,38 @@ class Columns(unittest.TestCase):
             with self.assertRaises(gob.Refused) as caught:
                 gob.columns.load(path)
         self.assertEqual(caught.exception.path, str(path))
+
+
+@unittest.skipUnless(importlib.util.find_spec("distributed"), "dask isn't there")
+class Dask(unittest.TestCase):
+    def counted(self, *words):
+        package = pathlib.Path(__file__).parents[1]
+        ran = subprocess.run([sys.executable, package / "examples/dask_values.py", *words], capture_output=True,
+                             text=True, check=False, env={**os.environ, "PYTHONPATH": str(package)})
+        # (dask has warnings of its own)
+        said = [line for line in ran.stderr.splitlines() if words[0] in line]
+        return ran.returncode, sorted(ran.stdout.split()), said
+
+    def test_a_folder_is_counted(self):
+        from dask.distributed import Client, LocalCluster
+
+        with tempfile.TemporaryDirectory() as folder, LocalCluster(2, threads_per_worker=1, dashboard_address=None) as \
+                two, Client(two) as client:
+            self.assertEqual(self.counted(folder), (1, [], [f"dask_values: no file in {folder} ends in .gob"]))
+            for name, data in [("a", POINT), ("b", POINT + POINT[32:]), ("c", POINT.replace(b"Point", b"\x1b[31m"))]:
+                (pathlib.Path(folder) / f"{name}.gob").write_bytes(data)
+            due = sorted(["3", "Point", "1", "\\x1b[31m"])
+            self.assertEqual(self.counted(folder), (0, due, []))
+            self.assertEqual(self.counted(folder, two.scheduler_address), (0, due, []))
+            cut = pathlib.Path(folder) / "d.gob"
+            cut.write_bytes(POINT + POINT[32:36])
+            due = sorted(["4", "Point", "1", "\\x1b[31m"])
+            said = [f"{cut}: refused 22 Ended at 44 seen 44"]
+            self.assertEqual(self.counted(folder), (1, due, said))
+            self.assertEqual(self.counted(folder, two.scheduler_address), (1, due, said))
+            # what a worker sends keeps its nanoseconds
+            at = client.submit(gob.load, EVENT + NEAR, opaque=gob.go.known).result()[0]["At"]
+            self.assertEqual(at.nanosecond, 123456789)
 
 
 class Layout(unittest.TestCase):
@@ -362,6 +551,46 @@ class Lifetimes(unittest.TestCase):
         for thread in threads:
             thread.join()
         self.assertEqual(counts, [5001] * 8)
+
+    def test_a_reader_stays_on_its_thread(self):
+        reader = gob.Reader()
+        raised = []
+
+        def use():
+            for call in (lambda: reader.feed(POINT), reader.finish, reader.close):
+                try:
+                    call()
+                except RuntimeError as error:
+                    raised.append(str(error))
+
+        threads = [threading.Thread(target=use) for _ in range(2)]
+        for thread in threads:
+            thread.start()
+        for _ in range(100):
+            reader.feed(POINT if not reader.types else POINT[32:] * 100)
+        for thread in threads:
+            thread.join()
+        self.assertEqual(raised, ["a reader stays on the thread that made it"] * 6)
+        reader.finish()
+        reader.close()
+
+    def test_an_iterator_may_go_on_in_another_thread(self):
+        values, given = gob.iter_values(POINT + POINT[32:] * 3, piece=8), []
+        for _ in range(5):
+            thread = threading.Thread(target=lambda: given.append(next(values, None)))
+            thread.start()
+            thread.join()
+        self.assertEqual(given, [{"X": 22, "Y": 33}] * 4 + [None])
+
+    def test_what_a_call_calls_leaves_the_reader_alone(self):
+        stream = (STREAMS / "time.gob").read_bytes()
+        for call in (lambda reader: reader.feed(b""), lambda reader: reader.finish(), lambda reader: reader.close()):
+            reader = gob.Reader(opaque=lambda value: call(reader))
+            with self.assertRaisesRegex(RuntimeError, "isn't over"):
+                reader.feed(stream)
+            # values were lost, so none that follow are given
+            with self.assertRaisesRegex(ValueError, "closed"):
+                reader.feed(b"")
 
 
 if __name__ == "__main__":
