@@ -211,12 +211,14 @@ class Reader:
             raise ValueError("the reader is closed")
         return self._handle
 
-    def _batches(self) -> Iterator[tuple[bytes, bytes, bytes]]:
-        """The heads, nodes and bytes of the items that are whole."""
+    def _batches(self) -> Iterator[tuple[bytes, memoryview, bytes]]:
+        """The heads, nodes and bytes of the items that are whole. The nodes stand until the next is asked for."""
         batch = Batch()
         while (some := library.gob_take(self._handle, ctypes.byref(batch))) == 1:
-            yield (_copied(batch.heads, 48 * batch.items), _copied(batch.nodes, 32 * batch.node_count),
+            nodes = (ctypes.c_ubyte * (32 * batch.node_count)).from_address(batch.nodes)
+            yield (_copied(batch.heads, 48 * batch.items), memoryview(nodes).cast("B"),
                    _copied(batch.bytes, batch.byte_count))
+            self._decoder.leave()
         if some < 0:
             raise MemoryError
 
@@ -229,9 +231,9 @@ class Reader:
                 self._decode(memoryview(some).cast("Q"), made, taken)
         return taken
 
-    def _define(self, some: bytes, nodes: bytes, pool: bytes) -> None:
+    def _define(self, some: bytes, nodes: memoryview, pool: bytes) -> None:
         """Takes the definitions of a batch."""
-        heads, words = memoryview(some).cast("Q"), memoryview(nodes).cast("Q")
+        heads, words = memoryview(some).cast("Q"), nodes.cast("Q")
         kinds = heads[5::6].tolist()
         for at, kind in enumerate(kinds if 1 in kinds else []):
             if kind == 1:

@@ -45,19 +45,32 @@ class Decoder:
         self.first: list[int] = []
         self.second: list[int] = []
         self.reals: list[float] = []
+        self.has_reals = False
+        self.leave()
         self.pool: list[bytes] = [b""]
         self.text: list[str | None] = [None]
         self.made: dict[int, _Decode] = {}
 
-    def fill(self, nodes: bytes, pool: bytes) -> None:
-        """Takes the next batch: its nodes, four words each, and its bytes."""
-        words = memoryview(nodes).cast("Q")
+    def fill(self, nodes: memoryview, pool: bytes) -> None:
+        """Takes the next batch: its nodes, four words each, which stand until the next, and its bytes."""
+        words = nodes.cast("Q")
         self.number[:] = words[0::4].tolist()
         self.first[:] = words[1::4].tolist()
         self.second[:] = words[2::4].tolist()
-        self.reals[:] = memoryview(nodes).cast("d")[1::4].tolist()
+        self.nodes = nodes
+        if self.has_reals:
+            self._fill_reals()
         self.pool[0] = pool
         self.text[0] = pool.decode("ascii") if pool.isascii() else None
+
+    def leave(self) -> None:
+        """The nodes of the batch don't stand any more."""
+        self.nodes = memoryview(b"")
+
+    def _fill_reals(self) -> None:
+        """From the first float on each number is told as one too."""
+        self.has_reals = True
+        self.reals[:] = self.nodes.cast("d")[1::4].tolist()
 
     def of(self, id: int) -> _Decode:
         """The decoder of a type."""
@@ -74,6 +87,8 @@ class Decoder:
 
     def _basic(self, id: int) -> _Decode | None:
         first, second, reals, pool, text = self.first, self.second, self.reals, self.pool, self.text
+        if id in (4, 7):
+            self._fill_reals()
 
         def truth(i: int, base: int) -> bool:
             return first[i] == 1

@@ -107,7 +107,7 @@ def _flat(column: _Array) -> Any:
 class _Batch:
     """Items, one behind another, and of each node the item that it is of."""
 
-    def __init__(self, reader: Reader, heads: bytes, words: bytes, pool: bytes):
+    def __init__(self, reader: Reader, heads: bytes, words: memoryview, pool: bytes):
         self.reader, self.words, self.pool = reader, words, pool
         self.heads, self.nodes = np.frombuffer(heads, _HEAD), np.frombuffer(words, _NODE)
         self.item = np.repeat(np.arange(len(self.heads)), self.heads["nodes"].astype(np.int64))
