@@ -1,7 +1,8 @@
 // The bytes around a refused one.
 
 /** Rows of bytes, of which those from `place` up to `seen` show why, and the first of them is refused. */
-function byteRows({ bytes, from, place, seen }, width) {
+function byteRows({ bytes, from, place, seen }) {
+    const width = matchMedia("(max-width: 44rem)").matches ? 8 : 16;
     const rows = make("pre", "bytes");
     rows.tabIndex = 0; // it may have to be scrolled
     rows.setAttribute("role", "region");

@@ -63,6 +63,11 @@ class Batch {
         return this.ascii.slice(at, at + this.length(node));
     }
 
+    /** An item alone, with its type. */
+    copied(item) {
+        return { id: this.id(item), ...this.copy(item, item + 1) };
+    }
+
     /** These items alone, in memory of their own. */
     copy(from, to) {
         const node = this.node(from), base = this.base(from), last = to - 1;

@@ -79,6 +79,7 @@ async function show(file) {
     } catch (error) {
         if (mine === turn) showFailure(error);
     }
+    if (mine === turn) markFile(file, document.body.dataset.state);
 }
 
 /** Calls while the progress is shown. */
@@ -102,9 +103,9 @@ function showProgress(what, size, at) {
 }
 
 function clear() {
-    for (const id of ["progress", "refusal", "types", "values"]) $(id).hidden = true;
+    for (const id of ["progress", "refusal", "saving", "types", "values"]) $(id).hidden = true;
     $("outcome").removeAttribute("class"); // it is never hidden, so that what it says is read out
-    for (const id of ["said", "why", "source", "tree"]) $(id).replaceChildren();
+    for (const id of ["said", "why", "source", "saved", "found", "tree"]) $(id).replaceChildren();
 }
 
 function showTold(name, told) {
@@ -114,6 +115,7 @@ function showTold(name, told) {
     if (told.status === REFUSED) showRefusal(told.refusal);
     if (told.types.size > 0) showTypes(told);
     if (told.items > 0) showValues(told);
+    offerSaving(told);
     setState(["whole", "refused", "failed"][told.status] ?? told.status);
 }
 
@@ -152,8 +154,7 @@ function showRefusal(refusal) {
     for (const [term, text] of rows) {
         if (term !== "In" || place > start) list.append(make("dt", "", term), make("dd", "", text));
     }
-    const width = matchMedia("(max-width: 44rem)").matches ? 8 : 16;
-    $("why").append(list, byteRows(refusal, width), make("p", "note", marksText(refusal)));
+    $("why").append(list, byteRows(refusal), make("p", "note", marksText(refusal)));
     $("refusal").hidden = false;
 }
 
@@ -181,15 +182,18 @@ function showValues(told) {
         const list = make("ul");
         const found = await readings.call("some", first, Math.min(SOME, told.values - first));
         if (mine !== turn) return list;
-        for (const { value, id, heads, nodes, pool } of found) {
-            const part = new Part(new Batch(heads, nodes, pool), 0, id, told.all);
-            list.append(partEntry(`#${grouped.format(value)}`, part));
-        }
+        for (const some of found) list.append(valueEntry(some, told.all));
         return list;
     };
     $("values").hidden = false;
     Promise.resolve(told.values === 0 ? make("p", "note", "Only types are defined.") : ranges(told.values, some))
         .then((list) => mine === turn && showTree(list));
+}
+
+/** A value that was read, as an entry of a list; `path` says where in it something was found. */
+function valueEntry({ value, id, heads, nodes, pool, path = "" }, types) {
+    const part = new Part(new Batch(heads, nodes, pool), 0, id, types);
+    return partEntry(`#${grouped.format(value)}${path && ` at ${path}`}`, part);
 }
 
 /** Shows the tree; the first of a few values is open at once. */
@@ -203,10 +207,26 @@ async function linesOf(kind) {
     return working("Writing lines", shown.told.end, "lines", kind);
 }
 
-async function save(kind, ending) {
+// what can be saved: its words, and how the file's name ends
+const SAVED = {
+    values: ["the values, as plain JSON", ".values.jsonl"],
+    show: ["all items, as exact JSON lines", ".jsonl"],
+    types: ["the types, as Go source", ".go"],
+};
+
+/** Offers to save what there is. */
+function offerSaving({ values, items, types }) {
+    const has = { values: values > 0, show: items > 0, types: types.size > 0 };
+    const kinds = Object.keys(SAVED).filter((kind) => has[kind]);
+    $("kind").replaceChildren(...kinds.map((kind) => new Option(SAVED[kind][0], kind)));
+    $("saving").hidden = kinds.length === 0;
+}
+
+async function save(kind) {
     $("saved").textContent = "";
     try {
-        download(kind === "types" ? new Blob([shown.told.source]) : await linesOf(kind), shown.name + ending);
+        const blob = kind === "types" ? new Blob([shown.told.source]) : await linesOf(kind);
+        download(blob, shown.name + SAVED[kind][1]);
     } catch (error) {
         $("saved").textContent = `Not saved: ${error.message}`;
     }
@@ -229,22 +249,20 @@ function listen() {
     document.addEventListener("drop", (event) => {
         event.preventDefault();
         isOver(false);
-        const [file] = event.dataTransfer.files;
-        if (file !== undefined) show(file);
+        showFiles([...event.dataTransfer.files]);
     });
     $("pick").addEventListener("change", ({ target }) => {
-        const [file] = target.files;
-        if (file !== undefined) show(file);
+        showFiles([...target.files]);
         target.value = "";
     });
     $("stop").addEventListener("click", () => readings.call("stop"));
-    $("save-show").addEventListener("click", () => save("show", ".jsonl"));
-    $("save-values").addEventListener("click", () => save("values", ".values.jsonl"));
-    $("save-types").addEventListener("click", () => save("types", ".go"));
+    $("save").addEventListener("click", () => save($("kind").value));
+    listenToSearch();
+    listenToKeys();
     for (const [title, name, data] of EXAMPLES) {
         const button = make("button", "", title);
         button.type = "button";
-        button.addEventListener("click", () => show(new File([bytesOf(data)], name)));
+        button.addEventListener("click", () => showFiles([new File([bytesOf(data)], name)]));
         $("examples").append(button);
     }
 }

@@ -3,10 +3,10 @@
 
 /** Where items begin: their counts are passed over, piece by piece, while the reader reads the same bytes. */
 class Starts {
-    constructor() {
+    constructor(offset = 0) {
         this.waiting = [];
-        this.next = 0;
-        this.offset = 0;
+        this.next = offset;
+        this.offset = offset;
         this.count = [];
     }
 
@@ -28,6 +28,7 @@ class Starts {
 }
 
 const STOPPED = "stopped";
+const MOST_FOUND = 100; // so many values are found at once
 
 /** Ends a reading that isn't wanted any more, at an offset. */
 class Stopped extends Error {
@@ -150,22 +151,78 @@ class Stream {
         return walk;
     }
 
-    /** So many values from one on, as batches with the place of each value. */
-    async some(first, count) {
-        const mark = this.marks.findLast((some) => some.values <= first);
+    /** Each batch behind a mark, with its values: their numbers in the stream and in the batch. */
+    async *numbered(mark, step) {
         const reader = await Reader.open(this.module);
         await this.define(reader, mark.definitions);
-        const found = [];
         let value = mark.values;
-        for await (const batch of this.batches(reader, mark.start, () => {})) {
-            for (let item = 0; item < batch.items && found.length < count; item++) {
-                if (batch.isDefinition(item)) continue;
-                if (value >= first) found.push({ value, id: batch.id(item), ...batch.copy(item, item + 1) });
-                value++;
+        for await (const batch of this.batches(reader, mark.start, step)) {
+            const values = [];
+            for (let item = 0; item < batch.items; item++) {
+                if (!batch.isDefinition(item)) values.push([value++, item]);
+            }
+            yield [batch, values];
+        }
+    }
+
+    markOf(value) {
+        return this.marks.findLast((some) => some.values <= value);
+    }
+
+    /** So many values from one on, each as a batch of its own. */
+    async some(first, count) {
+        const found = [];
+        for await (const [batch, values] of this.numbered(this.markOf(first), () => {})) {
+            for (const [value, item] of values) {
+                if (value >= first && found.length < count) found.push({ value, ...batch.copied(item) });
             }
             if (found.length === count) break;
         }
         return found;
+    }
+
+    /** Some values from one on that have a text, each with the path of it, and the number of the value to look on from:
+     * null where there is none. */
+    async find(text, first, progress) {
+        const finder = new Finder(this.all(), text), found = [];
+        let next = first;
+        try {
+            for await (const [batch, values] of this.numbered(this.markOf(first), (piece, at) => progress(at))) {
+                for (const [value, item] of values) {
+                    if (value < next) continue;
+                    next = value + 1;
+                    const path = finder.pathIn(batch, item);
+                    if (path !== null) found.push({ value, path, ...batch.copied(item) });
+                    if (found.length === MOST_FOUND) return { found, next };
+                }
+            }
+        } catch (error) {
+            if (error instanceof Stopped) return { found, next };
+            throw error;
+        }
+        return { found, next: null };
+    }
+
+    /** The item around a byte; null where none was read there. */
+    async around(place) {
+        const mark = this.marks.findLast((some) => some.start <= place) ?? this.marks[0];
+        const starts = new Starts(mark.start);
+        let before = mark.values + mark.definitions;
+        for await (const [batch, values] of this.numbered(mark, (piece) => starts.pass(piece))) {
+            const item = starts.waiting.slice(0, batch.items).findLastIndex((start) => start <= place);
+            const begin = starts.waiting[item], end = starts.waiting[item + 1] ?? starts.next;
+            if (place < end) return this.itemAt({ place, item: before + item, begin, end }, batch, item, values);
+            before += batch.items;
+            starts.waiting.splice(0, batch.items);
+        }
+        return null;
+    }
+
+    async itemAt(where, batch, item, values) {
+        const value = values.find(([, other]) => other === item)?.[0];
+        const held = value === undefined ? { defined: batch.id(item) } : { value, ...batch.copied(item) };
+        const from = Math.max(0, where.place - (where.place & 15) - 32);
+        return { ...where, ...held, from, bytes: await this.bytes(from, where.place + 40) };
     }
 
     /** Gives a reader the first definitions of the file. */
@@ -242,6 +299,14 @@ class Server {
 
     some(progress, first, count) {
         return this.stream.some(first, count);
+    }
+
+    find(progress, text, first) {
+        return this.stream.find(text, first, progress);
+    }
+
+    around(progress, place) {
+        return this.stream.around(place);
     }
 
     lines(progress, kind) {

@@ -148,7 +148,9 @@ function partEntry(label, part, key) {
     } else if (isLong(part)) {
         entry.append(opening(partLine(label, part), () => make("pre", "whole-text", wholeText(part))));
     } else {
-        entry.append(make("div", "leaf", ...partLine(label, part)));
+        const leaf = make("div", "leaf", ...partLine(label, part));
+        leaf.tabIndex = -1; // the arrows reach it
+        entry.append(leaf);
     }
     return entry;
 }

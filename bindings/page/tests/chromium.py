@@ -104,10 +104,10 @@ class Page:
                 raise TimeoutError(text)
             time.sleep(0.01)
 
-    def drop(self, path, seconds=300):
-        """Drops a file on the page, and waits until it is read. Gives the page's state then."""
+    def drop(self, *paths, seconds=300):
+        """Drops files on the page, and waits until the first is read. Gives the page's state then."""
         self.evaluate("setState('dropped')")
-        data = {"items": [], "files": [os.path.abspath(path)], "dragOperationsMask": 1}
+        data = {"items": [], "files": [os.path.abspath(path) for path in paths], "dragOperationsMask": 1}
         for kind in ("dragEnter", "dragOver", "drop"):
             self.call("Input.dispatchDragEvent", type=kind, x=200, y=120, data=data)
         return self.settled(seconds)

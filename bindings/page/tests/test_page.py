@@ -165,9 +165,8 @@ class Tests:
             page.call("Browser.setDownloadBehavior", behavior="allow", downloadPath=to)
             path = ROOT / "examples/logins.gob"
             page.drop(path)
-            for button, ending, command in (("show", ".jsonl", "show"), ("values", ".values.jsonl", "values"),
-                                            ("types", ".go", "types")):
-                page.evaluate(f"document.getElementById('save-{button}').click()")
+            for ending, command in ((".jsonl", "show"), (".values.jsonl", "values"), (".go", "types")):
+                page.evaluate(f"$('kind').value = '{command}'; $('save').click()")
                 saved = pathlib.Path(to) / f"logins.gob{ending}"
                 for _ in range(200):
                     if saved.exists():
@@ -175,6 +174,71 @@ class Tests:
                     time.sleep(0.05)
                 self.due(f"what is saved as {ending} is what gob {command} prints",
                          saved.exists() and saved.read_text(encoding="utf-8") == self.printed(command, path)[0])
+            kinds = "[$('saving').hidden, ...[...$('kind').options].map((it) => it.value)]"
+            for data, due in ((b"", [True]), (streams.value(2, b"\2"), [False, "values", "show"]),
+                              (streams.slice_type(65, b"", 2), [False, "show", "types"])):
+                page.drop(self.path("some.gob", data))
+                self.due(f"what there is of {data.hex()} can be saved", page.evaluate(kinds) == due)
+
+    # ---- what is found
+
+    def lists_files(self):
+        paths = [ROOT / "examples/logins.gob", ROOT / "examples/damaged.gob", self.path("\x1b[31m.gob", b"")]
+        names = "[...document.querySelectorAll('#list button')].map((it) => it.textContent)"
+        with Page(self.address) as page:
+            self.due("the first of three files is shown", page.drop(*paths) == "whole")
+            self.due("three files are listed", page.evaluate(names) == ["logins.gob", "damaged.gob", "\\u001b[31m.gob"],
+                     page.evaluate(names))
+            page.evaluate("setState('dropped'); document.querySelectorAll('#list button')[1].click()")
+            self.due("another is shown", page.settled() == "refused")
+            page.wait("document.querySelector('#list [aria-current]')?.textContent === 'damaged.gob'")
+            notes = page.evaluate("[...document.querySelectorAll('#list .note')].map((it) => it.textContent)")
+            self.due("what they are stands beside them", notes[0] == "185 bytes, a whole gob stream"
+                     and notes[1].endswith(", refused") and notes[2] == "0 bytes", notes)
+            page.drop(paths[0])
+            self.due("one file makes no list", page.evaluate("$('files').hidden"))
+
+    def found(self, page, form, **words):
+        """What is found, as text."""
+        page.evaluate("".join(f"$('{name}').value = {text!r}; " for name, text in words.items())
+                      + f"$('found').replaceChildren(); $('{form}').requestSubmit()")
+        page.wait("$('found').children.length > 0")
+        return page.evaluate("$('found').textContent")
+
+    def finds(self):
+        with Page(self.address) as page:
+            page.drop(ROOT / "examples/logins.gob")
+            for text, due in (("BOB", '1 value with "BOB".#1 at .User'), ("<b>", '0 values with "<b>".'),
+                              ("tries", '1 value with "tries".#0 at .Tries'), ("login", '2 values with "login".#0 '),
+                              ("08:31", '1 value with "08:31".#1 at .At'),
+                              ("ip", '1 value with "ip".#0 at .Tags{key 0}')):
+                told = self.found(page, "finder", text=text)
+                self.due(f"{text} is found", told.startswith(due), told)
+            item = "Byte {} is in item {}, which has the bytes {} to {}: "
+            for unit, place, due in (("value", "#1", "#1 Login"), ("value", "2", "No such value: there are 0 to 1."),
+                                     ("value", "x", "No such value"),
+                                     ("byte", "185", "No such byte: there are 0 to 184"),
+                                     ("byte", "120", item.format(120, 3, 108, 120) + "the definition of type 67, "),
+                                     ("byte", "121", item.format(121, 4, 121, 158) + "a value."),
+                                     ("byte", "184", item.format(184, 5, 159, 184) + "a value.")):
+                told = self.found(page, "jumper", unit=unit, place=place)
+                self.due(f"{unit} {place} is gone to", told.startswith(due), told)
+            self.picture(page, "found", False)
+            many = streams.struct_type(65, b"P", [(b"X", 6)]) + b"".join(
+                streams.value(65, b"\1" + streams.raw(b"even" if number % 2 == 0 else b"odd") + b"\0", True)
+                for number in range(100_000))
+            page.drop(self.path("many.gob", many))
+            told = self.found(page, "finder", text="even")
+            due = '100 values with "even", and more may follow.#0 at'
+            self.due("a hundred are found at once", told.startswith(due), told[:300])
+            page.evaluate("$('found').querySelector('button').click()")
+            page.wait("$('found').textContent.includes('#200 at')")
+            told = self.found(page, "jumper", unit="byte", place=str(len(many) - 1))
+            self.due("the last byte is gone to", "is in item 100,000, which" in told and "#99,999" in told, told[:300])
+            page.drop(self.path("cut.gob", many[:-1]))
+            told = self.found(page, "jumper", unit="byte", place=str(len(many) - 2))
+            self.due("no item was read there", told == "This byte is behind the items that were read.", told)
+            self.due("nothing is complained of", not page.complaints(), page.complaints())
 
     # ---- hostile files
 
@@ -213,12 +277,14 @@ class Tests:
                 if reached[-1].startswith("#1"):
                     break
             first = ["pick", "two logins", "lists of points and texts", "a damaged file"]
-            self.due("the tab key reaches all", reached[:4] == first and {"save-values", "save-show"} <= set(reached)
+            all_of = {"kind", "save", "text", "unit", "place"}
+            self.due("the tab key reaches all", reached[:4] == first and all_of <= set(reached)
                      and reached[-1].startswith("#1"), reached)
             page.press("Enter", 13, "\r")
             opened = f"{ACTIVE}.parentElement.open && {ACTIVE}.parentElement.querySelectorAll('li').length"
             page.wait(opened)
             self.due("the enter key opens a value", page.evaluate(opened) == 2)
+            self.walks(page)
             nodes = page.call("Accessibility.getFullAXTree")["nodes"]
             roles = [(it["role"]["value"], it.get("name", {}).get("value", "")) for it in nodes if not it["ignored"]]
             pressed = ("button", "DisclosureTriangle", "textbox", "progressbar")
@@ -226,6 +292,19 @@ class Tests:
             self.due("all that can be pressed has a name", not nameless, nameless)
             status = [it for it in roles if it[0] == "status"]
             self.due("the outcome is a status", bool(status), roles[:40])
+
+    def walks(self, page):
+        """The arrows walk the tree from its second value on, which is open."""
+        steps = [("ArrowDown", 'User "bob"'), ("ArrowDown", 'At "2026'), ("ArrowUp", 'User "bob"'),
+                 ("ArrowLeft", "#1 "), ("ArrowLeft", "#1 "), ("ArrowUp", "Tags "), ("ArrowRight", "Tags "),
+                 ("ArrowRight", '"ip" '), ("ArrowLeft", "Tags "), ("ArrowLeft", "Tags "), ("ArrowLeft", "#0 ")]
+        codes = {"ArrowLeft": 37, "ArrowUp": 38, "ArrowRight": 39, "ArrowDown": 40}
+        for key, due in steps:
+            page.press(key, codes[key])
+            told = page.evaluate(f"{ACTIVE}.textContent")
+            self.due(f"{key} leads to {due}", told.startswith(due), told)
+        page.press("/", 191, "/")
+        self.due("/ leads to the search", page.evaluate(f"[{ACTIVE}.id, {ACTIVE}.value]") == ["text", ""])
 
     def fits_phones(self):
         for scheme in ("light", "dark"):
@@ -293,8 +372,8 @@ class Tests:
 
     def run(self):
         for part in (self.reads_streams, self.explains, self.opens_anywhere, self.has_examples, self.saves,
-                     self.shows_text_as_text, self.serves_keyboards, self.fits_phones, self.opens_large_values,
-                     self.stays_alive):
+                     self.lists_files, self.finds, self.shows_text_as_text, self.serves_keyboards, self.fits_phones,
+                     self.opens_large_values, self.stays_alive):
             try:
                 part()
             except (TimeoutError, RuntimeError, OSError) as error:
@@ -304,8 +383,8 @@ class Tests:
 
 
 # what the page makes its own elements of
-TAGS = set("A BUTTON CODE DD DETAILS DIV DL DT H2 INPUT LABEL LI MARK NOSCRIPT OUTPUT P PRE PROGRESS SECTION SPAN "
-           "STRONG SUMMARY UL".split())
+TAGS = set("A BUTTON CODE DD DETAILS DIV DL DT FORM H2 INPUT LABEL LI MARK NOSCRIPT OPTION OUTPUT P PRE PROGRESS "
+           "SECTION SELECT SPAN STRONG SUMMARY UL".split())
 ACTIVE = "document.activeElement"
 OTHER_SCRIPT = """{
     const script = document.createElement("script");
