@@ -1,7 +1,7 @@
 -- How a run that writes texts of items goes on, and how it ends.
-use Rattle.std.proofs.Common.{◌≡◌, ℕ, ◌+◌, ◌-◌, ◌<◌, ◌≤◌, arith, List, [], ◌++◌, length, drop, Option, Some}
+use Rattle.std.proofs.Common.{◌≡◌, ℕ, ◌+◌, ◌-◌, ◌<◌, arith, List, [], ◌++◌, length, Option, Some}
 use Rattle.std.proofs.Common.{Result, Ok, Err, ◌∙◌, ap, sym, subst, refl, append_assoc, append-nil, length-append}
-use Rattle.std.proofs.Common.{length-take, Bool, IfSome, ◌∷◌}
+use Rattle.std.proofs.Common.{Bool, IfSome, ◌∷◌}
 use Rattle.std.proofs.lemmas.List.{length-take-le}
 use Rattle.std.specs.Result.{IsErrAnd}
 use Rattle.std.specs.Io.KnownBytes.{Appends, Keeps}
@@ -25,7 +25,7 @@ use Rattle.gob_filled.specs.OutcomeLaws.{unfilled_item}
 use Rattle.gob_filled.specs.Stream.{FilledItem, IsFilledItem, no_more, of_value, putting}
 use Rattle.gob_filled.proofs.Strict.{unfilled}
 use Rattle.gob_go.specs.Calls.Reader.{EndsWith, GivesItems, gives_none, gives_one, HasReadFrom, Longest}
-use Rattle.gob_go.specs.Calls.Reader.{PassesOne, StepsOnFrom, Stops, StopsFrom, room_in, session_of, waits_in}
+use Rattle.gob_go.specs.Calls.Reader.{PassesOne, StepsOnFrom, Stops, StopsFrom, session_of, waits_in}
 use Rattle.gob_go.specs.Calls.Session.{IsBetweenItems, limits_of, taken_of, types_of}
 use Rattle.gob_go.specs.declared.item.GoItem.{GoItem}
 use Rattle.gob_go.specs.Calls.Reader.{GoReader}
