@@ -9,7 +9,8 @@ use Rattle.std.proofs.lemmas.List.{take_more}
 use Rattle.std.specs.Fmt.{decimal}
 use Rattle.std.specs.Prelude.{OnOk, Result, Ok, Err}
 use Rattle.gob_explain.specs.Column.{ColumnIs, HasLineAdded, byte_lines, count_line, hex_column, hex_text}
-use Rattle.gob_explain.specs.Column.{line_behind, line_text, lines_below, no_line, offset_text, saturated, spaces}
+use Rattle.gob_explain.specs.Column.{Meaning, line_behind, line_text, lines_below, no_line, offset_text, saturated}
+use Rattle.gob_explain.specs.Column.{spaces}
 use Rattle.gob_explain.proofs.RowLaws.{append_nil}
 
 -- ---- spaces
@@ -216,20 +217,20 @@ columns_join o p {xs = xs} {s = s} e c no_line = column_as (sym (append_nil xs))
 columns_join o p {xs = xs} {s = s} e c (line_behind {bytes = bytes} {text = text} more levels meaning d) =
     let at : saturated (p + length bytes) ≡ saturated (o + length (xs ++ bytes)) =
     omega (arith, e, length-append xs bytes) in
-    let line = line_text (saturated (p + length bytes)) more levels meaning in
+    let line = line_text (saturated (p + length bytes)) more levels meaning.text in
     column_as (append_assoc xs bytes more) (append_assoc s text line)
-    (subst (λ (n : ℕ). ColumnIs o ((xs ++ bytes) ++ more) ((s ++ text) ++ line_text n more levels meaning)) (sym at)
-    (line_behind more levels meaning (columns_join o p e c d)))
+    (subst (λ (n : ℕ). ColumnIs o ((xs ++ bytes) ++ more) ((s ++ text) ++ line_text n more levels meaning.text))
+    (sym at) (line_behind more levels meaning (columns_join o p e c d)))
 
 -- a line behind others, at the offset that is told
-pub column_on : (o p : ℕ) (bytes more text : List ℕ) (levels : ℕ) (meaning : List ℕ)
+pub column_on : (o p : ℕ) (bytes more text : List ℕ) (levels : ℕ) (meaning : Meaning)
     → p ≡ saturated (o + length bytes) → ColumnIs o bytes text
-    → ColumnIs o (bytes ++ more) (text ++ line_text p more levels meaning)
+    → ColumnIs o (bytes ++ more) (text ++ line_text p more levels meaning.text)
 column_on o p bytes more text levels meaning e c =
-    subst (λ (n : ℕ). ColumnIs o (bytes ++ more) (text ++ line_text n more levels meaning)) (sym e)
+    subst (λ (n : ℕ). ColumnIs o (bytes ++ more) (text ++ line_text n more levels meaning.text)) (sym e)
     (line_behind more levels meaning c)
 
 -- a line alone
-pub one_line : (o p : ℕ) (bytes : List ℕ) (levels : ℕ) (meaning : List ℕ) → p ≡ saturated o
-    → ColumnIs o bytes (line_text p bytes levels meaning)
+pub one_line : (o p : ℕ) (bytes : List ℕ) (levels : ℕ) (meaning : Meaning) → p ≡ saturated o
+    → ColumnIs o bytes (line_text p bytes levels meaning.text)
 one_line o p bytes levels meaning e = column_on o p [] bytes [] levels meaning (omega (arith, e)) no_line

@@ -13,7 +13,7 @@ use Rattle.gob_types.specs.Table.{Table}
 use Rattle.gob_types.specs.declared.id.TypeId.{TypeId}
 use Rattle.gob_read.proofs.Machine.Pieces.{take_further}
 use Rattle.gob_explain.specs.Body.{EndsSo, begins_value}
-use Rattle.gob_explain.specs.Column.{ColumnIs, IsSomeLine, line_text, no_line, saturated}
+use Rattle.gob_explain.specs.Column.{ColumnIs, IsSomeLine, Meaning, line_text, no_line, saturated}
 use Rattle.gob_explain.specs.Items.{LineOfRest, LinesOfBody, ShowsBodyTo, ShowsFirst, ShowsItemTo}
 use Rattle.gob_explain.specs.Items.{LinesOfItem, NamesBody, no_count, no_type_number, none_left, of_body}
 use Rattle.gob_explain.specs.Items.{of_definition, of_value, rows_lead, some_left}
@@ -47,8 +47,8 @@ pub no_item_lines : (T : Table) (offset : ℕ) (bytes : List ℕ) → NoNumberSt
     → ShowsItemTo T offset bytes 0 []
 no_item_lines T offset bytes n = record { rows = no_count n; column = no_line }
 
-count_column : (offset a : ℕ) (bytes meaning : List ℕ) → offset < 2 ^ 64
-    → ColumnIs offset (take a bytes) (line_text offset (between 0 a bytes) 0 meaning)
+count_column : (offset a : ℕ) (bytes : List ℕ) (meaning : Meaning) → offset < 2 ^ 64
+    → ColumnIs offset (take a bytes) (line_text offset (between 0 a bytes) 0 meaning.text)
 count_column offset a bytes meaning fits =
     column_as (take_between bytes 0 a (omega arith)) refl
     (one_line offset offset (between 0 a bytes) 0 meaning (omega (arith, fits)))
@@ -59,14 +59,14 @@ count_lines T offset n a bytes text fits u none h =
     subst (λ (t : List ℕ). ShowsItemTo T offset bytes a t) (sym h.1)
     (record { rows = no_type_number h.0 u none; column = count_column offset a bytes h.0 fits })
 
-head_column : (offset a b p : ℕ) (bytes meaning named : List ℕ) → offset < 2 ^ 64 → a ≤ b → b ≤ length bytes
+head_column : (offset a b p : ℕ) (bytes : List ℕ) (meaning named : Meaning) → offset < 2 ^ 64 → a ≤ b → b ≤ length bytes
     → p ≡ saturated (offset + a)
-    → ColumnIs offset (take b bytes) (line_text offset (between 0 a bytes) 0 meaning
-    ++ line_text p (between a b bytes) 1 named)
+    → ColumnIs offset (take b bytes) (line_text offset (between 0 a bytes) 0 meaning.text
+    ++ line_text p (between a b bytes) 1 named.text)
 head_column offset a b p bytes meaning named fits order inside is =
     let size : length (take a bytes) ≡ a = length-take-le a bytes (omega arith) in
     column_as (take_between bytes a b order) refl (column_on offset p (take a bytes) (between a b bytes)
-    (line_text offset (between 0 a bytes) 0 meaning) 1 named (omega (arith, is, size))
+    (line_text offset (between 0 a bytes) 0 meaning.text) 1 named (omega (arith, is, size))
     (count_column offset a bytes meaning fits))
 
 pub item_lines : (T : Table) (t : TypeId) (offset n m a b p q place : ℕ) (bytes rest x y text : List ℕ)
@@ -77,8 +77,8 @@ pub item_lines : (T : Table) (t : TypeId) (offset n m a b p q place : ℕ) (byte
 item_lines T t offset n m a b p q place bytes rest x y text fits u v names is_p is_q is_rest first second h =
     let order = v.order in
     let inside = v.inside in
-    let count = line_text offset (between 0 a bytes) 0 first.0 in
-    let named = λ (p : ℕ). line_text p (between a b bytes) 1 second.0 in
+    let count = line_text offset (between 0 a bytes) 0 first.0.text in
+    let named = λ (p : ℕ). line_text p (between a b bytes) 1 second.0.text in
     let head = head_column offset a b p bytes first.0 second.0 fits (omega (arith, order)) inside is_p in
     let size : length (take b bytes) ≡ b = length-take-le b bytes inside in
     let behind = subst (λ (r : List ℕ). ColumnIs q (take place r) text) is_rest h.column in
@@ -119,10 +119,10 @@ pub rest_shown : (T : Table) (offset place p : ℕ) (bytes rest text last : List
     → IsSomeLine p rest 0 last → ShowsFirst T offset bytes place (text ++ last)
 rest_shown T offset place p bytes rest text last l is is_rest h line =
     let size : length (take place bytes) ≡ place = length-take-le place bytes (omega arith) in
-    let made = line_text p rest 0 line.0 in
-    let same : line_text (saturated (offset + place)) (drop place bytes) 0 line.0 ≡ made =
-    ap (λ (n : ℕ). line_text n (drop place bytes) 0 line.0) (sym is)
-    ∙ ap (λ (r : List ℕ). line_text p r 0 line.0) (sym is_rest) in
+    let made = line_text p rest 0 line.0.text in
+    let same : line_text (saturated (offset + place)) (drop place bytes) 0 line.0.text ≡ made =
+    ap (λ (n : ℕ). line_text n (drop place bytes) 0 line.0.text) (sym is)
+    ∙ ap (λ (r : List ℕ). line_text p r 0 line.0.text) (sym is_rest) in
     let all : take place bytes ++ rest ≡ bytes =
     ap (λ (r : List ℕ). take place bytes ++ r) is_rest ∙ take-append-drop place bytes in
     subst (λ (t : List ℕ). ShowsFirst T offset bytes place (text ++ t)) (sym line.1)

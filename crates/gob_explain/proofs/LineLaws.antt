@@ -5,7 +5,7 @@ use Rattle.std.proofs.lemmas.List.{length-take-le}
 use Rattle.std.specs.Option.{unwrap_or}
 use Rattle.gob_types.specs.Table.{Table, shape_of}
 use Rattle.gob_types.specs.declared.kind.Shape.{Shape}
-use Rattle.gob_explain.specs.Column.{ColumnIs, HasLineAdded, line_text, no_line, saturated}
+use Rattle.gob_explain.specs.Column.{ColumnIs, HasLineAdded, Meaning, line_text, no_line, saturated}
 use Rattle.gob_explain.specs.Lines.{AreLines, AreOneLine, BeginsLine, GoesOnBehind, IsFollowed, IsOpen, SharesLine}
 use Rattle.gob_explain.specs.Lines.{StandsBehind, last_of, last_row, line_of_rows, no_row}
 use Rattle.gob_explain.specs.Walk.{between}
@@ -79,9 +79,11 @@ lines_as : {T : Table} {o : ℕ} {b : List ℕ} {rows others : List Row} {s t : 
 lines_as {T = T} {o = o} {b = b} {rows = rows} {others = others} {s = s} {t = t} e f h =
     subst (λ (l : List ℕ). AreLines T o b others l) f (subst (λ (rows : List Row). AreLines T o b rows s) e h)
 
-ended_line : (T : Table) (offset : ℕ) (body : List ℕ) (l : Line) (old new meaning : List ℕ) (rows : List Row) (at : ℕ)
+ended_line : (T : Table) (offset : ℕ) (body : List ℕ) (l : Line) (old new : List ℕ) (meaning : Meaning)
+    (rows : List Row) (at : ℕ)
     → HasPrinted T offset body (Some l) old rows at
-    → HasLineAdded (saturated (offset + l.begin)) (between l.begin l.end body) (saturated (l.depth + 1)) meaning old new
+    → HasLineAdded (saturated (offset + l.begin)) (between l.begin l.end body) (saturated (l.depth + 1)) meaning.text
+    old new
     → HasPrinted T offset body None new rows at
 ended_line T offset body l old new meaning rows at h e =
     let o = h.of_line in
@@ -90,10 +92,10 @@ ended_line T offset body l old new meaning rows at h e =
     let end : l.end ≡ at = o.end in
     let first = o.first in
     let last = last_row first o.others in
-    let same = line_text_as offset body l.begin first.begin l.end last.end l.depth first.depth meaning o.begin
+    let same = line_text_as offset body l.begin first.begin l.end last.end l.depth first.depth meaning.text o.begin
     (end ∙ sym o.last) o.depth in
     let text : old ++ line_text (saturated (offset + first.begin)) (between first.begin last.end body)
-    (saturated (first.depth + 1)) meaning ≡ new = ap (λ (t : List ℕ). old ++ t) (sym same) ∙ sym e in
+    (saturated (first.depth + 1)) meaning.text ≡ new = ap (λ (t : List ℕ). old ++ t) (sym same) ∙ sym e in
     let all : h.ended ++ (first ∷ o.others) ≡ rows =
     ap (λ (x : List Row). h.ended ++ x) (sym o.rows) ∙ sym h.all in
     let size : length (take l.begin body) ≡ l.begin = length-take-le l.begin body (omega arith) in

@@ -12,7 +12,7 @@ use Rattle.gob_types.specs.declared.kind.Kind.{Kind}
 use Rattle.gob_types.specs.declared.kind.Kind.TheVariants as kind
 use Rattle.gob_types.specs.declared.kind.Shape.{Shape}
 use Rattle.gob_types.specs.Table.{Table, shape_of}
-use Rattle.gob_value.specs.Tree.{Tree, no_tree, no_pair, no_field}
+use Rattle.gob_value.specs.Tree.{Tree, no_tree, no_pair, no_field, tree_count, pair_count}
 use Rattle.gob_value.specs.Tree as Value
 use Rattle.gob_value.specs.Spelling.{SpellsAs}
 use Rattle.gob_value.specs.Spelling as spelling
@@ -21,11 +21,14 @@ use Rattle.gob_read.specs.Expects.{FieldsRun, no_fields}
 use Rattle.gob_read.specs.Expects as expects
 use Rattle.gob_read.proofs.Grammar.Complete.{run_then}
 use Rattle.gob_read.proofs.Grammar.Inside.{each_more, pairs_more, run_more}
-use Rattle.gob_explain.specs.Walk.{BeginsPart, HasRawBytes, opened}
-use Rattle.gob_explain.specs.Machine.Walking.{BeginsEachKey, BeginsEachPart, BeginsEachValue, SpellsEntries}
-use Rattle.gob_explain.specs.Machine.Walking.{SpellsMany, SpellsOne}
+use Rattle.gob_explain.specs.Open.{Open}
+use Rattle.gob_explain.specs.declared.row.Step.{Step}
+use Rattle.gob_explain.specs.declared.row.Step.TheVariants as step
+use Rattle.gob_explain.specs.Walk.{HasRawBytes, opened}
+use Rattle.gob_explain.specs.Machine.Walking.{BeginsAt, BeginsEachKey, BeginsEachPart, BeginsEachValue}
+use Rattle.gob_explain.specs.Machine.Walking.{SpellsEntries, SpellsMany, SpellsOne}
 use Rattle.gob_explain.proofs.RowLaws.{append_nil}
-use Rattle.gob_explain.proofs.TakesLaws.{enters_part}
+use Rattle.gob_explain.proofs.TakesLaws.{enters_at}
 
 -- ---- values without parts
 
@@ -99,19 +102,21 @@ complex_whole {T = T} b c f e p q =
 -- ---- the parts of a list
 
 -- behind the count
-pub slice_parts : {T : Table} {t u e : TypeId} {s : Shape} {n around : ℕ} (p c : List ℕ)
-    → BeginsPart T t p u around → shape_of T u ≡ Some s → s.kind ≡ kind.Slice e
-    → IsUnsigned n c → BeginsEachPart T t (p ++ c) e n (around + 1)
-slice_parts {T = T} {t = t} {e = e} {around = around} p c b f k n = λ vs q qs i.
-    subst (λ r. BeginsPart T t r e (around + 1)) (sym (append_assoc p c q))
-    (enters_part b f (subst (λ k. expects.Enters T k (c ++ q) e) (sym k) (expects.slice_element n qs i)))
+pub slice_parts : {T : Table} {t u e : TypeId} {s : Shape} {base n around : ℕ} {outer : List Open} {way : List Step}
+    (p c : List ℕ) → BeginsAt T t base p outer u around way → shape_of T u ≡ Some s → s.kind ≡ kind.Slice e
+    → IsUnsigned n c → BeginsEachPart T t base (p ++ c) outer e n (around + 1) way
+slice_parts {T = T} {t = t} {e = e} {base = base} {around = around} {outer = outer} {way = way} p c b f k n =
+    λ vs q qs i.
+    subst (λ r. BeginsAt T t base r outer e (around + 1) (way ++ step.Element (tree_count vs) ∷ []))
+    (sym (append_assoc p c q)) (enters_at b f k (expects.slice_element n qs i))
 
-pub array_parts : {T : Table} {t u e : TypeId} {s : Shape} {n around : ℕ} (p c : List ℕ)
-    → BeginsPart T t p u around → shape_of T u ≡ Some s → s.kind ≡ kind.Array e n
-    → IsUnsigned n c → BeginsEachPart T t (p ++ c) e n (around + 1)
-array_parts {T = T} {t = t} {e = e} {around = around} p c b f k n = λ vs q qs i.
-    subst (λ r. BeginsPart T t r e (around + 1)) (sym (append_assoc p c q))
-    (enters_part b f (subst (λ k. expects.Enters T k (c ++ q) e) (sym k) (expects.array_element n qs i)))
+pub array_parts : {T : Table} {t u e : TypeId} {s : Shape} {base n around : ℕ} {outer : List Open} {way : List Step}
+    (p c : List ℕ) → BeginsAt T t base p outer u around way → shape_of T u ≡ Some s → s.kind ≡ kind.Array e n
+    → IsUnsigned n c → BeginsEachPart T t base (p ++ c) outer e n (around + 1) way
+array_parts {T = T} {t = t} {e = e} {base = base} {around = around} {outer = outer} {way = way} p c b f k n =
+    λ vs q qs i.
+    subst (λ r. BeginsAt T t base r outer e (around + 1) (way ++ step.Element (tree_count vs) ∷ []))
+    (sym (append_assoc p c q)) (enters_at b f k (expects.array_element n qs i))
 
 -- and the whole list
 pub slice_whole : {T : Table} {u e : TypeId} {s : Shape} {n : ℕ} (c b : List ℕ) → shape_of T u ≡ Some s
@@ -129,9 +134,12 @@ pub none_many : {T : Table} {e : TypeId} → SpellsMany T e 0 []
 none_many = (no_tree, spelling.no_element, refl)
 
 -- behind fewer elements another one begins
-pub next_part : {T : Table} {t e : TypeId} {i : ℕ} (n around : ℕ) (p b : List ℕ) → BeginsEachPart T t p e n around
-    → SpellsMany T e i b → i < n → BeginsPart T t (p ++ b) e around
-next_part n around p b each q k = each q.0 b q.1 (omega (arith, q.2))
+pub next_part : {T : Table} {t e : TypeId} {base i : ℕ} {outer : List Open} (n around : ℕ) (way : List Step)
+    (p b : List ℕ) → BeginsEachPart T t base p outer e n around way → SpellsMany T e i b → i < n
+    → BeginsAt T t base (p ++ b) outer e around (way ++ step.Element i ∷ [])
+next_part {T = T} {t = t} {e = e} {base = base} {outer = outer} n around way p b each q k =
+    subst (λ i. BeginsAt T t base (p ++ b) outer e around (way ++ step.Element i ∷ [])) q.2
+    (each q.0 b q.1 (omega (arith, q.2)))
 
 -- with one more
 pub many_more : {T : Table} {e : TypeId} {i : ℕ} (b c : List ℕ) → SpellsMany T e i b → SpellsOne T e c
@@ -141,19 +149,21 @@ many_more b c p q =
 
 -- ---- the pairs of a map
 
-pub map_keys : {T : Table} {t u k e : TypeId} {s : Shape} {n around : ℕ} (p c : List ℕ) → BeginsPart T t p u around
-    → shape_of T u ≡ Some s → s.kind ≡ kind.Map k e → IsUnsigned n c
-    → BeginsEachKey T t (p ++ c) k e n (around + 1)
-map_keys {T = T} {t = t} {k = key} {around = around} p c b f k n = λ ps q qs i.
-    subst (λ r. BeginsPart T t r key (around + 1)) (sym (append_assoc p c q))
-    (enters_part b f (subst (λ k. expects.Enters T k (c ++ q) key) (sym k) (expects.next_key n qs i)))
+pub map_keys : {T : Table} {t u k e : TypeId} {s : Shape} {base n around : ℕ} {outer : List Open} {way : List Step}
+    (p c : List ℕ) → BeginsAt T t base p outer u around way → shape_of T u ≡ Some s → s.kind ≡ kind.Map k e
+    → IsUnsigned n c → BeginsEachKey T t base (p ++ c) outer k e n (around + 1) way
+map_keys {T = T} {t = t} {k = key} {base = base} {around = around} {outer = outer} {way = way} p c b f k n =
+    λ ps q qs i.
+    subst (λ r. BeginsAt T t base r outer key (around + 1) (way ++ step.Key (pair_count ps) ∷ []))
+    (sym (append_assoc p c q)) (enters_at b f k (expects.next_key n qs i))
 
-pub map_values : {T : Table} {t u k e : TypeId} {s : Shape} {n around : ℕ} (p c : List ℕ) → BeginsPart T t p u around
-    → shape_of T u ≡ Some s → s.kind ≡ kind.Map k e → IsUnsigned n c
-    → BeginsEachValue T t (p ++ c) k e n (around + 1)
-map_values {T = T} {t = t} {e = e} {around = around} p c b f k n = λ ps x q r qs i y.
-    subst (λ z. BeginsPart T t z e (around + 1)) (sym (append_assoc p c (q ++ r)))
-    (enters_part b f (subst (λ k. expects.Enters T k (c ++ (q ++ r)) e) (sym k) (expects.next_value n qs i y)))
+pub map_values : {T : Table} {t u k e : TypeId} {s : Shape} {base n around : ℕ} {outer : List Open} {way : List Step}
+    (p c : List ℕ) → BeginsAt T t base p outer u around way → shape_of T u ≡ Some s → s.kind ≡ kind.Map k e
+    → IsUnsigned n c → BeginsEachValue T t base (p ++ c) outer k e n (around + 1) way
+map_values {T = T} {t = t} {e = e} {base = base} {around = around} {outer = outer} {way = way} p c b f k n =
+    λ ps x q r qs i y.
+    subst (λ z. BeginsAt T t base z outer e (around + 1) (way ++ step.Value (pair_count ps) ∷ []))
+    (sym (append_assoc p c (q ++ r))) (enters_at b f k (expects.next_value n qs i y))
 
 pub map_whole : {T : Table} {u k e : TypeId} {s : Shape} {n : ℕ} (c b : List ℕ) → shape_of T u ≡ Some s
     → s.kind ≡ kind.Map k e → IsUnsigned n c → SpellsEntries T k e n b → SpellsOne T u (c ++ b)
@@ -164,14 +174,19 @@ map_whole {T = T} c b f e p q =
 pub none_entries : {T : Table} {k e : TypeId} → SpellsEntries T k e 0 []
 none_entries = (no_pair, spelling.no_entry, refl)
 
-pub next_key : {T : Table} {t k e : TypeId} {i : ℕ} (n around : ℕ) (p b : List ℕ) → BeginsEachKey T t p k e n around
-    → SpellsEntries T k e i b → i < n → BeginsPart T t (p ++ b) k around
-next_key n around p b each q k = each q.0 b q.1 (omega (arith, q.2))
+pub next_key : {T : Table} {t k e : TypeId} {base i : ℕ} {outer : List Open} (n around : ℕ) (way : List Step)
+    (p b : List ℕ) → BeginsEachKey T t base p outer k e n around way → SpellsEntries T k e i b → i < n
+    → BeginsAt T t base (p ++ b) outer k around (way ++ step.Key i ∷ [])
+next_key {T = T} {t = t} {k = key} {base = base} {outer = outer} n around way p b each q k =
+    subst (λ i. BeginsAt T t base (p ++ b) outer key around (way ++ step.Key i ∷ [])) q.2
+    (each q.0 b q.1 (omega (arith, q.2)))
 
-pub next_value : {T : Table} {t k e : TypeId} {i : ℕ} (n around : ℕ) (p b c : List ℕ)
-    → BeginsEachValue T t p k e n around → SpellsEntries T k e i b → i < n → SpellsOne T k c
-    → BeginsPart T t (p ++ (b ++ c)) e around
-next_value n around p b c each q k x = each q.0 x.0 b c q.1 (omega (arith, q.2)) x.1
+pub next_value : {T : Table} {t k e : TypeId} {base i : ℕ} {outer : List Open} (n around : ℕ) (way : List Step)
+    (p b c : List ℕ) → BeginsEachValue T t base p outer k e n around way → SpellsEntries T k e i b → i < n
+    → SpellsOne T k c → BeginsAt T t base (p ++ (b ++ c)) outer e around (way ++ step.Value i ∷ [])
+next_value {T = T} {t = t} {e = e} {base = base} {outer = outer} n around way p b c each q k x =
+    subst (λ i. BeginsAt T t base (p ++ (b ++ c)) outer e around (way ++ step.Value i ∷ [])) q.2
+    (each q.0 x.0 b c q.1 (omega (arith, q.2)) x.1)
 
 pub entries_more : {T : Table} {k e : TypeId} {i : ℕ} (b c d : List ℕ) → SpellsEntries T k e i b → SpellsOne T k c
     → SpellsOne T e d → SpellsEntries T k e (i + 1) (b ++ (c ++ d))
@@ -180,13 +195,12 @@ entries_more b c d p q r =
 
 -- ---- the fields of a struct
 
-pub next_field : {T : Table} {t u : TypeId} {s : Shape} {types : List Field} {f : Field} {next number around : ℕ}
-    (p b c : List ℕ) → BeginsPart T t p u around → shape_of T u ≡ Some s
-    → s.kind ≡ kind.Struct types → FieldsRun T types 0 next b → next ≤ number
+pub next_field : {T : Table} {t u : TypeId} {s : Shape} {types : List Field} {f : Field} {base next number around : ℕ}
+    {outer : List Open} {way : List Step} (p b c : List ℕ) → BeginsAt T t base p outer u around way
+    → shape_of T u ≡ Some s → s.kind ≡ kind.Struct types → FieldsRun T types 0 next b → next ≤ number
     → slice_get types number ≡ Some f → IsUnsigned (number + 1 - next) c
-    → BeginsPart T t (p ++ (b ++ c)) f.id (around + 1)
-next_field {T = T} {f = f} p b c g h k run n at q =
-    enters_part g h (subst (λ k. expects.Enters T k (b ++ c) f.id) (sym k) (expects.next_field run n at q))
+    → BeginsAt T t base (p ++ (b ++ c)) outer f.id (around + 1) (way ++ step.Field u number ∷ [])
+next_field p b c g h k run n at q = enters_at g h k (expects.next_field run n at q)
 
 pub run_more_at : {T : Table} {types : List Field} {f : Field} {next number : ℕ} (b c d : List ℕ)
     → FieldsRun T types 0 next b → next ≤ number → slice_get types number ≡ Some f

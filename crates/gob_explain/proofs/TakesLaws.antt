@@ -1,6 +1,6 @@
 -- What comes next in a value or a filling, and what the row that takes it leads to.
 use Rattle.std.proofs.Common.{◌≡◌, ℕ, zero, suc, ◌+◌, ◌-◌, ◌/◌, ◌%◌, ◌*◌, ◌<◌, ◌≤◌, List, [], ◌∷◌, ◌++◌, length, Some}
-use Rattle.std.proofs.Common.{refl, sym, ap, ◌∙◌, subst, append_assoc, arith}
+use Rattle.std.proofs.Common.{refl, sym, ap, ◌∙◌, subst, append-nil, append_assoc, arith}
 use Rattle.gob_num.specs.Signed.{negative, not_negative}
 use Rattle.gob_num.specs.Unsigned.{IsUnsigned}
 use Rattle.gob_num.proofs.PublicLaws.{unsigned_pattern}
@@ -18,12 +18,14 @@ use Rattle.gob_read.specs.Expects.{FieldsRun, no_fields, field_then, Enters, Exp
 use Rattle.gob_read.specs.Expected as expected
 use Rattle.gob_read.specs.Expects as expects
 use Rattle.gob_explain.specs.Open.{Open, a_filling, a_value, content, count, description, name, segment, type_number}
+use Rattle.gob_explain.specs.Path.{PathOf, at_begin, in_itself, in_part, of_filling, step_into}
 use Rattle.gob_explain.specs.declared.row.Row.{Row}
+use Rattle.gob_explain.specs.declared.row.Step.{Step}
 use Rattle.gob_explain.specs.declared.row.What.{What}
 use Rattle.gob_explain.specs.declared.row.What.TheVariants as what
 use Rattle.gob_explain.specs.Walk.{Awaits, BeginsPart, Comes, HasRawBytes, IsRow, Steps, opened}
 use Rattle.gob_explain.specs.Walk as walk
-use Rattle.gob_explain.specs.Machine.Walking.{Takes}
+use Rattle.gob_explain.specs.Machine.Walking.{BeginsAt, IsValueAt, Takes}
 use Rattle.gob_explain.proofs.RowLaws.{append_nil}
 
 -- ---- what comes next
@@ -82,6 +84,40 @@ enters_part {T = T} {t = t} {p = p} {c = c} {around = around} b f n = record {
       (subst (λ e. ExpectsTop T t (p ++ (c ++ q)) w e) deep (b.expects (c ++ q) w (suc d) (expects.in_part f n x)));
 }
 
+-- ---- at which path
+
+-- and it is a step further
+pub enters_at : {T : Table} {t u v : TypeId} {s : Shape} {k : Kind} {base around : ℕ} {p c : List ℕ}
+    {outer : List Open} {way : List Step} → BeginsAt T t base p outer u around way → shape_of T u ≡ Some s
+    → s.kind ≡ k → (n : Enters T k c v)
+    → BeginsAt T t base (p ++ c) outer v (around + 1) (way ++ step_into u n ∷ [])
+enters_at {T = T} {t = t} {u = u} {v = v} {base = base} {p = p} {c = c} {outer = outer} {way = way} b f e n = record {
+  begins = enters_part b.begins f (subst (λ k. Enters T k c v) (sym e) n);
+  leads = λ q path x.
+      subst (λ l. PathOf T (a_value t base l ∷ outer) ((way ++ step_into u n ∷ []) ++ path)) (sym (append_assoc p c q))
+      (subst (λ w. PathOf T (a_value t base (p ++ (c ++ q)) ∷ outer) w)
+      (sym (append_assoc way (step_into u n ∷ []) path))
+      (b.leads (c ++ q) (step_into u n ∷ path) (in_part f e n x)));
+}
+
+-- what a part expects itself is of it
+path_itself : {T : Table} {t u : TypeId} {s : Shape} {base around : ℕ} {p q : List ℕ} {outer : List Open}
+    {way : List Step} {w : Expected} → BeginsAt T t base p outer u around way → shape_of T u ≡ Some s
+    → ExpectsAt T s.kind q w → PathOf T (a_value t base (p ++ q) ∷ outer) way
+path_itself {T = T} {t = t} {base = base} {p = p} {q = q} {outer = outer} {way = way} b f x =
+    subst (λ w. PathOf T (a_value t base (p ++ q) ∷ outer) w) (append-nil way) (b.leads q [] (in_itself f x))
+
+pub path_first : {T : Table} {t u : TypeId} {s : Shape} {base around : ℕ} {p : List ℕ} {outer : List Open}
+    {way : List Step} → BeginsAt T t base p outer u around way → shape_of T u ≡ Some s
+    → PathOf T (a_value t base p ∷ outer) way
+path_first {T = T} {t = t} {base = base} {p = p} {outer = outer} {way = way} b f =
+    subst (λ l. PathOf T (a_value t base l ∷ outer) way) (append_nil p) (path_itself b f expects.first)
+
+pub path_begin : {T : Table} {t : TypeId} {base : ℕ} {outer : List Open} {way : List Step}
+    → IsValueAt T t base outer way → PathOf T (a_value t base [] ∷ outer) way
+path_begin {T = T} {t = t} {base = base} {outer = outer} {way = way} v =
+    subst (λ w. PathOf T (a_value t base [] ∷ outer) w) (append-nil way) (v [] [] at_begin)
+
 -- ---- what takes the next row in a value
 
 pub opened_once : (a : Allowed) → opened (opened a) ≡ opened a
@@ -102,9 +138,11 @@ row_comes {T = T} {t = t} {p = p} {w = w} {x = x} {d = d} r is c =
     subst (λ y. Comes T t p w y r.id d) (sym is.0) (subst (λ v. Comes T t p w x v d) (sym is.1) c)
 
 pub takes_number : {T : Table} {t u : TypeId} {base d e : ℕ} {p : List ℕ} {outer : List Open} {a : Allowed} {x : What}
-    → Comes T t p (a_number a) x u e → base + e ≡ d → opened a ≡ a
-    → Takes T (a_value t base p ∷ outer) (a_number a) x u d (goes_on t base p outer)
-takes_number {T = T} {t = t} {u = u} {base = base} {d = d} {e = e} {p = p} {outer = outer} {a = a} c deep o = record {
+    {way : List Step} → Comes T t p (a_number a) x u e → base + e ≡ d → opened a ≡ a
+    → PathOf T (a_value t base p ∷ outer) way
+    → Takes T (a_value t base p ∷ outer) (a_number a) x u d way (goes_on t base p outer)
+takes_number {T = T} {t = t} {u = u} {base = base} {d = d} {e = e} {p = p} {outer = outer} {a = a} c deep o h = record {
+  path = h;
   awaits = subst (λ d. Awaits T (a_value t base p ∷ outer) (a_number a) d) deep
       (subst (λ k. Awaits T (a_value t base p ∷ outer) (a_number k) (base + e)) o
       (walk.awaits_number (comes_expects c)));
@@ -113,31 +151,36 @@ takes_number {T = T} {t = t} {u = u} {base = base} {d = d} {e = e} {p = p} {oute
 
 -- the first number of a part that is neither a struct nor an interface
 pub takes_first : {T : Table} {t u : TypeId} {s : Shape} {a : Allowed} {p : List ℕ} {outer : List Open}
-    {base around d : ℕ} → base + around + 1 ≡ d
-    → BeginsPart T t p u around → shape_of T u ≡ Some s → ¬ IsStruct s.kind → first_allowed s.kind ≡ a → opened a ≡ a
-    → Takes T (a_value t base p ∷ outer) (a_number a) what.First u d (goes_on t base p outer)
+    {base around d : ℕ} {way : List Step} → base + around + 1 ≡ d → BeginsAt T t base p outer u around way
+    → shape_of T u ≡ Some s → ¬ IsStruct s.kind → first_allowed s.kind ≡ a → opened a ≡ a
+    → Takes T (a_value t base p ∷ outer) (a_number a) what.First u d way (goes_on t base p outer)
 takes_first {T = T} {t = t} {u = u} {a = a} {p = p} {base = base} {around = around} {d = d} e b f n k o =
     let deep : base + suc around ≡ d = omega arith in
-    takes_number (subst (λ a. Comes T t p (a_number a) what.First u (suc around)) k (walk.of_first b f n)) deep o
+    takes_number (subst (λ a. Comes T t p (a_number a) what.First u (suc around)) k (walk.of_first b.begins f n)) deep o
+    (path_first b f)
 
 -- the second pattern of a complex
-pub takes_second : {T : Table} {t u : TypeId} {s : Shape} {outer : List Open} {base around d n : ℕ} (p b : List ℕ)
-    → base + around + 1 ≡ d → BeginsPart T t p u around → shape_of T u ≡ Some s → s.kind ≡ kind.Basic basic.Complex
-    → IsUnsigned n b
-    → Takes T (a_value t base (p ++ b) ∷ outer) (a_number any) what.Imaginary u d (goes_on t base (p ++ b) outer)
+pub takes_second : {T : Table} {t u : TypeId} {s : Shape} {outer : List Open} {base around d n : ℕ} {way : List Step}
+    (p b : List ℕ) → base + around + 1 ≡ d → BeginsAt T t base p outer u around way → shape_of T u ≡ Some s
+    → s.kind ≡ kind.Basic basic.Complex → IsUnsigned n b
+    → Takes T (a_value t base (p ++ b) ∷ outer) (a_number any) what.Imaginary u d way (goes_on t base (p ++ b) outer)
 takes_second {T = T} {base = base} {around = around} {d = d} p b e g f k q =
     let deep : base + suc around ≡ d = omega arith in
     let x = unsigned_pattern q in
-    takes_number (walk.of_imaginary p g f k x.1) deep refl
+    takes_number (walk.of_imaginary p g.begins f k x.1) deep refl
+    (path_itself g f (subst (λ k. ExpectsAt T k b (a_number any)) (sym k) (expects.second x.1)))
 
 -- raw bytes behind their count
-pub takes_raw : {T : Table} {t u : TypeId} {s : Shape} {outer : List Open} {base around d n : ℕ} (p b : List ℕ)
-    → base + around + 1 ≡ d → BeginsPart T t p u around → shape_of T u ≡ Some s → HasRawBytes s.kind → 0 < n
-    → IsUnsigned n b → Takes T (a_value t base (p ++ b) ∷ outer) (raw n) what.Raw u d (goes_on t base (p ++ b) outer)
-takes_raw {T = T} {t = t} {u = u} {outer = outer} {base = base} {around = around} {d = d} {n = n} p b e g f h m q =
+pub takes_raw : {T : Table} {t u : TypeId} {s : Shape} {outer : List Open} {base around d n : ℕ} {way : List Step}
+    (p b : List ℕ) → base + around + 1 ≡ d → BeginsAt T t base p outer u around way → shape_of T u ≡ Some s
+    → HasRawBytes s.kind → 0 < n → IsUnsigned n b
+    → Takes T (a_value t base (p ++ b) ∷ outer) (raw n) what.Raw u d way (goes_on t base (p ++ b) outer)
+takes_raw {T = T} {t = t} {u = u} {s = s} {outer = outer} {base = base} {around = around} {d = d} {n = n} p b e g f h m
+    q =
     let deep : base + suc around ≡ d = omega arith in
-    let c : Comes T t (p ++ b) (raw n) what.Raw u (suc around) = walk.of_raw p g f h m q in
+    let c : Comes T t (p ++ b) (raw n) what.Raw u (suc around) = walk.of_raw p g.begins f h m q in
     record {
+      path = path_itself g f (raw_next s.kind h m q);
       awaits = subst (λ d. Awaits T (a_value t base (p ++ b) ∷ outer) (raw n) d) deep
           (walk.awaits_raw (comes_expects c));
       steps = λ r b is answers tells. walk.in_value (row_comes r is c) (is.2 ∙ sym deep) answers tells;
@@ -145,19 +188,23 @@ takes_raw {T = T} {t = t} {u = u} {outer = outer} {base = base} {around = around
 
 -- the next delta of a struct
 pub takes_delta : {T : Table} {t u : TypeId} {s : Shape} {types : List Field} {outer : List Open}
-    {base around d next : ℕ} (p b : List ℕ) → base + around + 1 ≡ d → BeginsPart T t p u around
-    → shape_of T u ≡ Some s → s.kind ≡ kind.Struct types → FieldsRun T types 0 next b
-    → Takes T (a_value t base (p ++ b) ∷ outer) (a_number (delta (length types - next))) what.Delta u d
+    {base around d next : ℕ} {way : List Step} (p b : List ℕ) → base + around + 1 ≡ d
+    → BeginsAt T t base p outer u around way → shape_of T u ≡ Some s → s.kind ≡ kind.Struct types
+    → FieldsRun T types 0 next b
+    → Takes T (a_value t base (p ++ b) ∷ outer) (a_number (delta (length types - next))) what.Delta u d way
     (goes_on t base (p ++ b) outer)
-takes_delta {base = base} {around = around} {d = d} p b e g f k run =
-    let deep : base + suc around ≡ d = omega arith in takes_number (walk.of_delta p g f k run) deep refl
+takes_delta {T = T} {types = types} {base = base} {around = around} {d = d} {next = next} p b e g f k run =
+    let deep : base + suc around ≡ d = omega arith in
+    takes_number (walk.of_delta p g.begins f k run) deep refl
+    (path_itself g f (subst (λ k. ExpectsAt T k b (a_number (delta (length types - next)))) (sym k)
+    (first_delta refl run)))
 
 -- the tag
-pub takes_tag : {T : Table} {t : TypeId} {s : Shape} {outer : List Open} {base d : ℕ} → base ≡ d
-    → shape_of T t ≡ Some s → ¬ IsStruct s.kind
-    → Takes T (a_value t base [] ∷ outer) (a_number tag) what.Tag t d (goes_on t base [] outer)
-takes_tag {base = base} {d = d} e f n =
-    let deep : base + 0 ≡ d = omega arith in takes_number (walk.of_tag f n) deep refl
+pub takes_tag : {T : Table} {t : TypeId} {s : Shape} {outer : List Open} {base d : ℕ} {way : List Step} → base ≡ d
+    → IsValueAt T t base outer way → shape_of T t ≡ Some s → ¬ IsStruct s.kind
+    → Takes T (a_value t base [] ∷ outer) (a_number tag) what.Tag t d way (goes_on t base [] outer)
+takes_tag {base = base} {d = d} e v f n =
+    let deep : base + 0 ≡ d = omega arith in takes_number (walk.of_tag f n) deep refl (path_begin v)
 
 raw_no_struct : (k : Kind) → HasRawBytes k → ¬ IsStruct k
 raw_no_struct (kind.Struct fields) h = absurd h
@@ -171,8 +218,9 @@ raw_any _ h = absurd h
 
 -- the count of raw bytes
 pub takes_size : {T : Table} {t u : TypeId} {s : Shape} {p : List ℕ} {outer : List Open} {base around d : ℕ}
-    → base + around + 1 ≡ d → BeginsPart T t p u around → shape_of T u ≡ Some s → HasRawBytes s.kind
-    → Takes T (a_value t base p ∷ outer) (a_number any) what.First u d (goes_on t base p outer)
+    {way : List Step} → base + around + 1 ≡ d → BeginsAt T t base p outer u around way → shape_of T u ≡ Some s
+    → HasRawBytes s.kind
+    → Takes T (a_value t base p ∷ outer) (a_number any) what.First u d way (goes_on t base p outer)
 takes_size {s = s} e b f h = takes_first e b f (raw_no_struct s.kind h) (raw_any s.kind h) refl
 
 -- ---- and in a filling
@@ -195,33 +243,47 @@ nil_steps {T = T} {t = t} {u = u} {base = base} {deep = deep} {p = p} {outer = o
     (walk.of_filling (row_comes r is c) (is.2 ∙ sym e) (up ∙ ap (λ d. d + 1) (sym is.2)) q (omega arith)))
 
 pub takes_nil : {T : Table} {t u : TypeId} {s : Shape} {p : List ℕ} {outer : List Open} {base around d deep : ℕ}
-    → base + around + 1 ≡ d → deep ≡ d + 1 → BeginsPart T t p u around → shape_of T u ≡ Some s
-    → s.kind ≡ kind.Basic basic.Interface
-    → Takes T (a_value t base p ∷ outer) (a_number any) what.First u d (behind_nil t base p outer u deep)
+    {way : List Step} → base + around + 1 ≡ d → deep ≡ d + 1 → BeginsAt T t base p outer u around way
+    → shape_of T u ≡ Some s → s.kind ≡ kind.Basic basic.Interface
+    → Takes T (a_value t base p ∷ outer) (a_number any) what.First u d way (behind_nil t base p outer u deep)
 takes_nil {T = T} {t = t} {u = u} {s = s} {p = p} {outer = outer} {base = base} {around = around} {d = d} e up b f k =
     let below : base + suc around ≡ d = omega arith in
     let no : ¬ IsStruct s.kind = subst (λ k. ¬ IsStruct k) (sym k) (λ i. i) in
     let c : Comes T t p (a_number nil) what.First u (suc around) =
-    subst (λ a. Comes T t p (a_number a) what.First u (suc around)) (ap first_allowed k) (walk.of_first b f no) in
+    subst (λ a. Comes T t p (a_number a) what.First u (suc around)) (ap first_allowed k)
+    (walk.of_first b.begins f no) in
     record {
+      path = path_first b f;
       awaits = subst (λ d. Awaits T (a_value t base p ∷ outer) (a_number any) d) below
           (walk.awaits_number (comes_expects c));
       steps = λ r b is answers tells. nil_steps r.number r b refl c below up is tells;
     }
 
-pub takes_name : {T : Table} {u : TypeId} {d n : ℕ} {outer : List Open}
-    → Takes T (a_filling u d (name n) ∷ outer) (raw n) what.Raw u d (λ k b. a_filling u d type_number ∷ outer)
-takes_name = record { awaits = walk.awaits_name; steps = λ r b is answers tells. walk.of_name is tells answers }
+pub takes_name : {T : Table} {u : TypeId} {d n : ℕ} {outer : List Open} {way : List Step} → PathOf T outer way
+    → Takes T (a_filling u d (name n) ∷ outer) (raw n) what.Raw u d way (λ k b. a_filling u d type_number ∷ outer)
+takes_name h = record {
+  awaits = walk.awaits_name;
+  path = of_filling h;
+  steps = λ r b is answers tells. walk.of_name is tells answers;
+}
 
-pub takes_segment : {T : Table} {u : TypeId} {d : ℕ} {outer : List Open}
-    → Takes T (a_filling u d segment ∷ outer) (a_number any) what.Segment u d
+pub takes_segment : {T : Table} {u : TypeId} {d : ℕ} {outer : List Open} {way : List Step} → PathOf T outer way
+    → Takes T (a_filling u d segment ∷ outer) (a_number any) what.Segment u d way
     (λ k b. a_filling u d type_number ∷ outer)
-takes_segment = record { awaits = walk.awaits_segment; steps = λ r b is answers tells. walk.of_segment is tells }
+takes_segment h = record {
+  awaits = walk.awaits_segment;
+  path = of_filling h;
+  steps = λ r b is answers tells. walk.of_segment is tells;
+}
 
-pub takes_count : {T : Table} {u v : TypeId} {d : ℕ} {outer : List Open}
-    → Takes T (a_filling u d (count v) ∷ outer) (a_number any) what.Segment u d
+pub takes_count : {T : Table} {u v : TypeId} {d : ℕ} {outer : List Open} {way : List Step} → PathOf T outer way
+    → Takes T (a_filling u d (count v) ∷ outer) (a_number any) what.Segment u d way
     (λ k b. a_value v d [] ∷ (a_filling u d content ∷ outer))
-takes_count = record { awaits = walk.awaits_count; steps = λ r b is answers tells. walk.of_count is tells }
+takes_count h = record {
+  awaits = walk.awaits_count;
+  path = of_filling h;
+  steps = λ r b is answers tells. walk.of_count is tells;
+}
 
 -- behind a type number of this sign and half: the count of what is held, or a description
 abbrev pub behind_type : TypeId → (d : ℕ) → (outer : List Open) → (sign half : ℕ) → List Open
@@ -237,11 +299,12 @@ type_steps zero half r b e l is q =
 type_steps (suc zero) half r b e l is q = walk.of_definition is q (negative (subst (λ k. IsUnsigned k b) e q))
 type_steps (suc (suc sign)) half r b e l is q = absurd (omega arith)
 
-pub takes_type : {T : Table} {u : TypeId} {d : ℕ} {outer : List Open}
-    → Takes T (a_filling u d type_number ∷ outer) (a_number any) what.TypeNumber u d
+pub takes_type : {T : Table} {u : TypeId} {d : ℕ} {outer : List Open} {way : List Step} → PathOf T outer way
+    → Takes T (a_filling u d type_number ∷ outer) (a_number any) what.TypeNumber u d way
     (λ n b. behind_type u d outer (n % 2) (n / 2))
-takes_type = record {
+takes_type h = record {
   awaits = walk.awaits_type_number;
+  path = of_filling h;
   steps = λ r b is answers tells.
       type_steps (r.number % 2) (r.number / 2) r b (omega arith) (omega arith) is tells;
 }

@@ -14,13 +14,15 @@ use Rattle.gob_read.specs.Expected as expected
 use Rattle.gob_read.specs.Expects as expects
 use Rattle.gob_explain.specs.Open.{Open, a_value}
 use Rattle.gob_explain.specs.declared.row.Row.{Row}
+use Rattle.gob_explain.specs.declared.row.Step.{Step}
 use Rattle.gob_explain.specs.declared.row.What.{What}
 use Rattle.gob_explain.specs.declared.row.What.TheVariants as what
 use Rattle.gob_explain.specs.declared.stop.Stop.{Stop}
 use Rattle.gob_explain.specs.declared.stop.Stop.TheVariants as stops
 use Rattle.gob_explain.specs.Walk.{Awaits, BeginsPart, Ends, RowsLead, Steps, StopsAt, between}
 use Rattle.gob_explain.specs.Walk as walk
-use Rattle.gob_explain.specs.Machine.Walking.{AllowsRange, Fails, Takes, Told, Walks, WalksNumber, WalksRaw, WalksTo}
+use Rattle.gob_explain.specs.Machine.Walking.{AllowsRange, Fails, Takes, Tells, Told, Walks, WalksNumber}
+use Rattle.gob_explain.specs.Machine.Walking.{WalksRaw, WalksTo}
 use Rattle.gob_explain.proofs.BetweenLaws.{between_length, one_there, stands_there}
 use Rattle.gob_explain.proofs.RowLaws.{append_nil}
 use Rattle.gob_explain.proofs.TakesLaws.{goes_on, itself}
@@ -42,21 +44,21 @@ lead_end (walk.end_then f l) e = walk.end_then f (lead_end l e)
 
 -- ---- where a walk ends
 
-module _ {O E : Type 0} (tells : O → O → List Row → Result (Unit {0}) E → Type 0) where
+module _ {S E : Type 0} (tells : Tells S E) where
   -- rows behind rows are one list of them
   abbrev pub Joins : Type 0
-  Joins = (a b c : O) (x y : List Row) (r : Result (Unit {0}) E) → tells a b x (Ok tt) → tells b c y r
+  Joins = (a b c : S × List Step) (x y : List Row) (r : Result (Unit {0}) E) → tells a b x (Ok tt) → tells b c y r
       → tells a c (x ++ y) r
 
   -- nothing was told yet
-  pub told_nothing : {T : Table} {bytes : List ℕ} {opens : List Open} {at : ℕ} {old new : O}
+  pub told_nothing : {T : Table} {bytes : List ℕ} {opens : List Open} {at : ℕ} {old new : S × List Step}
       {answer : Result (Unit {0}) E} → tells old new [] answer → at ≤ length bytes
       → Told tells T bytes opens at old new answer opens at
   told_nothing p l = record { rows = []; told = p; lead = walk.no_row; order = omega arith; inside = l }
 
   -- a row was told
-  pub told_row : {T : Table} {bytes : List ℕ} {opens last : List Open} {old new : O} {answer : Result (Unit {0}) E}
-      (r : Row) → tells old new (r ∷ []) answer → r.begin < r.end → r.end ≤ length bytes
+  pub told_row : {T : Table} {bytes : List ℕ} {opens last : List Open} {old new : S × List Step}
+      {answer : Result (Unit {0}) E} (r : Row) → tells old new (r ∷ []) answer → r.begin < r.end → r.end ≤ length bytes
       → Steps T opens r (between r.begin r.end bytes) last → Told tells T bytes opens r.begin old new answer last r.end
   told_row r p o i s = record {
     rows = r ∷ [];
@@ -68,8 +70,9 @@ module _ {O E : Type 0} (tells : O → O → List Row → Result (Unit {0}) E �
 
   -- that of a number that stands there and is allowed
   pub number_told : {T : Table} {bytes : List ℕ} {first : List Open} {next : ℕ → List ℕ → List Open} {a : Allowed}
-      {x : What} {u : TypeId} {d : ℕ} {old new : O} {answer : Result (Unit {0}) E} (n at end : ℕ)
-      → Takes T first (a_number a) x u d next → IsUnsignedAt n bytes at end → Allows a n
+      {x : What} {u : TypeId} {d : ℕ} {way : List Step} {old new : S × List Step}
+      {answer : Result (Unit {0}) E} (n at end : ℕ) → Takes T first (a_number a) x u d way next
+      → IsUnsignedAt n bytes at end → Allows a n
       → tells old new (record { what = x; id = u; depth = d; number = n; begin = at; end = end } ∷ []) answer
       → Told tells T bytes first at old new answer (next n (between at end bytes)) end
   number_told n at end k s l p = told_row _ p s.order s.inside (k.steps _ _ (refl, refl, refl) (n, s.spelled, l)
@@ -77,7 +80,8 @@ module _ {O E : Type 0} (tells : O → O → List Row → Result (Unit {0}) E �
 
   -- and that of raw bytes
   pub raw_told : {T : Table} {bytes : List ℕ} {first : List Open} {next : ℕ → List ℕ → List Open} {u : TypeId}
-      {d : ℕ} {old new : O} {answer : Result (Unit {0}) E} (n at end : ℕ) → Takes T first (raw n) what.Raw u d next
+      {d : ℕ} {way : List Step} {old new : S × List Step} {answer : Result (Unit {0}) E} (n at end : ℕ)
+      → Takes T first (raw n) what.Raw u d way next
       → 0 < n → end ≡ at + n → end ≤ length bytes
       → tells old new (record { what = what.Raw; id = u; depth = d; number = n; begin = at; end = end } ∷ []) answer
       → Told tells T bytes first at old new answer (next n (between at end bytes)) end
@@ -86,7 +90,8 @@ module _ {O E : Type 0} (tells : O → O → List Row → Result (Unit {0}) E �
       told_row _ p (omega arith) m (k.steps _ _ (refl, refl, refl) (omega arith) refl)
 
   pub told_then : Joins → {T : Table} {bytes : List ℕ} {opens mid last : List Open} {at place end : ℕ}
-      {old here new : O} {answer : Result (Unit {0}) E} → Told tells T bytes opens at old here (Ok tt) mid place
+      {old here new : S × List Step} {answer : Result (Unit {0}) E}
+      → Told tells T bytes opens at old here (Ok tt) mid place
       → Told tells T bytes mid place here new answer last end → Told tells T bytes opens at old new answer last end
   told_then joins {old = old} {here = here} {new = new} {answer = answer} p q = record {
     rows = p.rows ++ q.rows;
@@ -97,7 +102,7 @@ module _ {O E : Type 0} (tells : O → O → List Row → Result (Unit {0}) E �
   }
 
   -- and what is whole ends
-  pub told_end : {T : Table} {bytes : List ℕ} {opens mid last : List Open} {at end : ℕ} {old new : O}
+  pub told_end : {T : Table} {bytes : List ℕ} {opens mid last : List Open} {at end : ℕ} {old new : S × List Step}
       {answer : Result (Unit {0}) E} → Told tells T bytes opens at old new answer mid end → Ends T mid last
       → Told tells T bytes opens at old new answer last end
   told_end p e = record {
@@ -109,8 +114,9 @@ module _ {O E : Type 0} (tells : O → O → List Row → Result (Unit {0}) E �
   }
 
   -- no more of the skeleton
-  pub told_none : {T : Table} {bytes : List ℕ} {t : TypeId} {base : ℕ} {outer : List Open} {at : ℕ} {old new : O}
-      {answer : Result (Unit {0}) E} (p : List ℕ) → tells old new [] answer → at ≤ length bytes
+  pub told_none : {T : Table} {bytes : List ℕ} {t : TypeId} {base : ℕ} {outer : List Open} {at : ℕ}
+      {old new : S × List Step} {answer : Result (Unit {0}) E} (p : List ℕ) → tells old new [] answer
+      → at ≤ length bytes
       → Told tells T bytes (a_value t base p ∷ outer) at old new answer (a_value t base (p ++ []) ∷ outer) at
   told_none {T = T} {bytes = bytes} {t = t} {base = base} {outer = outer} {at = at} {old = old} {new = new}
       {answer = answer} p h l =
@@ -119,7 +125,7 @@ module _ {O E : Type 0} (tells : O → O → List Row → Result (Unit {0}) E �
 
   -- more of it behind more of it
   pub told_more : {T : Table} {bytes : List ℕ} {opens : List Open} {t : TypeId} {base : ℕ} {outer : List Open}
-      {at end : ℕ} {old new : O} {answer : Result (Unit {0}) E} (p a b : List ℕ)
+      {at end : ℕ} {old new : S × List Step} {answer : Result (Unit {0}) E} (p a b : List ℕ)
       → Told tells T bytes opens at old new answer (a_value t base ((p ++ a) ++ b) ∷ outer) end
       → Told tells T bytes opens at old new answer (a_value t base (p ++ (a ++ b)) ∷ outer) end
   told_more {T = T} {bytes = bytes} {opens = opens} {t = t} {base = base} {outer = outer} {at = at} {end = end}
@@ -127,7 +133,7 @@ module _ {O E : Type 0} (tells : O → O → List Row → Result (Unit {0}) E �
       subst (λ q. Told tells T bytes opens at old new answer (a_value t base q ∷ outer) end) (append_assoc p a b) h
 
   pub told_three : {T : Table} {bytes : List ℕ} {opens : List Open} {t : TypeId} {base : ℕ} {outer : List Open}
-      {at end : ℕ} {old new : O} {answer : Result (Unit {0}) E} (p a b c : List ℕ)
+      {at end : ℕ} {old new : S × List Step} {answer : Result (Unit {0}) E} (p a b c : List ℕ)
       → Told tells T bytes opens at old new answer (a_value t base ((p ++ (a ++ b)) ++ c) ∷ outer) end
       → Told tells T bytes opens at old new answer (a_value t base (p ++ (a ++ (b ++ c))) ∷ outer) end
   told_three {T = T} {bytes = bytes} {opens = opens} {t = t} {base = base} {outer = outer} {at = at} {end = end}
@@ -135,38 +141,42 @@ module _ {O E : Type 0} (tells : O → O → List Row → Result (Unit {0}) E �
       subst (λ q. Told tells T bytes opens at old new answer (a_value t base q ∷ outer) end)
       (append_assoc p (a ++ b) c ∙ ap (λ q. p ++ q) (append_assoc a b c)) h
 
-  pub fails_then : Joins → {T : Table} {bytes : List ℕ} {opens mid : List Open} {at place : ℕ} {old here : O}
-      (most : ℕ) (new : O) → Told tells T bytes opens at old here (Ok tt) mid place → (f : Stop E)
+  pub fails_then : Joins → {T : Table} {bytes : List ℕ} {opens mid : List Open} {at place : ℕ}
+      {old here : S × List Step} (most : ℕ) (new : S) → Told tells T bytes opens at old here (Ok tt) mid place
+      → (f : Stop E)
       → Fails tells T bytes most mid place here new f → Fails tells T bytes most opens at old new f
-  fails_then joins most new p (stops.Here place awaited) q = (q.0, told_then joins p q.1, q.2)
-  fails_then joins most new p (stops.Sink e) q = (q.0, q.1, told_then joins p q.2)
+  fails_then joins most new p (stops.Here place awaited) q = (q.0, q.1, told_then joins p q.2, q.3, q.4)
+  fails_then joins most new p (stops.Sink e) q = (q.0, q.1, q.2, told_then joins p q.3)
 
   -- a `?` ends the walk
   pub walk_failed : (T : Table) (bytes : List ℕ) (most : ℕ) (t : TypeId) (base : ℕ) (p : List ℕ) (outer : List Open)
-      (at : ℕ) (old new : O) (Whole : List ℕ → Type 0) (f : Stop E) (q : Result ℕ (Stop E)) → IsErrAnd q (λ e. e ≡ f)
+      (at : ℕ) (old : S × List Step) (new : S) (Whole : List ℕ → Type 0) (f : Stop E) (q : Result ℕ (Stop E))
+      → IsErrAnd q (λ e. e ≡ f)
       → Fails tells T bytes most (a_value t base p ∷ outer) at old new f
       → Walks tells T bytes most t base p outer at old new Whole q
   walk_failed T bytes most t base p outer at old new Whole f (Ok x) h w = absurd h
   walk_failed T bytes most t base p outer at old new Whole f (Err e) h w =
       subst (λ f. Fails tells T bytes most (a_value t base p ∷ outer) at old new f) (sym h) w
 
-  pub walk_to_failed : (T : Table) (bytes : List ℕ) (most : ℕ) (opens : List Open) (at : ℕ) (old new : O)
-      (last : List Open) (f : Stop E) (q : Result ℕ (Stop E)) → IsErrAnd q (λ e. e ≡ f)
+  pub walk_to_failed : (T : Table) (bytes : List ℕ) (most : ℕ) (opens : List Open) (at : ℕ)
+      (old : S × List Step) (new : S) (last : List Open) (f : Stop E) (q : Result ℕ (Stop E)) → IsErrAnd q (λ e. e ≡ f)
       → Fails tells T bytes most opens at old new f → WalksTo tells T bytes most opens at old new last q
   walk_to_failed T bytes most opens at old new last f (Ok x) h w = absurd h
   walk_to_failed T bytes most opens at old new last f (Err e) h w =
       subst (λ f. Fails tells T bytes most opens at old new f) (sym h) w
 
-  pub number_failed : (T : Table) (bytes : List ℕ) (most : ℕ) (first : List Open) (at : ℕ) (old new : O)
-      (next : ℕ → List ℕ → List Open) (Whole : ℕ → ℕ → Type 0) (f : Stop E) (q : Result (ℕ × ℕ) (Stop E))
+  pub number_failed : (T : Table) (bytes : List ℕ) (most : ℕ) (first : List Open) (at : ℕ)
+      (old : S × List Step) (new : S) (next : ℕ → List ℕ → List Open) (Whole : ℕ → ℕ → Type 0) (f : Stop E)
+      (q : Result (ℕ × ℕ) (Stop E))
       → IsErrAnd q (λ e. e ≡ f) → Fails tells T bytes most first at old new f
       → WalksNumber tells T bytes most first at old new next Whole q
   number_failed T bytes most first at old new next Whole f (Ok x) h w = absurd h
   number_failed T bytes most first at old new next Whole f (Err e) h w =
       subst (λ f. Fails tells T bytes most first at old new f) (sym h) w
 
-  pub raw_failed : (T : Table) (bytes : List ℕ) (most : ℕ) (first : List Open) (at count : ℕ) (old new : O)
-      (next : ℕ → List ℕ → List Open) (f : Stop E) (q : Result ℕ (Stop E)) → IsErrAnd q (λ e. e ≡ f)
+  pub raw_failed : (T : Table) (bytes : List ℕ) (most : ℕ) (first : List Open) (at count : ℕ)
+      (old : S × List Step) (new : S) (next : ℕ → List ℕ → List Open) (f : Stop E) (q : Result ℕ (Stop E))
+      → IsErrAnd q (λ e. e ≡ f)
       → Fails tells T bytes most first at old new f → WalksRaw tells T bytes most first at count old new next q
   raw_failed T bytes most first at count old new next f (Ok x) h w = absurd h
   raw_failed T bytes most first at count old new next f (Err e) h w =
@@ -174,11 +184,11 @@ module _ {O E : Type 0} (tells : O → O → List Row → Result (Unit {0}) E �
 
   -- raw bytes end a walk
   pub walks_on_raw : Joins → (W : List ℕ → Type 0) → {T : Table} {t : TypeId} {base : ℕ} {outer : List Open}
-      {bytes : List ℕ} {at mid count : ℕ} {old here : O} (most : ℕ) (new : O) (p a : List ℕ)
-      → Told tells T bytes (a_value t base p ∷ outer) at old here (Ok tt) (a_value t base (p ++ a) ∷ outer) mid
+      {bytes : List ℕ} {at mid count : ℕ} {old : S × List Step} {here : S} (most : ℕ) (new : S) (p a : List ℕ)
+      → Told tells T bytes (a_value t base p ∷ outer) at old (here, old.1) (Ok tt) (a_value t base (p ++ a) ∷ outer) mid
       → (r : Result ℕ (Stop E))
-      → WalksRaw tells T bytes most (a_value t base (p ++ a) ∷ outer) mid count here new (goes_on t base (p ++ a) outer)
-      r
+      → WalksRaw tells T bytes most (a_value t base (p ++ a) ∷ outer) mid count (here, old.1) new
+      (goes_on t base (p ++ a) outer) r
       → ((b : List ℕ) → length b ≡ count → W (a ++ b)) → Walks tells T bytes most t base p outer at old new W r
   walks_on_raw joins W {bytes = bytes} {mid = mid} most new p a h (Ok end) q f =
       let size = between_length bytes mid end q.0.order q.0.inside in (
@@ -191,9 +201,9 @@ module _ {O E : Type 0} (tells : O → O → List Row → Result (Unit {0}) E �
   -- the rest of a walk ends it
   pub walks_on : Joins → (W : List ℕ → Type 0) → {V : List ℕ → Type 0} {T : Table} {t : TypeId} {base : ℕ}
       {outer : List Open}
-      {bytes : List ℕ} {at mid : ℕ} {old here : O} (most : ℕ) (new : O) (p a : List ℕ)
-      → Told tells T bytes (a_value t base p ∷ outer) at old here (Ok tt) (a_value t base (p ++ a) ∷ outer) mid
-      → (r : Result ℕ (Stop E)) → Walks tells T bytes most t base (p ++ a) outer mid here new V r
+      {bytes : List ℕ} {at mid : ℕ} {old : S × List Step} {here : S} (most : ℕ) (new : S) (p a : List ℕ)
+      → Told tells T bytes (a_value t base p ∷ outer) at old (here, old.1) (Ok tt) (a_value t base (p ++ a) ∷ outer) mid
+      → (r : Result ℕ (Stop E)) → Walks tells T bytes most t base (p ++ a) outer mid (here, old.1) new V r
       → ((b : List ℕ) → V b → W (a ++ b)) → Walks tells T bytes most t base p outer at old new W r
   walks_on joins W most new p a h (Ok end) q f =
       (a ++ q.0, f q.0 q.1, told_more p a q.0 (told_then joins h q.2))

@@ -7,9 +7,11 @@ use Rattle.gob_value.specs.Tree.{Tree}
 use Rattle.gob_value.specs.Top.{SpellsTop}
 use Rattle.gob_explain.specs.declared.body.Walked.{Walked}
 use Rattle.gob_explain.specs.declared.row.Row.{Row}
+use Rattle.gob_explain.specs.declared.row.Step.{Step}
 use Rattle.gob_explain.specs.Open.{Open, a_value}
-use Rattle.gob_explain.specs.Walk.{StopsAt}
-use Rattle.gob_explain.specs.Machine.Walking.{Told}
+use Rattle.gob_explain.specs.Path.{PathAt}
+use Rattle.gob_explain.specs.Walk.{RowsLead, StopsAt}
+use Rattle.gob_explain.specs.Machine.Walking.{Tells, Told}
 
 -- a value of the type begins, which is no part of another
 abbrev pub begins_value : TypeId → List Open
@@ -27,11 +29,23 @@ abbrev pub EndsSo : Table → TypeId → List ℕ → (most : ℕ) → Bool → 
 EndsSo T t body most true opens place = IsWholeValue T t opens
 EndsSo T t body most false opens place = StopsAt T body most opens place
 
--- a sink was told of the rows up to the place, which is as far as they lead; or of some of them, and no more
-abbrev pub WalksBody : {O E : Type 0} → (O → O → List Row → Result (Unit {0}) E → Type 0) → Table → TypeId → List ℕ
-    → (most : ℕ) → O → O → Result Walked E → Type 0
-WalksBody tells T t body most old new (Ok walked) = (opens : List Open)
-    × Told tells T body (begins_value t) 0 old new (Ok tt) opens walked.place
-    × EndsSo T t body most walked.whole opens walked.place
-WalksBody tells T t body most old new (Err e) =
-    (opens : List Open) × (place : ℕ) × Told tells T body (begins_value t) 0 old new (Err e) opens place
+-- a sink was told of the rows up to the place, which is as far as they lead, and of the path of what comes next there;
+-- or of some of them, and no more
+abbrev pub WalksBody : {S E : Type 0} → Tells S E → Table → TypeId → List ℕ → (most : ℕ) → S → S → Result Walked E
+    → Type 0
+WalksBody tells T t body most old new (Ok walked) = (opens : List Open) × (path : List Step)
+    × Told tells T body (begins_value t) 0 (old, []) (new, path) (Ok tt) opens walked.place
+    × EndsSo T t body most walked.whole opens walked.place × PathAt T walked.whole opens path
+WalksBody tells T t body most old new (Err e) = (opens : List Open) × (place : ℕ) × (path : List Step)
+    × Told tells T body (begins_value t) 0 (old, []) (new, path) (Err e) opens place
+
+-- the path is that of the place in the body of a value of this type where its rows, no deeper than 1000, go no further:
+-- before a refused place, where all the bytes have rows, that of their end
+pub record IsPathTo (T : Table) (t : TypeId) (body : List ℕ) (path : List Step) : Type 0 where
+  pub place : ℕ
+  pub rows : List Row
+  pub opens : List Open
+  pub whole : Bool
+  pub lead : RowsLead T body (begins_value t) 0 rows opens place
+  pub ends : EndsSo T t body 1000 whole opens place
+  pub path_is : PathAt T whole opens path

@@ -3,6 +3,8 @@
 use Rattle.std.specs.Prelude.{◌≡◌, ℕ, zero, suc, ◌+◌, ◌-◌, ◌*◌, ◌^◌, false, List, [], ◌∷◌, ◌++◌, length, take, drop}
 use Rattle.std.specs.Prelude.{min, codes}
 use Rattle.std.specs.Fmt.{decimal, digits, format_spec, padded_integral, styled_decimal}
+use Rattle.std.specs.Str.{IsUtf8}
+use Rattle.gob_words.specs.Escaped.{IsUnobeyed}
 
 -- a byte in two hexadecimal digits, behind a space
 abbrev pub hex_text : ℕ → List ℕ
@@ -44,6 +46,12 @@ count_line (suc n) = codes "        .. " ++ (decimal (suc n) ++ codes " bytes mo
 abbrev pub lines_below : (offset : ℕ) → List ℕ → List ℕ
 lines_below offset bytes = byte_lines 3 offset (take 24 bytes) ++ count_line (length (drop 24 bytes))
 
+-- what bytes are, in words: a text of which a terminal obeys no character, and so without a line feed
+pub record Meaning : Type 0 where
+  pub text : List ℕ
+  pub characters : IsUtf8 text
+  pub unobeyed : IsUnobeyed text
+
 -- the line of bytes at an offset, and what they are so many levels deep: the first 8 bytes, room for those that are
 -- missing of 8, two spaces and two more for each level, and what they are; and the lines below it
 unfoldable pub line_text : (offset : ℕ) → (bytes : List ℕ) → (levels : ℕ) → (meaning : List ℕ) → List ℕ
@@ -55,13 +63,14 @@ line_text offset bytes levels meaning =
 -- begin at this offset
 pub data ColumnIs (offset : ℕ) : List ℕ → List ℕ → Type 0 where
   no_line : ColumnIs offset [] []
-  line_behind : {bytes text : List ℕ} (more : List ℕ) (levels : ℕ) (meaning : List ℕ) → ColumnIs offset bytes text
-      → ColumnIs offset (bytes ++ more) (text ++ line_text (saturated (offset + length bytes)) more levels meaning)
+  line_behind : {bytes text : List ℕ} (more : List ℕ) (levels : ℕ) (meaning : Meaning) → ColumnIs offset bytes text
+      → ColumnIs offset (bytes ++ more) (text
+      ++ line_text (saturated (offset + length bytes)) more levels meaning.text)
 
 -- ---- what calls make
 -- a line of these bytes, so many levels deep
 abbrev pub IsSomeLine : (offset : ℕ) → (bytes : List ℕ) → (levels : ℕ) → (text : List ℕ) → Type 0
-IsSomeLine offset bytes levels text = (meaning : List ℕ) × (text ≡ line_text offset bytes levels meaning)
+IsSomeLine offset bytes levels text = (meaning : Meaning) × (text ≡ line_text offset bytes levels meaning.text)
 
 -- a line behind a text
 abbrev pub HasLineAdded : (offset : ℕ) → (bytes : List ℕ) → (levels : ℕ) → (meaning old new : List ℕ) → Type 0

@@ -7,7 +7,7 @@ use Rattle.gob_types.specs.Base.{wire_type}
 use Rattle.gob_types.specs.Table.{Table}
 use Rattle.gob_types.specs.declared.id.TypeId.{TypeId}
 use Rattle.gob_explain.specs.Body.{EndsSo, begins_value}
-use Rattle.gob_explain.specs.Column.{ColumnIs, line_text, saturated}
+use Rattle.gob_explain.specs.Column.{ColumnIs, Meaning, line_text, saturated}
 use Rattle.gob_explain.specs.Lines.{AreLines}
 use Rattle.gob_explain.specs.Open.{Open}
 use Rattle.gob_explain.specs.Walk.{RowsLead, between}
@@ -29,19 +29,19 @@ pub data LinesOfBody (T : Table) (t : TypeId) (offset : ℕ) (body : List ℕ) :
 -- lead: that of its count, that of its type number one level deeper, and those of its body
 pub data LinesOfItem (T : Table) (offset : ℕ) (bytes : List ℕ) : ℕ → List ℕ → Type 0 where
   no_count : NoNumberStandsAt bytes 0 → LinesOfItem T offset bytes 0 []
-  no_type_number : {n begin : ℕ} (meaning : List ℕ) → IsUnsignedAt n bytes 0 begin → NoNumberStandsAt bytes begin
-      → LinesOfItem T offset bytes begin (line_text offset (between 0 begin bytes) 0 meaning)
-  of_body : {n m begin body place : ℕ} {t : TypeId} {text : List ℕ} (meaning named : List ℕ)
+  no_type_number : {n begin : ℕ} (meaning : Meaning) → IsUnsignedAt n bytes 0 begin → NoNumberStandsAt bytes begin
+      → LinesOfItem T offset bytes begin (line_text offset (between 0 begin bytes) 0 meaning.text)
+  of_body : {n m begin body place : ℕ} {t : TypeId} {text : List ℕ} (meaning named : Meaning)
       → IsUnsignedAt n bytes 0 begin → IsUnsignedAt m bytes begin body → NamesBody (between begin body bytes) t
       → LinesOfBody T t (saturated (offset + body)) (drop body bytes) place text
-      → LinesOfItem T offset bytes (body + place) (line_text offset (between 0 begin bytes) 0 meaning
-      ++ (line_text (saturated (offset + begin)) (between begin body bytes) 1 named ++ text))
+      → LinesOfItem T offset bytes (body + place) (line_text offset (between 0 begin bytes) 0 meaning.text
+      ++ (line_text (saturated (offset + begin)) (between begin body bytes) 1 named.text ++ text))
 
 -- the text is a line of what is left of the bytes from the place on, if anything is
 pub data LineOfRest (offset : ℕ) (bytes : List ℕ) (place : ℕ) : List ℕ → Type 0 where
   none_left : place ≡ length bytes → LineOfRest offset bytes place []
-  some_left : (meaning : List ℕ) → place < length bytes
-      → LineOfRest offset bytes place (line_text (saturated (offset + place)) (drop place bytes) 0 meaning)
+  some_left : (meaning : Meaning) → place < length bytes
+      → LineOfRest offset bytes place (line_text (saturated (offset + place)) (drop place bytes) 0 meaning.text)
 
 -- the text is lines that show these first bytes of an item, which begin at this offset of the stream: those of its
 -- rows, as far as they lead, and one of what is left of the bytes; so the column of their bytes is the bytes

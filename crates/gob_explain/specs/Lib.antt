@@ -2,6 +2,7 @@ pub mod Rows
 pub mod Laws
 pub mod Open
 pub mod Walk
+pub mod Path
 pub mod Machine
 pub mod Body
 pub mod Reach

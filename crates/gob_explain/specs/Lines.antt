@@ -5,7 +5,7 @@ use Rattle.gob_types.specs.declared.kind.Kind.{Kind}
 use Rattle.gob_types.specs.declared.kind.Kind.TheVariants as kind
 use Rattle.gob_types.specs.declared.kind.Shape.{Shape}
 use Rattle.gob_types.specs.Table.{Table, shape_of}
-use Rattle.gob_explain.specs.Column.{line_text, saturated}
+use Rattle.gob_explain.specs.Column.{Meaning, line_text, saturated}
 use Rattle.gob_explain.specs.Walk.{between}
 use Rattle.gob_explain.specs.declared.row.Row.{Row}
 use Rattle.gob_explain.specs.declared.row.What.{What}
@@ -75,8 +75,8 @@ BeginsLine T (Some before) r = ¬ SharesLine T before r
 -- those that share its line, has their bytes, and stands one level deeper than the first of them lies
 pub data AreLines (T : Table) (offset : ℕ) (body : List ℕ) : List Row → List ℕ → Type 0 where
   no_row : AreLines T offset body [] []
-  line_of_rows : {rows : List Row} {text : List ℕ} (r : Row) (others : List Row) (meaning : List ℕ)
+  line_of_rows : {rows : List Row} {text : List ℕ} (r : Row) (others : List Row) (meaning : Meaning)
       → AreLines T offset body rows text → BeginsLine T (last_of rows) r → AreOneLine T r others
       → AreLines T offset body (rows ++ r ∷ others) (text
       ++ line_text (saturated (offset + r.begin)) (between r.begin (last_row r others).end body)
-      (saturated (r.depth + 1)) meaning)
+      (saturated (r.depth + 1)) meaning.text)

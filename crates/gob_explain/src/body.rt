@@ -7,7 +7,7 @@ ghost use Rattle.gob_explain.specs.Body.{WalksBody};
 use crate::row::{Awaited, Part};
 use crate::sink::RowSink;
 use crate::stop::Stop;
-use crate::walk::walk_value;
+use crate::walk::{Walk, walk_value};
 use gob_types::{Table, TypeId};
 
 /// How far rows lead in a body.
@@ -36,7 +36,8 @@ pub fn walk_body<O: RowSink>(
     ensures { WalksBody O.tells (types table.now) id body.now most out.old out.new result }
 {
     let part = Part { id, depth: 1 };
-    match walk_value(table, part, body, 0, most, out) {
+    let walk = Walk { table, body, most };
+    match walk_value(&walk, part, 0, out) {
         Ok(place) => Ok(Walked {
             place,
             whole: true,

@@ -8,9 +8,10 @@ ghost use Rattle.gob_types.specs.declared.kind.Shape.{Shape};
 ghost use Rattle.gob_types.specs.Table.{Table, shape_of};
 ghost use Rattle.gob_read.specs.Expected.{Allowed, a_number, first_allowed, raw};
 ghost use Rattle.gob_explain.specs.Open.{Open};
-ghost use Rattle.gob_explain.specs.Walk.{BeginsPart, HasRawBytes, opened};
-ghost use Rattle.gob_explain.specs.Machine.Walking.{AllowsRange, IsInRange, SpellsOne, Takes, Walks, WalksNumber};
-ghost use Rattle.gob_explain.specs.Machine.Walking.{WalksRaw};
+ghost use Rattle.gob_explain.specs.Walk.{HasRawBytes, opened};
+ghost use Rattle.gob_explain.specs.declared.row.Step.{Step};
+ghost use Rattle.gob_explain.specs.Machine.Walking.{AllowsRange, BeginsAt, IsInRange, SpellsOne, Takes, Walks};
+ghost use Rattle.gob_explain.specs.Machine.Walking.{WalksNumber, WalksRaw};
 
 use crate::row::{Awaited, Part, Row, What};
 use crate::sink::RowSink;
@@ -47,9 +48,9 @@ pub(crate) fn walk_number<O: RowSink>(
 ) -> Result<(u64, usize), Stop<O::Fault>>
     ensures most { IfOk result (λ found. found.0 ≤ allowed.most) }
     ensures walks { (T : Table) (opens : List Open) (next : ℕ → List ℕ → List Open) (a : Allowed) (most : ℕ)
-        → at ≤ length body.now → Takes T opens (a_number a) what part.id part.depth next
+        (way : List Step) → at ≤ length body.now → Takes T opens (a_number a) what part.id part.depth way next
         → AllowsRange a allowed.least allowed.most
-        → WalksNumber O.tells T body.now most opens at out.old out.new next
+        → WalksNumber O.tells T body.now most opens at (out.old, way) out.new next
         (IsInRange allowed.least allowed.most body.now at) result }
 {
     let awaited = Awaited {
@@ -82,9 +83,9 @@ pub(crate) fn walk_raw<O: RowSink>(
     at: usize,
     out: &mut O,
 ) -> Result<usize, Stop<O::Fault>>
-    ensures { (T : Table) (opens : List Open) (next : ℕ → List ℕ → List Open) (most : ℕ) → at ≤ length body.now
-        → 0 < count → Takes T opens (raw count) What.Raw part.id part.depth next
-        → WalksRaw O.tells T body.now most opens at count out.old out.new next result }
+    ensures { (T : Table) (opens : List Open) (next : ℕ → List ℕ → List Open) (most : ℕ) (way : List Step)
+        → at ≤ length body.now → 0 < count → Takes T opens (raw count) What.Raw part.id part.depth way next
+        → WalksRaw O.tells T body.now most opens at count (out.old, way) out.new next result }
 {
     if count > body.len().saturating_sub(at) as u64 {
         return Err(Stop::Here(
@@ -116,9 +117,9 @@ pub(crate) fn walk_counted<O: RowSink>(
     out: &mut O,
 ) -> Result<usize, Stop<O::Fault>>
     ensures { (T : Table) (t : TypeId) (s : Shape) (base around most : ℕ) (p : List ℕ) (outer : List Open)
-        → base + around + 1 ≡ part.depth → at ≤ length body.now
-        → BeginsPart T t p part.id around → shape_of T part.id ≡ Some s → HasRawBytes s.kind
-        → Walks O.tells T body.now most t base p outer at out.old out.new (SpellsOne T part.id) result }
+        (way : List Step) → base + around + 1 ≡ part.depth → at ≤ length body.now
+        → BeginsAt T t base p outer part.id around way → shape_of T part.id ≡ Some s → HasRawBytes s.kind
+        → Walks O.tells T body.now most t base p outer at (out.old, way) out.new (SpellsOne T part.id) result }
 {
     let (count, behind) = walk_number(What::First, part, Numbers::ANY, body, at, out)?;
     if count == 0 {
@@ -136,10 +137,10 @@ pub(crate) fn walk_basic<O: RowSink>(
     out: &mut O,
 ) -> Result<usize, Stop<O::Fault>>
     ensures { (T : Table) (t : TypeId) (s : Shape) (base around most : ℕ) (p : List ℕ) (outer : List Open)
-        → base + around + 1 ≡ part.depth → at ≤ length body.now
-        → BeginsPart T t p part.id around → shape_of T part.id ≡ Some s → s.kind ≡ kind.Basic basic
+        (way : List Step) → base + around + 1 ≡ part.depth → at ≤ length body.now
+        → BeginsAt T t base p outer part.id around way → shape_of T part.id ≡ Some s → s.kind ≡ kind.Basic basic
         → basic ≢ basics.Interface
-        → Walks O.tells T body.now most t base p outer at out.old out.new (SpellsOne T part.id) result }
+        → Walks O.tells T body.now most t base p outer at (out.old, way) out.new (SpellsOne T part.id) result }
 {
     match basic {
         Basic::Bytes => walk_counted(part, body, at, out),
@@ -160,9 +161,10 @@ fn walk_complex<O: RowSink>(
     out: &mut O,
 ) -> Result<usize, Stop<O::Fault>>
     ensures { (T : Table) (t : TypeId) (s : Shape) (base around most : ℕ) (p : List ℕ) (outer : List Open)
-        → base + around + 1 ≡ part.depth → at ≤ length body.now
-        → BeginsPart T t p part.id around → shape_of T part.id ≡ Some s → s.kind ≡ kind.Basic basics.Complex
-        → Walks O.tells T body.now most t base p outer at out.old out.new (SpellsOne T part.id) result }
+        (way : List Step) → base + around + 1 ≡ part.depth → at ≤ length body.now
+        → BeginsAt T t base p outer part.id around way → shape_of T part.id ≡ Some s
+        → s.kind ≡ kind.Basic basics.Complex
+        → Walks O.tells T body.now most t base p outer at (out.old, way) out.new (SpellsOne T part.id) result }
 {
     let (_, behind) = walk_number(What::First, part, Numbers::ANY, body, at, out)?;
     let (_, end) = walk_number(What::Imaginary, part, Numbers::ANY, body, behind, out)?;

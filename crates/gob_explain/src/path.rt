@@ -1,6 +1,8 @@
 //! The path of a place in a value.
 
-ghost use Rattle.std.specs.Prelude.{◌≤◌};
+ghost use Rattle.std.specs.Prelude.{◌≤◌, IfOk};
+ghost use Rattle.gob_types.specs.Defined.{types};
+ghost use Rattle.gob_explain.specs.Body.{IsPathTo};
 
 use crate::body::walk_body;
 use crate::row::{Row, Step};
@@ -19,9 +21,11 @@ struct Path {
 }
 
 impl RowSink for Path {
+    ghost use Rattle.std.specs.Prelude.{◌≡◌, OnOk};
+
     type Fault = Memory;
 
-    ghost tells = { λ old new rows result. Unit {0} };
+    ghost tells = { λ old new rows result. old.0.steps.items ≡ old.1 → OnOk result (new.0.steps.items ≡ new.1) };
 
     fn put(&mut self, _: Row) -> Result<(), Memory> {
         Ok(())
@@ -35,20 +39,17 @@ impl RowSink for Path {
         self.steps.pop();
     }
 
-    ghost nothing = { λ a. tt };
+    ghost nothing = { λ a is. is };
 
-    ghost joined = { λ a b c x y r p q. tt };
+    ghost joined = { λ a b c x y r p q is. q (p is) };
 }
 
 /// The steps from a value to the part that is under way where these bytes end, or to the one that is too deep there,
 /// also in what an interface holds. `id` is the value's type, and `front` the bytes of its body behind the type number,
 /// up to the place that is asked for. Parts deeper than 1000 aren't looked at.
-pub fn path_to(
-    alloc: Global,
-    table: &Table,
-    id: TypeId,
-    front: &[u8],
-) -> Result<Vec<Step>, Memory> {
+pub fn path_to(alloc: Global, table: &Table, id: TypeId, front: &[u8]) -> Result<Vec<Step>, Memory>
+    ensures { IfOk result (λ path. IsPathTo (types table.now) id front.now path.items) }
+{
     let mut path = Path {
         steps: Vec::new(alloc),
     };

@@ -11,9 +11,11 @@ ghost use Rattle.gob_types.specs.declared.kind.Shape.{Shape};
 ghost use Rattle.gob_types.specs.Ready.{IsReady};
 ghost use Rattle.gob_types.specs.Table.{shape_of};
 ghost use Rattle.gob_explain.specs.Open.{Open, a_filling, a_value, count, description, type_number};
-ghost use Rattle.gob_explain.specs.Walk.{BeginsPart};
-ghost use Rattle.gob_explain.specs.Machine.Walking.{BeginsEachKey, BeginsEachPart, BeginsEachValue, SpellsEntries};
-ghost use Rattle.gob_explain.specs.Machine.Walking.{SpellsMany, SpellsOne, SpellsWhole, Walks, WalksTo};
+ghost use Rattle.gob_explain.specs.Path.{PathOf};
+ghost use Rattle.gob_explain.specs.declared.row.Step.{Step};
+ghost use Rattle.gob_explain.specs.Machine.Walking.{BeginsAt, BeginsEachKey, BeginsEachPart, BeginsEachValue};
+ghost use Rattle.gob_explain.specs.Machine.Walking.{IsValueAt, SpellsEntries, SpellsMany, SpellsOne, SpellsWhole};
+ghost use Rattle.gob_explain.specs.Machine.Walking.{Walks, WalksTo};
 
 use crate::leaf::{Numbers, walk_basic, walk_counted, walk_number, walk_raw};
 use crate::row::{Awaited, Part, Step, What};
@@ -21,37 +23,47 @@ use crate::sink::RowSink;
 use crate::stop::Stop;
 use gob_types::{Basic, Fields, Kind, Shapes, Table, TypeId};
 
+/// What a walk goes over.
+#[derive(Clone, Copy)]
+pub(crate) struct Walk<'a> {
+    /// The types of the stream.
+    pub(crate) table: &'a Table,
+    /// The bytes of the body behind its type number.
+    pub(crate) body: &'a [u8],
+    /// No part is told of that is deeper than this.
+    pub(crate) most: u64,
+}
+
 // Tells of a value and the tag before it, if it has one, and where the value ends.
 #[cycle(walk)]
 pub(crate) fn walk_value<O: RowSink>(
-    table: &Table,
+    walk: &Walk<'_>,
     part: Part,
-    body: &[u8],
     at: usize,
-    most: u64,
     out: &mut O,
 ) -> Result<usize, Stop<O::Fault>>
-    requires most { most ≤ 1000 }
-    requires depth { part.depth ≤ most + 1 }
-    ensures { (base : ℕ) (outer : List Open) → base + 1 ≡ part.depth → at ≤ length body.now
-        → Walks O.tells (types table.now) body.now most part.id base [] outer at out.old out.new
-        (SpellsWhole (types table.now) part.id) result }
+    requires most { walk.now.most ≤ 1000 }
+    requires depth { part.depth ≤ walk.now.most + 1 }
+    ensures { let T = types walk.now.table.now in (base : ℕ) (outer : List Open) (way : List Step)
+        → base + 1 ≡ part.depth → at ≤ length walk.now.body.now → IsValueAt T part.id base outer way
+        → Walks O.tells T walk.now.body.now walk.now.most part.id base [] outer at (out.old, way) out.new
+        (SpellsWhole T part.id) result }
 {
-    if !table.kept(part.id) {
+    if !walk.table.kept(part.id) {
         return Err(Stop::Here(at, part.awaited()));
     }
-    let Some(shape) = table.shape_of(part.id) else {
+    let Some(shape) = walk.table.shape_of(part.id) else {
         return Err(Stop::Here(at, part.awaited()));
     };
     match &shape.kind {
-        Kind::Struct { .. } => walk_part(table, part, body, at, most, out),
+        Kind::Struct { .. } => walk_part(walk, part, at, out),
         _ => {
             let tag = Part {
                 id: part.id,
                 depth: part.depth.saturating_sub(1),
             };
-            let (_, behind) = walk_number(What::Tag, tag, Numbers::NONE, body, at, out)?;
-            walk_part(table, part, body, behind, most, out)
+            let (_, behind) = walk_number(What::Tag, tag, Numbers::NONE, walk.body, at, out)?;
+            walk_part(walk, part, behind, out)
         }
     }
 }
@@ -59,58 +71,57 @@ pub(crate) fn walk_value<O: RowSink>(
 // Tells of the part that begins at the place, and where it ends.
 #[cycle(walk)]
 fn walk_part<O: RowSink>(
-    table: &Table,
+    walk: &Walk<'_>,
     part: Part,
-    body: &[u8],
     at: usize,
-    most: u64,
     out: &mut O,
 ) -> Result<usize, Stop<O::Fault>>
-    requires most { most ≤ 1000 }
-    requires depth { part.depth ≤ most + 1 }
-    ensures { (t : TypeId) (base around : ℕ) (p : List ℕ) (outer : List Open) → base + around + 1 ≡ part.depth
-        → at ≤ length body.now → IsReady (types table.now) part.id → BeginsPart (types table.now) t p part.id around
-        → Walks O.tells (types table.now) body.now most t base p outer at out.old out.new
-        (SpellsOne (types table.now) part.id) result }
+    requires most { walk.now.most ≤ 1000 }
+    requires depth { part.depth ≤ walk.now.most + 1 }
+    ensures { let T = types walk.now.table.now in (t : TypeId) (base around : ℕ) (p : List ℕ) (outer : List Open)
+        (way : List Step) → base + around + 1 ≡ part.depth → at ≤ length walk.now.body.now
+        → IsReady T part.id → BeginsAt T t base p outer part.id around way
+        → Walks O.tells T walk.now.body.now walk.now.most t base p outer at (out.old, way) out.new
+        (SpellsOne T part.id) result }
 {
-    if part.depth > most {
+    if part.depth > walk.most {
         return Err(Stop::Here(at, part.awaited()));
     }
-    let Some(shape) = table.shape_of(part.id) else {
+    let Some(shape) = walk.table.shape_of(part.id) else {
         return Err(Stop::Here(at, part.awaited()));
     };
     match &shape.kind {
-        Kind::Basic(basic) => walk_basic_part(table, part, *basic, body, at, most, out),
-        Kind::Opaque(_) => walk_counted(part, body, at, out),
-        Kind::Struct { fields } => walk_fields(table, part, fields, body, at, most, out),
+        Kind::Basic(basic) => walk_basic_part(walk, part, *basic, at, out),
+        Kind::Opaque(_) => walk_counted(part, walk.body, at, out),
+        Kind::Struct { fields } => walk_fields(walk, part, fields, at, out),
         Kind::Slice { elem } => {
-            let (count, behind) = walk_number(What::First, part, Numbers::ANY, body, at, out)?;
+            let (count, behind) = walk_number(What::First, part, Numbers::ANY, walk.body, at, out)?;
             let each = Part {
                 id: *elem,
                 depth: part.depth + 1,
             };
-            walk_elements(table, each, count, body, behind, most, out)
+            walk_elements(walk, each, count, behind, out)
         }
         Kind::Array { elem, len } => {
             let allowed = Numbers {
                 least: *len,
                 most: *len,
             };
-            let (count, behind) = walk_number(What::First, part, allowed, body, at, out)?;
+            let (count, behind) = walk_number(What::First, part, allowed, walk.body, at, out)?;
             let each = Part {
                 id: *elem,
                 depth: part.depth + 1,
             };
-            walk_elements(table, each, count, body, behind, most, out)
+            walk_elements(walk, each, count, behind, out)
         }
         Kind::Map { key, elem } => {
-            let (count, behind) = walk_number(What::First, part, Numbers::ANY, body, at, out)?;
+            let (count, behind) = walk_number(What::First, part, Numbers::ANY, walk.body, at, out)?;
             let each = Entry {
                 key: *key,
                 elem: *elem,
                 depth: part.depth + 1,
             };
-            walk_pairs(table, each, count, body, behind, most, out)
+            walk_pairs(walk, each, count, behind, out)
         }
     }
 }
@@ -118,23 +129,22 @@ fn walk_part<O: RowSink>(
 // Tells of the part of another part to which the step leads, and where it ends.
 #[cycle(walk)]
 fn walk_step<O: RowSink>(
-    table: &Table,
+    walk: &Walk<'_>,
     step: Step,
     part: Part,
-    body: &[u8],
     at: usize,
-    most: u64,
     out: &mut O,
 ) -> Result<usize, Stop<O::Fault>>
-    requires most { most ≤ 1000 }
-    requires depth { part.depth ≤ most + 1 }
-    ensures { (t : TypeId) (base around : ℕ) (p : List ℕ) (outer : List Open) → base + around + 1 ≡ part.depth
-        → at ≤ length body.now → IsReady (types table.now) part.id → BeginsPart (types table.now) t p part.id around
-        → Walks O.tells (types table.now) body.now most t base p outer at out.old out.new
-        (SpellsOne (types table.now) part.id) result }
+    requires most { walk.now.most ≤ 1000 }
+    requires depth { part.depth ≤ walk.now.most + 1 }
+    ensures { let T = types walk.now.table.now in (t : TypeId) (base around : ℕ) (p : List ℕ) (outer : List Open)
+        (way : List Step) → base + around + 1 ≡ part.depth → at ≤ length walk.now.body.now
+        → IsReady T part.id → BeginsAt T t base p outer part.id around (way ++ step ∷ [])
+        → Walks O.tells T walk.now.body.now walk.now.most t base p outer at (out.old, way) out.new
+        (SpellsOne T part.id) result }
 {
     out.enter(step)?;
-    let end = walk_part(table, part, body, at, most, out)?;
+    let end = walk_part(walk, part, at, out)?;
     out.leave();
     Ok(end)
 }
@@ -142,25 +152,23 @@ fn walk_step<O: RowSink>(
 // Tells of so many elements, each such a part, and where they end.
 #[cycle(walk)]
 fn walk_elements<O: RowSink>(
-    table: &Table,
+    walk: &Walk<'_>,
     each: Part,
     count: u64,
-    body: &[u8],
     begin: usize,
-    most: u64,
     out: &mut O,
 ) -> Result<usize, Stop<O::Fault>>
-    requires most { most ≤ 1000 }
-    requires depth { each.depth ≤ most + 1 }
-    ensures { (t : TypeId) (base around : ℕ) (p : List ℕ) (outer : List Open) → base + around + 1 ≡ each.depth
-        → begin ≤ length body.now → IsReady (types table.now) each.id
-        → BeginsEachPart (types table.now) t p each.id count around
-        → Walks O.tells (types table.now) body.now most t base p outer begin out.old out.new
-        (SpellsMany (types table.now) each.id count) result }
+    requires most { walk.now.most ≤ 1000 }
+    requires depth { each.depth ≤ walk.now.most + 1 }
+    ensures { let T = types walk.now.table.now in (t : TypeId) (base around : ℕ) (p : List ℕ) (outer : List Open)
+        (way : List Step) → base + around + 1 ≡ each.depth → begin ≤ length walk.now.body.now
+        → IsReady T each.id → BeginsEachPart T t base p outer each.id count around way
+        → Walks O.tells T walk.now.body.now walk.now.most t base p outer begin (out.old, way) out.new
+        (SpellsMany T each.id count) result }
 {
     let mut at = begin;
     'elements: for index in 0..count {
-        at = walk_step(table, Step::Element(index), each, body, at, most, out)?;
+        at = walk_step(walk, Step::Element(index), each, at, out)?;
     }
     Ok(at)
 }
@@ -176,22 +184,21 @@ struct Entry {
 // Tells of so many pairs of a key and an element, and where they end.
 #[cycle(walk)]
 fn walk_pairs<O: RowSink>(
-    table: &Table,
+    walk: &Walk<'_>,
     each: Entry,
     count: u64,
-    body: &[u8],
     begin: usize,
-    most: u64,
     out: &mut O,
 ) -> Result<usize, Stop<O::Fault>>
-    requires most { most ≤ 1000 }
-    requires depth { each.depth ≤ most + 1 }
-    ensures { (t : TypeId) (base around : ℕ) (p : List ℕ) (outer : List Open) → base + around + 1 ≡ each.depth
-        → begin ≤ length body.now → IsReady (types table.now) each.key → IsReady (types table.now) each.elem
-        → BeginsEachKey (types table.now) t p each.key each.elem count around
-        → BeginsEachValue (types table.now) t p each.key each.elem count around
-        → Walks O.tells (types table.now) body.now most t base p outer begin out.old out.new
-        (SpellsEntries (types table.now) each.key each.elem count) result }
+    requires most { walk.now.most ≤ 1000 }
+    requires depth { each.depth ≤ walk.now.most + 1 }
+    ensures { let T = types walk.now.table.now in (t : TypeId) (base around : ℕ) (p : List ℕ) (outer : List Open)
+        (way : List Step) → base + around + 1 ≡ each.depth → begin ≤ length walk.now.body.now
+        → IsReady T each.key → IsReady T each.elem
+        → BeginsEachKey T t base p outer each.key each.elem count around way
+        → BeginsEachValue T t base p outer each.key each.elem count around way
+        → Walks O.tells T walk.now.body.now walk.now.most t base p outer begin (out.old, way) out.new
+        (SpellsEntries T each.key each.elem count) result }
 {
     let keys = Part {
         id: each.key,
@@ -203,8 +210,8 @@ fn walk_pairs<O: RowSink>(
     };
     let mut at = begin;
     'pairs: for index in 0..count {
-        let behind = walk_step(table, Step::Key(index), keys, body, at, most, out)?;
-        at = walk_step(table, Step::Value(index), elems, body, behind, most, out)?;
+        let behind = walk_step(walk, Step::Key(index), keys, at, out)?;
+        at = walk_step(walk, Step::Value(index), elems, behind, out)?;
     }
     Ok(at)
 }
@@ -212,22 +219,20 @@ fn walk_pairs<O: RowSink>(
 // Tells of the fields of a struct, and where it ends.
 #[cycle(walk)]
 fn walk_fields<O: RowSink>(
-    table: &Table,
+    walk: &Walk<'_>,
     part: Part,
     fields: &Fields,
-    body: &[u8],
     begin: usize,
-    most: u64,
     out: &mut O,
 ) -> Result<usize, Stop<O::Fault>>
-    requires most { most ≤ 1000 }
-    requires depth { part.depth ≤ most }
-    ensures { (t : TypeId) (base around : ℕ) (p : List ℕ) (outer : List Open) (s : Shape)
-        → base + around + 1 ≡ part.depth → begin ≤ length body.now → IsReady (types table.now) part.id
-        → shape_of (types table.now) part.id ≡ Some s → s.kind ≡ kind.Struct fields.now
-        → BeginsPart (types table.now) t p part.id around
-        → Walks O.tells (types table.now) body.now most t base p outer begin out.old out.new
-        (SpellsOne (types table.now) part.id) result }
+    requires most { walk.now.most ≤ 1000 }
+    requires depth { part.depth ≤ walk.now.most }
+    ensures { let T = types walk.now.table.now in (t : TypeId) (base around : ℕ) (p : List ℕ) (outer : List Open)
+        (way : List Step) (s : Shape) → base + around + 1 ≡ part.depth → begin ≤ length walk.now.body.now
+        → IsReady T part.id → shape_of T part.id ≡ Some s → s.kind ≡ kind.Struct fields.now
+        → BeginsAt T t base p outer part.id around way
+        → Walks O.tells T walk.now.body.now walk.now.most t base p outer begin (out.old, way) out.new
+        (SpellsOne T part.id) result }
 {
     let mut next = 0;
     let mut at = begin;
@@ -236,7 +241,7 @@ fn walk_fields<O: RowSink>(
             least: 0,
             most: fields.count().saturating_sub(next),
         };
-        let (delta, behind) = walk_number(What::Delta, part, allowed, body, at, out)?;
+        let (delta, behind) = walk_number(What::Delta, part, allowed, walk.body, at, out)?;
         if delta == 0 {
             return Ok(behind);
         }
@@ -252,7 +257,7 @@ fn walk_fields<O: RowSink>(
             id: field.id,
             depth: part.depth + 1,
         };
-        at = walk_step(table, step, inner, body, behind, most, out)?;
+        at = walk_step(walk, step, inner, behind, out)?;
         next = number + 1;
     }
 }
@@ -260,47 +265,44 @@ fn walk_fields<O: RowSink>(
 // Tells of a part of this basic type, which may be an interface, and where it ends.
 #[cycle(walk)]
 fn walk_basic_part<O: RowSink>(
-    table: &Table,
+    walk: &Walk<'_>,
     part: Part,
     basic: Basic,
-    body: &[u8],
     at: usize,
-    most: u64,
     out: &mut O,
 ) -> Result<usize, Stop<O::Fault>>
-    requires most { most ≤ 1000 }
-    requires depth { part.depth ≤ most }
-    ensures { (t : TypeId) (base around : ℕ) (p : List ℕ) (outer : List Open) (s : Shape)
-        → base + around + 1 ≡ part.depth → at ≤ length body.now → BeginsPart (types table.now) t p part.id around
-        → shape_of (types table.now) part.id ≡ Some s → s.kind ≡ kind.Basic basic
-        → Walks O.tells (types table.now) body.now most t base p outer at out.old out.new
-        (SpellsOne (types table.now) part.id) result }
+    requires most { walk.now.most ≤ 1000 }
+    requires depth { part.depth ≤ walk.now.most }
+    ensures { let T = types walk.now.table.now in (t : TypeId) (base around : ℕ) (p : List ℕ) (outer : List Open)
+        (way : List Step) (s : Shape) → base + around + 1 ≡ part.depth → at ≤ length walk.now.body.now
+        → BeginsAt T t base p outer part.id around way → shape_of T part.id ≡ Some s → s.kind ≡ kind.Basic basic
+        → Walks O.tells T walk.now.body.now walk.now.most t base p outer at (out.old, way) out.new
+        (SpellsOne T part.id) result }
 {
     match basic {
-        Basic::Interface => walk_interface(table, part, body, at, most, out),
-        _ => walk_basic(part, basic, body, at, out),
+        Basic::Interface => walk_interface(walk, part, at, out),
+        _ => walk_basic(part, basic, walk.body, at, out),
     }
 }
 
 // Tells of an interface and of what fills it, if anything does, and where it ends.
 #[cycle(walk)]
 fn walk_interface<O: RowSink>(
-    table: &Table,
+    walk: &Walk<'_>,
     part: Part,
-    body: &[u8],
     at: usize,
-    most: u64,
     out: &mut O,
 ) -> Result<usize, Stop<O::Fault>>
-    requires most { most ≤ 1000 }
-    requires depth { part.depth ≤ most }
-    ensures { (t : TypeId) (base around : ℕ) (p : List ℕ) (outer : List Open) (s : Shape)
-        → base + around + 1 ≡ part.depth → at ≤ length body.now → BeginsPart (types table.now) t p part.id around
-        → shape_of (types table.now) part.id ≡ Some s → s.kind ≡ kind.Basic basics.Interface
-        → Walks O.tells (types table.now) body.now most t base p outer at out.old out.new
-        (SpellsOne (types table.now) part.id) result }
+    requires most { walk.now.most ≤ 1000 }
+    requires depth { part.depth ≤ walk.now.most }
+    ensures { let T = types walk.now.table.now in (t : TypeId) (base around : ℕ) (p : List ℕ) (outer : List Open)
+        (way : List Step) (s : Shape) → base + around + 1 ≡ part.depth → at ≤ length walk.now.body.now
+        → BeginsAt T t base p outer part.id around way → shape_of T part.id ≡ Some s
+        → s.kind ≡ kind.Basic basics.Interface
+        → Walks O.tells T walk.now.body.now walk.now.most t base p outer at (out.old, way) out.new
+        (SpellsOne T part.id) result }
 {
-    let (length, behind) = walk_number(What::First, part, Numbers::ANY, body, at, out)?;
+    let (length, behind) = walk_number(What::First, part, Numbers::ANY, walk.body, at, out)?;
     if length == 0 {
         return Ok(behind);
     }
@@ -308,39 +310,45 @@ fn walk_interface<O: RowSink>(
         id: part.id,
         depth: part.depth + 1,
     };
-    if filling.depth > most {
+    if filling.depth > walk.most {
         return Err(Stop::Here(behind, filling.awaited()));
     }
-    let named = walk_raw(filling, length, body, behind, out)?;
-    walk_filling(table, filling, body, named, most, out)
+    let named = walk_raw(filling, length, walk.body, behind, out)?;
+    walk_filling(walk, filling, named, out)
 }
 
 // Tells of a filling behind its name, and where it ends.
 #[cycle(walk)]
 fn walk_filling<O: RowSink>(
-    table: &Table,
+    walk: &Walk<'_>,
     filling: Part,
-    body: &[u8],
     begin: usize,
-    most: u64,
     out: &mut O,
 ) -> Result<usize, Stop<O::Fault>>
-    requires most { most ≤ 1000 }
-    requires depth { filling.depth ≤ most }
-    ensures { (t : TypeId) (base : ℕ) (p : List ℕ) (outer : List Open) → begin ≤ length body.now
-        → WalksTo O.tells (types table.now) body.now most
-        (a_filling filling.id filling.depth type_number ∷ (a_value t base p ∷ outer)) begin out.old out.new
+    requires most { walk.now.most ≤ 1000 }
+    requires depth { filling.depth ≤ walk.now.most }
+    ensures { let T = types walk.now.table.now in (t : TypeId) (base : ℕ) (p : List ℕ) (outer : List Open)
+        (way : List Step) → begin ≤ length walk.now.body.now → PathOf T (a_value t base p ∷ outer) way
+        → WalksTo O.tells T walk.now.body.now walk.now.most
+        (a_filling filling.id filling.depth type_number ∷ (a_value t base p ∷ outer)) begin (out.old, way) out.new
         (a_value t base (p ++ 0 ∷ []) ∷ outer) result }
 {
     let mut at = begin;
     // each definition takes a byte at least
-    'definitions: for least in begin..body.len() {
-        let (number, behind) = walk_number(What::TypeNumber, filling, Numbers::ANY, body, at, out)?;
+    'definitions: for least in begin..walk.body.len() {
+        let (number, behind) = walk_number(
+            What::TypeNumber,
+            filling,
+            Numbers::ANY,
+            walk.body,
+            at,
+            out,
+        )?;
         let sign = number % 2;
         if sign == 0 {
-            return walk_held(table, TypeId(number / 2), filling, body, behind, most, out);
+            return walk_held(walk, TypeId(number / 2), filling, behind, out);
         }
-        at = walk_definition(table, filling, body, behind, most, out)?;
+        at = walk_definition(walk, filling, behind, out)?;
     }
     Err(Stop::Here(
         at,
@@ -355,70 +363,67 @@ fn walk_filling<O: RowSink>(
 // Tells of a description in a filling and of the count of the segment behind it, and where that ends.
 #[cycle(walk)]
 fn walk_definition<O: RowSink>(
-    table: &Table,
+    walk: &Walk<'_>,
     filling: Part,
-    body: &[u8],
     at: usize,
-    most: u64,
     out: &mut O,
 ) -> Result<usize, Stop<O::Fault>>
-    requires most { most ≤ 1000 }
-    requires depth { filling.depth ≤ most }
-    ensures { (outer : List Open) → at ≤ length body.now
-        → WalksTo O.tells (types table.now) body.now most
+    requires most { walk.now.most ≤ 1000 }
+    requires depth { filling.depth ≤ walk.now.most }
+    ensures { let T = types walk.now.table.now in (outer : List Open) (way : List Step)
+        → at ≤ length walk.now.body.now → PathOf T outer way
+        → WalksTo O.tells T walk.now.body.now walk.now.most
         (a_value wire_type filling.depth [] ∷ (a_filling filling.id filling.depth description ∷ outer))
-        at out.old out.new (a_filling filling.id filling.depth type_number ∷ outer) result }
+        at (out.old, way) out.new (a_filling filling.id filling.depth type_number ∷ outer) result }
 {
-    let behind = walk_inside(table, TypeId::WIRE_TYPE, filling, body, at, most, out)?;
-    let (_, end) = walk_number(What::Segment, filling, Numbers::ANY, body, behind, out)?;
+    let behind = walk_inside(walk, TypeId::WIRE_TYPE, filling, at, out)?;
+    let (_, end) = walk_number(What::Segment, filling, Numbers::ANY, walk.body, behind, out)?;
     Ok(end)
 }
 
 // Tells of the count and the value of what is held, of this type, and where it ends.
 #[cycle(walk)]
 fn walk_held<O: RowSink>(
-    table: &Table,
+    walk: &Walk<'_>,
     id: TypeId,
     filling: Part,
-    body: &[u8],
     at: usize,
-    most: u64,
     out: &mut O,
 ) -> Result<usize, Stop<O::Fault>>
-    requires most { most ≤ 1000 }
-    requires depth { filling.depth ≤ most }
-    ensures { (t : TypeId) (base : ℕ) (p : List ℕ) (outer : List Open) → at ≤ length body.now
-        → WalksTo O.tells (types table.now) body.now most
-        (a_filling filling.id filling.depth (count id) ∷ (a_value t base p ∷ outer)) at out.old out.new
+    requires most { walk.now.most ≤ 1000 }
+    requires depth { filling.depth ≤ walk.now.most }
+    ensures { let T = types walk.now.table.now in (t : TypeId) (base : ℕ) (p : List ℕ) (outer : List Open)
+        (way : List Step) → at ≤ length walk.now.body.now → PathOf T (a_value t base p ∷ outer) way
+        → WalksTo O.tells T walk.now.body.now walk.now.most
+        (a_filling filling.id filling.depth (count id) ∷ (a_value t base p ∷ outer)) at (out.old, way) out.new
         (a_value t base (p ++ 0 ∷ []) ∷ outer) result }
 {
-    let (_, begin) = walk_number(What::Segment, filling, Numbers::ANY, body, at, out)?;
-    walk_inside(table, id, filling, body, begin, most, out)
+    let (_, begin) = walk_number(What::Segment, filling, Numbers::ANY, walk.body, at, out)?;
+    walk_inside(walk, id, filling, begin, out)
 }
 
 // Tells of a value of this type in a filling, or of a description, and where it ends.
 #[cycle(walk)]
 fn walk_inside<O: RowSink>(
-    table: &Table,
+    walk: &Walk<'_>,
     id: TypeId,
     filling: Part,
-    body: &[u8],
     at: usize,
-    most: u64,
     out: &mut O,
 ) -> Result<usize, Stop<O::Fault>>
-    requires most { most ≤ 1000 }
-    requires depth { filling.depth ≤ most }
-    ensures { (outer : List Open) → at ≤ length body.now
-        → Walks O.tells (types table.now) body.now most id filling.depth [] outer at out.old out.new
-        (SpellsWhole (types table.now) id) result }
+    requires most { walk.now.most ≤ 1000 }
+    requires depth { filling.depth ≤ walk.now.most }
+    ensures { let T = types walk.now.table.now in (outer : List Open) (way : List Step)
+        → at ≤ length walk.now.body.now → PathOf T outer way
+        → Walks O.tells T walk.now.body.now walk.now.most id filling.depth [] outer at (out.old, way) out.new
+        (SpellsWhole T id) result }
 {
     out.enter(Step::Held(id))?;
     let part = Part {
         id,
         depth: filling.depth + 1,
     };
-    let end = walk_value(table, part, body, at, most, out)?;
+    let end = walk_value(walk, part, at, out)?;
     out.leave();
     Ok(end)
 }

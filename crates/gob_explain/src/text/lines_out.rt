@@ -7,6 +7,7 @@ ghost use Rattle.gob_explain.specs.Putting.{PutsMore, PutsOn};
 
 use crate::text::lines::push_line;
 use gob_json::TextOut;
+use gob_words::escaped;
 use std::alloc::{AllocError, Global};
 
 /// Why lines were not all put out.
@@ -37,6 +38,7 @@ pub struct LinesOut<O: TextOut> {
     pub out: O,
     /// The first fault, if there was one.
     pub fault: Option<LineFault<O::Fault>>,
+    alloc: Global,
     // The line that is made.
     line: String,
 }
@@ -50,6 +52,7 @@ impl<O: TextOut> LinesOut<O> {
         LinesOut {
             out,
             fault: None,
+            alloc,
             line: String::new(alloc),
         }
     }
@@ -62,6 +65,7 @@ impl<O: TextOut> LinesOut<O> {
         let LinesOut {
             out,
             fault,
+            alloc: _,
             line: _,
         } = self;
         (out, fault)
@@ -82,7 +86,7 @@ impl<O: TextOut> LinesOut<O> {
     }
 
     /// Puts out the line of bytes that stand at an offset of a stream, and what they are so many levels deep, if there
-    /// was memory to say it.
+    /// was memory to say it. Of that each character is escaped that a terminal obeys, so it is one line.
     pub(crate) fn put_line(
         &mut self,
         offset: u64,
@@ -114,8 +118,9 @@ impl<O: TextOut> LinesOut<O> {
         ensures fault { self.new.fault ≡ self.old.fault }
     {
         let meaning = meaning?;
+        let shown = escaped(self.alloc, meaning.as_str())?;
         self.line.clear();
-        push_line(offset, bytes, levels, meaning.as_str(), &mut self.line)?;
+        push_line(offset, bytes, levels, shown.as_str(), &mut self.line)?;
         self.out.put(self.line.as_bytes()).map_err(LineFault::Out)
     }
 }

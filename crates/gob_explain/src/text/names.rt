@@ -28,19 +28,19 @@ pub fn push_name(alloc: Global, name: &[u8], out: &mut String) -> Result<(), All
     }
 }
 
-/// Puts the first characters of a string behind the text, between quotes.
-pub(crate) fn push_string(alloc: Global, raw: &[u8], out: &mut String) -> Result<(), AllocError> {
+/// Puts the first characters of a string behind the text, between quotes, as they are.
+pub(crate) fn push_string(raw: &[u8], out: &mut String) -> Result<(), AllocError> {
     let Ok(text) = str::from_utf8(raw) else {
         return write!(out, "{} bytes that are no UTF-8", raw.len());
     };
     out.push('"')?;
-    let mut shown = String::new(alloc);
+    let begin = out.len();
     for character in text.chars().take(SHOWN) {
-        shown.push(character)?;
+        out.push(character)?;
     }
-    out.push_str(escaped(alloc, shown.as_str())?.as_str())?;
+    let shown = out.len().saturating_sub(begin);
     out.push('"')?;
-    if shown.len() < text.len() {
+    if shown < text.len() {
         out.push_str("..")?;
     }
     Ok(())

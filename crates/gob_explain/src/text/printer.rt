@@ -341,7 +341,7 @@ impl<O: TextOut> RowSink for Printer<'_, '_, O> {
 
     type Fault = Infallible;
 
-    ghost tells = { λ old new rows result. (new.lines.ghost_name ≡ old.lines.ghost_name)
+    ghost tells = { λ (old, from) (new, to) rows result. (new.lines.ghost_name ≡ old.lines.ghost_name)
         × PrintsRows O.puts (types old.table.now) old.offset old.body.now old.line old.lines.now.out
         old.lines.now.fault (types new.table.now) new.offset new.body.now new.line new.lines.now.out
         new.lines.now.fault rows };
@@ -364,15 +364,16 @@ impl<O: TextOut> RowSink for Printer<'_, '_, O> {
 
     ghost nothing = { λ a. (
       refl,
-      prints_nothing O.puts O.nothing (types a.table.now) a.offset a.body.now a.line a.lines.now.out
-          a.lines.now.fault,
+      prints_nothing O.puts O.nothing (types a.0.table.now) a.0.offset a.0.body.now a.0.line a.0.lines.now.out
+          a.0.lines.now.fault,
     ) };
 
     ghost joined = { λ a b c x y r p q. (
       q.0 ∙ p.0,
-      prints_both O.puts O.joined O.cut (types a.table.now) a.offset a.body.now a.line a.lines.now.out
-          a.lines.now.fault (types b.table.now) b.offset b.body.now b.line b.lines.now.out b.lines.now.fault
-          (types c.table.now) c.offset c.body.now c.line c.lines.now.out c.lines.now.fault x y p.1 q.1,
+      prints_both O.puts O.joined O.cut (types a.0.table.now) a.0.offset a.0.body.now a.0.line a.0.lines.now.out
+          a.0.lines.now.fault (types b.0.table.now) b.0.offset b.0.body.now b.0.line b.0.lines.now.out
+          b.0.lines.now.fault (types c.0.table.now) c.0.offset c.0.body.now c.0.line c.0.lines.now.out
+          c.0.lines.now.fault x y p.1 q.1,
     ) };
 }
 

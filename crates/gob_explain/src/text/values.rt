@@ -25,7 +25,7 @@ pub(crate) fn push_value<S: Shapes>(
         return Ok(());
     };
     match &shape.kind {
-        Kind::Basic(basic) => push_basic(alloc, *basic, first.number, behind, out),
+        Kind::Basic(basic) => push_basic(*basic, first.number, behind, out),
         Kind::Array { .. } | Kind::Slice { .. } => push_count(first.number, "element", out),
         Kind::Map { .. } => push_count(first.number, "pair", out),
         Kind::Opaque(marshal) => {
@@ -54,7 +54,6 @@ pub(crate) enum Behind<'a> {
 }
 
 fn push_basic(
-    alloc: Global,
     basic: Basic,
     number: u64,
     behind: Behind<'_>,
@@ -65,11 +64,11 @@ fn push_basic(
         Basic::Int => write!(out, "{}", to_signed(number)),
         Basic::Uint => write!(out, "{number}"),
         Basic::Float => push_float(to_pattern(number), out),
-        Basic::Interface => push_interface(alloc, number, behind, out),
+        Basic::Interface => push_interface(number, behind, out),
         Basic::Complex => push_complex(number, behind, out),
         Basic::Bytes => push_count(number, "byte", out),
         Basic::Str => match behind {
-            Behind::Raw(raw) => push_string(alloc, raw, out),
+            Behind::Raw(raw) => push_string(raw, out),
             Behind::Missing => push_count(number, "byte", out),
             _ => out.push_str("\"\""),
         },
@@ -77,16 +76,11 @@ fn push_basic(
 }
 
 // Nil, or the name of what it holds.
-fn push_interface(
-    alloc: Global,
-    length: u64,
-    behind: Behind<'_>,
-    out: &mut String,
-) -> Result<(), AllocError> {
+fn push_interface(length: u64, behind: Behind<'_>, out: &mut String) -> Result<(), AllocError> {
     match behind {
         Behind::Raw(name) => {
             out.push_str("holds ")?;
-            push_string(alloc, name, out)
+            push_string(name, out)
         }
         Behind::Missing => {
             out.push_str("holds something, by a name of ")?;

@@ -28,33 +28,34 @@ as_it_is basic.Complex n = refl
 as_it_is basic.Interface n = absurd (n refl)
 
 pub returns-in-Bytes : goal.returns-in-Bytes
-returns-in-Bytes g c = λ T t s base around most p outer d l b f e n.
-    c.walk_counted.ensures T t s base around most p outer d l b f
+returns-in-Bytes g c = λ T t s base around most p outer way d l b f e n.
+    c.walk_counted.ensures T t s base around most p outer way d l b f
     (subst HasRawBytes (sym (e ∙ ap kind.Basic c.in-Bytes.is)) tt)
 
 pub returns-in-Str : goal.returns-in-Str
-returns-in-Str g c = λ T t s base around most p outer d l b f e n.
-    c.walk_counted-in-Str.ensures T t s base around most p outer d l b f
+returns-in-Str g c = λ T t s base around most p outer way d l b f e n.
+    c.walk_counted-in-Str.ensures T t s base around most p outer way d l b f
     (subst HasRawBytes (sym (e ∙ ap kind.Basic c.in-Str.is)) tt)
 
 pub returns-in-Complex : goal.returns-in-Complex
-returns-in-Complex g c = λ T t s base around most p outer d l b f e n.
-    c.walk_complex.ensures T t s base around most p outer d l b f (e ∙ ap kind.Basic c.in-Complex.is)
+returns-in-Complex g c = λ T t s base around most p outer way d l b f e n.
+    c.walk_complex.ensures T t s base around most p outer way d l b f (e ∙ ap kind.Basic c.in-Complex.is)
 
 pub returns-in_err-end-in_default : goal.returns-in_err-end-in_default
-returns-in_err-end-in_default g c = λ T t s base around most p outer d l b f e n.
+returns-in_err-end-in_default g c = λ T t s base around most p outer way d l b f e n.
     let allowed = opened (first_allowed (kind.Basic c.args.basic)) in
-    walk_failed g.O.RowSink.tells T c.args.body.now most t base p outer c.args.at _ _ _ _ c.from_residual.result
+    walk_failed g.O.RowSink.tells _ _ _ _ _ _ _ _ _ _ _ _
+    c.from_residual.result
     c.from_residual.ensures.1
-    (c.in_err-end-in_default.ensures.walks T (a_value t base p ∷ outer) (goes_on t base p outer) allowed most l
+    (c.in_err-end-in_default.ensures.walks T (a_value t base p ∷ outer) (goes_on t base p outer) allowed most way l
     (takes_first d b f (no_struct c.args.basic e) (ap first_allowed e ∙ as_it_is c.args.basic n)
     (opened_once (first_allowed (kind.Basic c.args.basic)))) c.allowed_of.ensures)
 
 pub returns-in_ok-end-in_default : goal.returns-in_ok-end-in_default
-returns-in_ok-end-in_default g c = λ T t s base around most p outer d l b f e n.
+returns-in_ok-end-in_default g c = λ T t s base around most p outer way d l b f e n.
     let allowed = opened (first_allowed (kind.Basic c.args.basic)) in
     let first = c.in_ok-end-in_default.ensures.walks T (a_value t base p ∷ outer) (goes_on t base p outer) allowed most
-    l
+    way l
     (takes_first d b f (no_struct c.args.basic e) (ap first_allowed e ∙ as_it_is c.args.basic n)
     (opened_once (first_allowed (kind.Basic c.args.basic)))) c.allowed_of.ensures in (
       between c.args.at c.in_ok-end-in_default.end c.args.body.now,

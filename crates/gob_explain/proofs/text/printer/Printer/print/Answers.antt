@@ -8,12 +8,12 @@ use Rattle.gob_explain.proofs.ItemLaws.{body_shown}
 use Rattle.gob_explain.proofs.text.printer.Printer.print.Goals as goal
 
 pub returns-clause-same : goal.returns-clause-same
-returns-clause-same g c = c.end_line.ensures.same ∙ c.in-Ok.ensures.1.told.0
+returns-clause-same g c = c.end_line.ensures.same ∙ c.in-Ok.ensures.2.told.0
 
 pub returns-clause-put : goal.returns-clause-put
 returns-clause-put g c =
     let walked = c.in-Ok.ensures in
-    let p = walked.1.told.1 in
+    let p = walked.2.told.1 in
     let q = c.end_line.ensures.ended in
     let s = c.args.self.now in
     let m = c.walk_body.new.out in
@@ -22,10 +22,9 @@ returns-clause-put g c =
       text = p.more ++ q.text;
       put = puts_both g.O.TextOut.puts g.met.O.TextOut.joined g.met.O.TextOut.cut s.lines.now.out m.lines.now.out
           n.lines.now.out s.lines.now.fault m.lines.now.fault n.lines.now.fault p.more q.text p.put q.put;
-      holds = body_shown T c.args.id s.offset s.body.now m.line p.more q.text c.in-Ok.walked.place walked.1.rows
-          walked.0
-          c.in-Ok.walked.whole walked.1.lead walked.2
-          (subst (λ (l : Option Line). TellsRows T s.offset s.body.now l m.line walked.1.rows p.more) c.requires
+      holds = body_shown T c.args.id s.offset s.body.now m.line p.more q.text c.in-Ok.walked.place walked.2.rows
+          walked.0 c.in-Ok.walked.whole walked.2.lead walked.3
+          (subst (λ (l : Option Line). TellsRows T s.offset s.body.now l m.line walked.2.rows p.more) c.requires
           p.tells)
           (ends_as m.line q.text p.types p.offset_is p.bytes q.holds);
     }

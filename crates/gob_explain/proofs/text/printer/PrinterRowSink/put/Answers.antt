@@ -5,7 +5,7 @@ use Rattle.gob_explain.proofs.LineLaws.{tells_one}
 use Rattle.gob_explain.proofs.text.printer.PrinterRowSink.put.Goals as goal
 
 pub returns : goal.returns
-returns g c =
+returns g c = λ way.
     let p = c.put_row.ensures.told in (
       c.put_row.ensures.same,
       record {
