@@ -32,12 +32,7 @@ use told::Told;
 /// Makes a reader that has taken no byte and keeps to these limits, and tells how that ended. The handle holds it where
 /// one was made.
 #[unsafe(no_mangle)]
-pub extern "C" fn gob_raw_open(
-    alloc: Global,
-    asked: &Asked,
-    told: &mut Told,
-    reader: &mut Handle,
-)
+pub extern "C" fn gob_raw_open(alloc: Global, asked: &Asked, told: &mut Told, reader: &mut Handle)
     ensures { OpenTold (asked_bounds asked.now) told.new reader.old.value reader.new.value }
 {
     let Some(limits) = asked.limits() else {
@@ -164,7 +159,9 @@ fn taken(alloc: Global, handle: &mut Handle) -> Box<Reader>
     requires { IsSome handle.old.value }
     ensures { handle.old.value ≡ Some result.value }
 {
-    replace(handle, Handle::empty(alloc)).into_parts().into_box()
+    replace(handle, Handle::empty(alloc))
+        .into_parts()
+        .into_box()
 }
 
 // Gives the handle a reader.
