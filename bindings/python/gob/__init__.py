@@ -81,9 +81,10 @@ class Limits(NamedTuple):
 class Refused(ValueError):
     """The bytes are no gob stream.
 
-    `reason` says why, `place` is the offset of the first refused byte, and `seen` how many bytes of the stream show it.
-    `type` is the id that the reason speaks of, or None, and `path` that of the file, where one was read. `values` has
-    what was read before: where `load` raised it all values of the stream, where `Reader.feed` did those of the piece.
+    `reason` says why, `what` the same in a sentence, `place` is the offset of the first refused byte, and `seen` how
+    many bytes of the stream show it. `type` is the id that the reason speaks of, or None, and `path` that of the file,
+    where one was read. `values` has what was read before: where `load` raised it all values of the stream, where
+    `Reader.feed` did those of the piece.
     """
 
     def __init__(self, reason: Reason, place: int, seen: int, type: int | None = None):
@@ -92,6 +93,11 @@ class Refused(ValueError):
         self.reason, self.place, self.seen, self.type = reason, place, seen, type
         self.path: str | None = None
         self.values: list[Any] = []
+
+    @property
+    def what(self) -> str:
+        text: bytes = library.gob_reason_text(int(self.reason))
+        return text.decode()
 
     def __reduce__(self) -> tuple[Any, ...]:
         return Refused, (self.reason, self.place, self.seen, self.type), {"path": self.path, "values": self.values}

@@ -98,6 +98,7 @@ _calls: list[tuple[Any, ...]] = [
     ("gob_check", ctypes.c_int, ctypes.c_char_p, ctypes.c_size_t, ctypes.POINTER(Limits), ctypes.POINTER(Counts),
      _fault),
     ("gob_reason_name", ctypes.c_char_p, ctypes.c_uint32),
+    ("gob_reason_text", ctypes.c_char_p, ctypes.c_uint32),
 ]
 for _name, _result, *_words in _calls:
     _function = getattr(library, _name)

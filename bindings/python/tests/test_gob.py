@@ -22,6 +22,7 @@ import tempfile
 import threading
 import unittest
 import weakref
+import zipfile
 from datetime import timedelta, timezone
 from fractions import Fraction
 from unittest import mock
@@ -183,6 +184,7 @@ class Values(unittest.TestCase):
             gob.loads(POINT + damaged[32:])
         self.assertEqual(str(caught.exception), "refused 15 FieldNumber at 45 seen 46")
         self.assertEqual(caught.exception.reason, gob.Reason.FieldNumber)
+        self.assertEqual(caught.exception.what, "A struct has no such field.")
         self.assertEqual(caught.exception.values, [{"X": 22, "Y": 33}])
         again = pickle.loads(pickle.dumps(caught.exception))
         self.assertEqual((again.reason, again.place, again.seen), (15, 45, 46))
@@ -478,6 +480,28 @@ class Dask(unittest.TestCase):
             # what a worker sends keeps its nanoseconds
             at = client.submit(gob.load, EVENT + NEAR, opaque=gob.go.known).result()[0]["At"]
             self.assertEqual(at.nanosecond, 123456789)
+
+
+class Wheels(unittest.TestCase):
+    def test_pip_makes_one_or_is_told_what_is_lacking(self):
+        package = pathlib.Path(__file__).parents[1]
+        call = "import make_wheel, sys; print(make_wheel.build_wheel(sys.argv[1]))"
+        with tempfile.TemporaryDirectory() as folder:
+            library = pathlib.Path(folder) / "libgob.so.1"
+            for there in (False, True):
+                # pip calls from the package's folder, and GOB_LIBRARY is seen from where pip was called
+                named = {**os.environ, "GOB_LIBRARY": library.name, "PWD": folder}
+                ran = subprocess.run([sys.executable, "-c", call, folder], cwd=package, env=named, capture_output=True,
+                                     text=True, check=False)
+                self.assertEqual(ran.returncode, 0 if there else 1)
+                if not there:
+                    self.assertIn("GOB_LIBRARY=OUT/libgob.so.1 pip install bindings/python", ran.stderr)
+                    library.write_bytes(b"a library")
+            (wheel,) = pathlib.Path(folder).glob("*.whl")
+            self.assertEqual(ran.stdout.strip(), wheel.name)
+            with zipfile.ZipFile(wheel) as files:
+                self.assertEqual(files.read("gob/libgob.so.1"), b"a library")
+                self.assertIn("gob/_source.py", files.namelist())
 
 
 class Layout(unittest.TestCase):
