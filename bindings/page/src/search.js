@@ -1,4 +1,4 @@
-// What is found in the file that is shown: the values that have a text, one value, or the item around a byte.
+// What is found in the file that is shown: the values that have a text, a value, an item, or the item around a byte.
 
 function listenToSearch() {
     $("finder").addEventListener("submit", (event) => {
@@ -39,24 +39,24 @@ function goOn(text, next) {
     return button;
 }
 
-/** Goes to a value by its number, or to the item around a byte. */
+/** Goes to a value or an item by its number, from 0, or to the item around a byte. */
 function jump(unit, text) {
     const number = Number(text.replace(/[#,\s]/g, "")), { told } = shown;
-    const most = unit === "byte" ? told.end : told.values;
+    const most = { value: told.values, item: told.items, byte: told.end }[unit];
     if (text.trim() === "" || !Number.isInteger(number) || number < 0 || number >= most) {
         const all = most === 0 ? "there is none" : `there are 0 to ${grouped.format(most - 1)}`;
         return void $("found").replaceChildren(make("p", "note", `No such ${unit}: ${all}.`));
     }
-    if (unit === "byte") return showFound("Going there", "around", [number], aroundText);
+    if (unit !== "value") return showFound("Going there", "item", [unit, number], itemText);
     return showFound("Going there", "some", [number, 1], ([some], { all }) => [openEntry(valueEntry(some, all))]);
 }
 
-function aroundText(item, told) {
+function itemText(item, told) {
     if (item === null) return [make("p", "note", "This byte is behind the items that were read.")];
     const what = item.defined === undefined ? "a value" : `the definition of type ${item.defined}`;
-    const where = `item ${grouped.format(item.item)}, which has the bytes ${item.begin} to ${item.end - 1}`;
     const name = item.defined === undefined ? "" : `, ${goName(item.defined, told.all)}`;
-    const said = make("p", "note", `Byte ${item.place} is in ${where}: ${what}${name}.`);
+    const where = `Item ${grouped.format(item.item)} has the bytes ${item.begin} to ${item.end - 1}`;
+    const said = make("p", "note", `${where}: ${what}${name}.`);
     const rows = byteRows({ ...item, seen: item.place + 1 });
     return item.defined === undefined ? [said, rows, openEntry(valueEntry(item, told.all))] : [said, rows];
 }

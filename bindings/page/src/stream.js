@@ -203,15 +203,19 @@ class Stream {
         return { found, next: null };
     }
 
-    /** The item around a byte; null where none was read there. */
-    async around(place) {
-        const mark = this.marks.findLast((some) => some.start <= place) ?? this.marks[0];
+    /** The item of a number, or the item around a byte; null where none was read there. */
+    async item(unit, wanted) {
+        const numbered = (mark) => unit === "byte" ? mark.start : mark.values + mark.definitions;
+        const mark = this.marks.findLast((some) => numbered(some) <= wanted) ?? this.marks[0];
         const starts = new Starts(mark.start);
         let before = mark.values + mark.definitions;
         for await (const [batch, values] of this.numbered(mark, (piece) => starts.pass(piece))) {
-            const item = starts.waiting.slice(0, batch.items).findLastIndex((start) => start <= place);
-            const begin = starts.waiting[item], end = starts.waiting[item + 1] ?? starts.next;
-            if (place < end) return this.itemAt({ place, item: before + item, begin, end }, batch, item, values);
+            const begins = starts.waiting.slice(0, batch.items);
+            const item = unit === "byte" ? begins.findLastIndex((begin) => begin <= wanted) : wanted - before;
+            const begin = begins[item], end = starts.waiting[item + 1] ?? starts.next;
+            const isHere = unit === "byte" ? wanted < end : item < batch.items;
+            const place = unit === "byte" ? wanted : begin;
+            if (isHere) return this.itemAt({ place, item: before + item, begin, end }, batch, item, values);
             before += batch.items;
             starts.waiting.splice(0, batch.items);
         }
@@ -305,8 +309,8 @@ class Server {
         return this.stream.find(text, first, progress);
     }
 
-    around(progress, place) {
-        return this.stream.around(place);
+    item(progress, unit, number) {
+        return this.stream.item(unit, number);
     }
 
     lines(progress, kind) {

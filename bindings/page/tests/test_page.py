@@ -214,13 +214,16 @@ class Tests:
                               ("ip", '1 value with "ip".#0 at .Tags{key 0}')):
                 told = self.found(page, "finder", text=text)
                 self.due(f"{text} is found", told.startswith(due), told)
-            item = "Byte {} is in item {}, which has the bytes {} to {}: "
+            item = "Item {} has the bytes {} to {}: "
             for unit, place, due in (("value", "#1", "#1 Login"), ("value", "2", "No such value: there are 0 to 1."),
                                      ("value", "x", "No such value"),
                                      ("byte", "185", "No such byte: there are 0 to 184"),
-                                     ("byte", "120", item.format(120, 3, 108, 120) + "the definition of type 67, "),
-                                     ("byte", "121", item.format(121, 4, 121, 158) + "a value."),
-                                     ("byte", "184", item.format(184, 5, 159, 184) + "a value.")):
+                                     ("byte", "120", item.format(3, 108, 120) + "the definition of type 67, []int."),
+                                     ("byte", "121", item.format(4, 121, 158) + "a value."),
+                                     ("byte", "184", item.format(5, 159, 184) + "a value."),
+                                     ("item", "0", item.format(0, 0, 56) + "the definition of type 65, Login."),
+                                     ("item", "5", item.format(5, 159, 184) + "a value."),
+                                     ("item", "6", "No such item: there are 0 to 5.")):
                 told = self.found(page, "jumper", unit=unit, place=place)
                 self.due(f"{unit} {place} is gone to", told.startswith(due), told)
             self.picture(page, "found", False)
@@ -234,7 +237,9 @@ class Tests:
             page.evaluate("$('found').querySelector('button').click()")
             page.wait("$('found').textContent.includes('#200 at')")
             told = self.found(page, "jumper", unit="byte", place=str(len(many) - 1))
-            self.due("the last byte is gone to", "is in item 100,000, which" in told and "#99,999" in told, told[:300])
+            self.due("the last byte is gone to", "Item 100,000 has" in told and "#99,999" in told, told[:300])
+            told = self.found(page, "jumper", unit="item", place="60,000")
+            self.due("an item amid is gone to", "Item 60,000 has" in told and "#59,999" in told, told[:300])
             page.drop(self.path("cut.gob", many[:-1]))
             told = self.found(page, "jumper", unit="byte", place=str(len(many) - 2))
             self.due("no item was read there", told == "This byte is behind the items that were read.", told)
