@@ -1,11 +1,11 @@
 -- What is read of clap's matches where something is to be shown.
-use Rattle.std.proofs.Common.{rules, ◌≡◌, ◌∙◌, ◌≤◌, ap, sym, refl, codes, ℕ, List, Option, Some}
+use Rattle.std.proofs.Common.{rules, ◌≡◌, ◌≢◌, ◌∙◌, [], ◌≤◌, ap, sym, refl, codes, ℕ, List, Option, Some}
 use Rattle.std.proofs.Common.{Result, Ok, Err, option_map, slice_index, subst, ◌==◌, if◌then◌else◌, MatchResult}
 use Rattle.std.proofs.Common.{IsErrAnd, true, inl, inr}
 use Rattle.clap.specs.Words.{Row, Text, first_of, subcommand_of, takes, fault_of, kind_of, HasKind, IsAmong}
 use Rattle.clap.specs.declared.error.Error.{Error}
 use Rattle.clap.specs.declared.error.kind.ErrorKind.{ErrorKind}
-use Rattle.clap.specs.declared.error.kind.ErrorKind.TheVariants.{DisplayVersion, OutOfMemory}
+use Rattle.clap.specs.declared.error.kind.ErrorKind.TheVariants.{DisplayHelp, DisplayVersion, OutOfMemory}
 use Rattle.gob_words.specs.declared.words.OrderFault.{OrderFault}
 use Rattle.gob_words.specs.declared.words.OrderFault.TheVariants as fault
 use Rattle.gob_words.specs.declared.view.View.{View}
@@ -16,10 +16,10 @@ use Rattle.gob_words.specs.declared.view.ViewFault.{ViewFault}
 use Rattle.gob_words.specs.declared.view.ViewFault.TheVariants as view_fault
 use Rattle.gob_words.specs.Words.{IsNumber, IsFaultOf, program}
 use Rattle.gob_words.specs.Views.{AsksToView, IsAskedFor, IsPlaceOf, IsViewFaultOf, IsViewOf, IsWordAtFault}
-use Rattle.gob_words.specs.Views.{RefusesToView}
+use Rattle.gob_words.specs.Views.{AsksForNothing, RefusesToView}
 use Rattle.gob_words.specs.Views.{IsVersionView, view_name}
 use Rattle.gob_words.specs.ViewDepths.{greatest_view_depth}
-use Rattle.gob_words.proofs.WordLaws.{together, name_met, rows_met}
+use Rattle.gob_words.proofs.WordLaws.{name_met, rows_met, some_fault, the_one, together}
 
 -- ---- names
 
@@ -91,29 +91,49 @@ pub asks_as_met : (words : List Text) (met : Option (Text × List Row)) (view : 
 unfolding AsksToView
 asks_as_met words met view e h = inl (subst (λ m. IsViewOf m view) e h)
 
+-- words that clap takes, and with which nothing was met, ask for nothing
+asks_as_unmet : (words : List Text) (met : Option (Text × List Row)) → met ≡ subcommand_of program words
+    → fault_of program words ≡ [] → ((view : View) → ¬ IsViewOf met view) → AsksForNothing words
+asks_as_unmet words met e none h = (
+  λ taken view asked. h view (subst (λ m. IsViewOf m view) (sym e) asked),
+  λ asks. some_fault _ _ (sym asks ∙ none),
+  λ asks. some_fault _ _ (sym asks ∙ none),
+)
+
 -- nothing is asked for, so a word is wrong
 pub refuses_as_met : (words : List Text) (met : Option (Text × List Row)) (fault : ViewFault)
-    → met ≡ subcommand_of program words → ((view : View) → ¬ IsViewOf met view) → IsWordAtFault fault
-    → RefusesToView words fault
+    → met ≡ subcommand_of program words → fault_of program words ≡ [] → ((view : View) → ¬ IsViewOf met view)
+    → IsWordAtFault fault → RefusesToView words fault
 unfolding RefusesToView
-refuses_as_met words met (view_fault.Word line) e h is = λ taken view asked. h view
-    (subst (λ m. IsViewOf m view) (sym e) asked)
-refuses_as_met words met (view_fault.Order (fault.Help text)) e h is = absurd is
-refuses_as_met words met (view_fault.Order fault.Words) e h is = λ taken view asked. h view
-    (subst (λ m. IsViewOf m view) (sym e) asked)
-refuses_as_met words met (view_fault.Order fault.Memory) e h is = tt
+refuses_as_met words met (view_fault.Word line) e none h is = asks_as_unmet words met e none h
+refuses_as_met words met (view_fault.Order (fault.Help text)) e none h is = absurd is
+refuses_as_met words met (view_fault.Order fault.Words) e none h is = asks_as_unmet words met e none h
+refuses_as_met words met (view_fault.Order fault.Memory) e none h is = tt
+
+-- words that clap refuses by such an error ask for nothing
+asks_as_refused : (words : List Text) (error : Error) → (kind_of error ≢ OutOfMemory) × (kind_of error ≢ DisplayHelp)
+    → kind_of error ≢ DisplayVersion → (takes program words ≡ true → kind_of error ≡ OutOfMemory)
+    → HasKind (fault_of program words) error → AsksForNothing words
+asks_as_refused words error is other passes (inl lost) = absurd (is.0 lost)
+asks_as_refused words error is other passes (inr among) = (
+  λ taken view asked. is.0 (passes taken),
+  λ asks. is.1 (the_one _ _ _ asks among),
+  λ asks. other (the_one _ _ _ asks among),
+)
 
 -- the fault of words that clap refuses
 pub refuses_as_shown : (words : List Text) (error : Error) (fault : ViewFault) → IsViewFaultOf (kind_of error) fault
-    → (takes program words ≡ true → kind_of error ≡ OutOfMemory) → HasKind (fault_of program words) error
-    → RefusesToView words fault
+    → kind_of error ≢ DisplayVersion → (takes program words ≡ true → kind_of error ≡ OutOfMemory)
+    → HasKind (fault_of program words) error → RefusesToView words fault
 unfolding RefusesToView
-refuses_as_shown words error (view_fault.Word line) is passes kinds = λ taken view asked. is (passes taken)
-refuses_as_shown words error (view_fault.Order (fault.Help text)) is passes (inl lost) = absurd (search rules)
-refuses_as_shown words error (view_fault.Order (fault.Help text)) is passes (inr among) =
+refuses_as_shown words error (view_fault.Word line) is other passes kinds =
+    asks_as_refused words error is other passes kinds
+refuses_as_shown words error (view_fault.Order (fault.Help text)) is other passes (inl lost) = absurd (search rules)
+refuses_as_shown words error (view_fault.Order (fault.Help text)) is other passes (inr among) =
     subst (λ kind. IsAmong kind (fault_of program words)) is among
-refuses_as_shown words error (view_fault.Order fault.Words) is passes kinds = λ taken view asked. is (passes taken)
-refuses_as_shown words error (view_fault.Order fault.Memory) is passes kinds = tt
+refuses_as_shown words error (view_fault.Order fault.Words) is other passes kinds =
+    asks_as_refused words error is other passes kinds
+refuses_as_shown words error (view_fault.Order fault.Memory) is other passes kinds = tt
 
 -- want of memory says nothing of the words
 pub no_view_without_memory : (words : List Text) (r : Result View ViewFault)
@@ -127,7 +147,7 @@ no_view_without_memory words (Err given) e = subst (RefusesToView words) (sym e)
 pub shown_as_order : (shown : Option Text) (kind : ErrorKind) (given : OrderFault) → IsFaultOf kind shown given
     → IsViewFaultOf kind (view_fault.Order given)
 shown_as_order shown kind (fault.Help text) is = is.0
-shown_as_order shown kind fault.Words is = is.0
+shown_as_order shown kind fault.Words is = is
 shown_as_order shown kind fault.Memory is = tt
 
 -- the version is asked for by its option

@@ -147,7 +147,7 @@ unfolding clap_on_literals
 simple_and_free app e = ap is_simple_and_free e
 
 -- a list with a kind isn't empty
-some_fault : (k : ErrorKind) (rest : List ErrorKind) → k ∷ rest ≡ [] → ⊥
+pub some_fault : (k : ErrorKind) (rest : List ErrorKind) → k ∷ rest ≡ [] → ⊥
 some_fault k rest e = search rules
 
 -- clap's matches, and the order that they make
@@ -168,7 +168,7 @@ only : (k one : ErrorKind) → IsAmong k (one ∷ []) → k ≡ one
 only k one (inl e) = e
 only k one (inr none) = absurd none
 
-the_one : (k one : ErrorKind) (kinds : List ErrorKind) → kinds ≡ one ∷ [] → IsAmong k kinds → k ≡ one
+pub the_one : (k one : ErrorKind) (kinds : List ErrorKind) → kinds ≡ one ∷ [] → IsAmong k kinds → k ≡ one
 the_one k one kinds e among = only k one (subst (λ ks. IsAmong k ks) e among)
 
 -- the fault of words that clap refuses

@@ -1,5 +1,5 @@
 -- What the words ask to be shown, to people and to other programs. (docs/FORMAT.md, The program: this project's own.)
-use Rattle.std.specs.Prelude.{◌≡◌, ◌≢◌, ◌⊎◌, ◌≤◌, ◌++◌, ⊤, ℕ, List, codes, Option, Some, None, Bool, true, false}
+use Rattle.std.specs.Prelude.{◌≡◌, ◌≢◌, ◌⊎◌, ◌≤◌, ◌∷◌, ◌++◌, ⊤, ℕ, List, [], codes, Option, Some, None, Bool, true, false}
 use Rattle.clap.specs.Words.{Row, Text, first_of, subcommand_of, takes, fault_of, IsAmong}
 use Rattle.clap.specs.declared.error.kind.ErrorKind.{ErrorKind}
 use Rattle.clap.specs.declared.error.kind.ErrorKind.TheVariants.{DisplayHelp, DisplayVersion, OutOfMemory}
@@ -10,7 +10,7 @@ use Rattle.gob_words.specs.declared.view.ViewFault.{ViewFault}
 use Rattle.gob_words.specs.declared.view.ViewFault.TheVariants as view_fault
 use Rattle.gob_words.specs.declared.words.OrderFault.TheVariants as fault
 use Rattle.gob_words.specs.ViewDepths.{greatest_view_depth}
-use Rattle.gob_words.specs.Words.{IsNumber, IsSet, order_line, order_status, program, text_of}
+use Rattle.gob_words.specs.Words.{AsksForHelp, IsNumber, IsSet, order_line, order_status, program, text_of}
 
 abbrev pub view_name : ViewCommand → Text
 view_name view.Values = codes "values"
@@ -92,22 +92,27 @@ unfoldable pub AsksToView : List Text → View → Type 0
 AsksToView words view = IsViewOf (subcommand_of program words) view
     ⊎ (IsVersionView view × IsAmong DisplayVersion (fault_of program words))
 
--- clap takes the words, and they name nothing that is shown
-abbrev pub HasNoView : List Text → Type 0
-HasNoView words = takes program words ≡ true → (view : View) → ¬ IsViewOf (subcommand_of program words) view
+-- clap has no other answer to the words than the version
+abbrev pub AsksForVersion : List Text → Type 0
+AsksForVersion words = fault_of program words ≡ DisplayVersion ∷ []
 
--- what the words do where they don't: they ask for help, or clap refuses them or nothing is what they ask for
+-- clap refuses the words or they name nothing that is shown, and neither help nor the version is all that they ask for
+abbrev pub AsksForNothing : List Text → Type 0
+AsksForNothing words = (takes program words ≡ true → (view : View) → ¬ IsViewOf (subcommand_of program words) view)
+    × (¬ AsksForHelp words) × (¬ AsksForVersion words)
+
+-- what the words do where they don't: they ask for help, or for nothing that there is
 unfoldable pub RefusesToView : List Text → ViewFault → Type 0
-RefusesToView words (view_fault.Word line) = HasNoView words
+RefusesToView words (view_fault.Word line) = AsksForNothing words
 RefusesToView words (view_fault.Order (fault.Help text)) = IsAmong DisplayHelp (fault_of program words)
-RefusesToView words (view_fault.Order fault.Words) = HasNoView words
+RefusesToView words (view_fault.Order fault.Words) = AsksForNothing words
 RefusesToView words (view_fault.Order fault.Memory) = ⊤
 
 -- the fault of words that clap answers with an error of this kind
 abbrev pub IsViewFaultOf : ErrorKind → ViewFault → Type 0
-IsViewFaultOf kind (view_fault.Word line) = kind ≢ OutOfMemory
+IsViewFaultOf kind (view_fault.Word line) = (kind ≢ OutOfMemory) × (kind ≢ DisplayHelp)
 IsViewFaultOf kind (view_fault.Order (fault.Help text)) = kind ≡ DisplayHelp
-IsViewFaultOf kind (view_fault.Order fault.Words) = kind ≢ OutOfMemory
+IsViewFaultOf kind (view_fault.Order fault.Words) = (kind ≢ OutOfMemory) × (kind ≢ DisplayHelp)
 IsViewFaultOf kind (view_fault.Order fault.Memory) = ⊤
 
 -- a word is wrong, or no memory was had to say so: help isn't asked for

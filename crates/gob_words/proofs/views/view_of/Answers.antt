@@ -1,6 +1,6 @@
 -- What clap says of the words, and what is read of its matches.
-use Rattle.std.proofs.Common.{rules, ◌≡◌, ◌∙◌, ap, true, subst, map}
-use Rattle.clap.specs.declared.error.kind.ErrorKind.TheVariants.{OutOfMemory}
+use Rattle.std.proofs.Common.{rules, ◌≡◌, ◌≢◌, ◌∙◌, ap, sym, true, subst, map}
+use Rattle.clap.specs.declared.error.kind.ErrorKind.TheVariants.{DisplayVersion, OutOfMemory}
 use Rattle.clap.specs.Words.{subcommand_of, takes, fault_of, kind_of, HasKind}
 use Rattle.gob_words.specs.Views.{IsViewFaultOf}
 use Rattle.gob_words.specs.Words.{program}
@@ -25,7 +25,8 @@ returns-in-Ok c =
     let words = map (λ word. word.now) c.args.words.now in
     let same = c.in_ok-program.ensures in
     let met = (c.in-Ok.ensures.matches (simple _ same)).1 ∙ ap (λ app. subcommand_of app words) same in
-    refuses_as_met words _ _ met (search rules) c.number_fault.ensures
+    let none = ap (λ app. fault_of app words) (sym same) ∙ c.in-Ok.ensures.kinds (simple_and_free _ same) in
+    refuses_as_met words _ _ met none (search rules) c.number_fault.ensures
 
 pub returns-in-DisplayVersion : goal.returns-in-DisplayVersion
 returns-in-DisplayVersion c =
@@ -44,4 +45,5 @@ returns c =
     let kinds = subst (λ app. HasKind (fault_of app words) c.in-Err.error) same
     (c.in-Err.ensures.kinds (simple_and_free _ same)) in
     let answered = subst (λ kind. IsViewFaultOf kind c.word_fault.result) c.kind.ensures c.word_fault.ensures in
-    refuses_as_shown words c.in-Err.error c.word_fault.result answered passes kinds
+    let other : kind_of c.in-Err.error ≢ DisplayVersion = search rules in
+    refuses_as_shown words c.in-Err.error c.word_fault.result answered other passes kinds
