@@ -1,6 +1,8 @@
 -- How the program ends. (docs/FORMAT.md, The program: this project's own.)
-use Rattle.std.specs.Prelude.{◌≡◌, ◌≢◌, ◌⊎◌, ◌++◌, ⊤, ℕ, List, [], codes, Option, Result, Ok, Err}
+use Rattle.std.specs.Prelude.{◌≡◌, ◌≢◌, ◌⊎◌, ◌++◌, ⊤, ℕ, List, [], codes, Option, Some, IsTrue, Result, Ok, Err}
 use Rattle.std.specs.Io.KnownBytes.{append_known}
+use Rattle.gob_stream.specs.Calls.Ends.{failed_reads, reader_of}
+use Rattle.gob_stream.specs.declared.input.Input.{Input}
 use Rattle.gob_tool.specs.declared.fault.ToolFault.{ToolFault}
 use Rattle.gob_tool.specs.declared.fault.ToolFault.TheVariants as run_fault
 use Rattle.gob_words.specs.declared.words.Order.{Order}
@@ -8,9 +10,12 @@ use Rattle.gob_words.specs.declared.words.OrderFault.{OrderFault}
 use Rattle.gob_words.specs.declared.words.OrderFault.TheVariants as order_fault
 use Rattle.gob_tool.specs.Fault.{fault_status, fault_line}
 use Rattle.gob_tool.specs.Running.{OrderAnswers, order_limits}
+use Rattle.gob_tool.specs.Showing.{CountsReadFaults, CountsWriteFaults}
+use Rattle.gob_tool.specs.Taking.{CountsTakeReads}
 use Rattle.gob_words.specs.Words.{order_line, order_status}
 use Rattle.gob_words.specs.declared.view.View.{View}
 use Rattle.gob_views.specs.Running.{ViewAnswers}
+use Rattle.gob.specs.declared.AfterRun.{AfterRun}
 use Rattle.gob.specs.declared.Stop.{Stop}
 use Rattle.gob.specs.declared.Stop.TheVariants.{Words, Run, Unread}
 use Rattle.gob.specs.declared.Stop.TheVariants as stop
@@ -58,7 +63,25 @@ pub record IsTold (answer : Result (Unit {0}) ToolFault) (lost : List ℕ)
   pub whole : lost ≡ [] → told ≡ answer
   pub cut : lost ≢ [] → told ≡ Err run_fault.Write
 
--- a run that answered so ends so, where the first bytes are what it wrote, the others what the writer took
+-- what contracts see of an input or an output: the bytes that are left in it, or that went out by it, where they are
+-- known, and how many of its calls failed
+pub record Seen : Type 0 where
+  pub bytes : Option (List ℕ)
+  pub failures : ℕ
+
+-- of an input, by what its reader says of the bytes that are left
+abbrev pub seen_of : {R : Type 0} → (R → Option (List ℕ)) → Input R → Seen
+seen_of remaining input = record { bytes = remaining (reader_of input); failures = failed_reads input }
+
+-- of an output behind which nothing was counted yet
+abbrev pub unused : Option (List ℕ) → Seen
+unused bytes = record { bytes = bytes; failures = 0 }
+
+-- of what a run left of an output, by what its writer says of the bytes that went out
+abbrev pub seen_after : {W : Type 0} → (W → Option (List ℕ)) → AfterRun W → Seen
+seen_after contents settled = record { bytes = contents settled.pipe.writer; failures = settled.failures }
+
+-- a run that answered so ends so, where it wrote these bytes, and the writer behind it has the new ones
 pub record IsSettled (answer : Result (Unit {0}) ToolFault) (wrote new : Option (List ℕ))
     (result : Result (Unit {0}) Stop) : Type 0 where
   -- what it wrote and the writer didn't take
@@ -68,8 +91,13 @@ pub record IsSettled (answer : Result (Unit {0}) ToolFault) (wrote new : Option 
   pub answered : HasAnswered told result
   pub all : wrote ≡ append_known new lost
 
--- a run of the order over a wanted stream and an input with these bytes, and an output with the old ones, ends so
-pub record EndsRun (order : Order) (wanted bytes : List ℕ) (old new : Option (List ℕ))
+-- the program ends without a line only where the other end of the output was found closed
+abbrev pub IsQuietIfClosed : {W : Type 0} → AfterRun W → Type 0
+IsQuietIfClosed settled = settled.ending ≡ Err Unread → IsTrue settled.pipe.is_closed
+
+-- how a run of the order ends, where the wanted stream, the input and the output were the first of each pair, and are
+-- the second
+pub record EndsRun (order : Order) (wanted wanted_now input now old new : Seen)
     (result : Result (Unit {0}) Stop) : Type 0 where
   pub answer : Result (Unit {0}) ToolFault
   -- what it wrote and the writer behind it didn't take
@@ -77,22 +105,23 @@ pub record EndsRun (order : Order) (wanted bytes : List ℕ) (old new : Option (
   pub told : Result (Unit {0}) ToolFault
   pub tells : IsTold answer lost told
   pub answered : HasAnswered told result
-  -- what is left of the wanted stream and of the input
-  pub wanted_now : Option (List ℕ)
-  pub now : Option (List ℕ)
-  pub does : OrderAnswers order.command (order_limits order) wanted bytes wanted_now now old (append_known new lost)
-      answer
+  -- a read or a write failed where it answers so
+  pub reads : CountsTakeReads wanted.failures wanted_now.failures input.failures now.failures answer
+  pub writes : CountsWriteFaults old.failures new.failures answer
+  pub does : (wanted_bytes bytes : List ℕ) → wanted.bytes ≡ Some wanted_bytes → input.bytes ≡ Some bytes
+      → OrderAnswers order.command (order_limits order) wanted_bytes bytes wanted_now.bytes now.bytes old.bytes
+      (append_known new.bytes lost) answer
 
--- a run of the view over an input with these bytes, and an output with the old ones, ends so
-pub record EndsView (view : View) (bytes : List ℕ) (old new : Option (List ℕ)) (result : Result (Unit {0}) Stop) : Type
-    0 where
+-- how a run of the view ends, where the input and the output were the first of each pair, and are the second
+pub record EndsView (view : View) (input now old new : Seen) (result : Result (Unit {0}) Stop) : Type 0 where
   pub answer : Result (Unit {0}) ToolFault
   -- what it wrote and the writer behind it didn't take
   pub lost : List ℕ
   pub told : Result (Unit {0}) ToolFault
   pub tells : IsTold answer lost told
   pub answered : HasAnswered told result
-  -- what is left of the input
-  pub now : Option (List ℕ)
-  pub does : ViewAnswers view bytes now old
-      (append_known new lost) answer
+  -- a read or a write failed where it answers so
+  pub reads : CountsReadFaults input.failures now.failures answer
+  pub writes : CountsWriteFaults old.failures new.failures answer
+  pub does : (bytes : List ℕ) → input.bytes ≡ Some bytes
+      → ViewAnswers view bytes now.bytes old.bytes (append_known new.bytes lost) answer

@@ -11,14 +11,15 @@
 //! and 2 for all else.
 #![tactic(auto)]
 
-ghost use Rattle.std.specs.Prelude.{◌≡◌, ◌≢◌, ℕ, List, [], Some, IfOk, IsErrAnd, IsTrue, MatchResult};
+ghost use Rattle.std.specs.Prelude.{◌≡◌, ◌≢◌, ℕ, List, [], Some, IfOk, IsErrAnd, IsTrue, MatchResult, string_bytes};
 ghost use Rattle.std.specs.Io.Buffered.{writer_contents};
 ghost use Rattle.std.specs.Io.KnownBytes.{append_known};
 ghost use Rattle.std.specs.Process.{exit_status};
-ghost use Rattle.gob_stream.specs.Calls.Ends.{writer_of};
+ghost use Rattle.gob_stream.specs.Calls.Ends.{failed_writes, writer_of};
 ghost use Rattle.gob_tool.specs.declared.fault.ToolFault.TheVariants as fault;
+ghost use Rattle.gob_words.specs.Escaped.{IsUnobeyed};
 ghost use Rattle.gob.specs.Stop.{stop_status, ending_status, HasAnswered, EndsRun, EndsView, IsAnswered, IsSettled};
-ghost use Rattle.gob.specs.Stop.{IsUnopened};
+ghost use Rattle.gob.specs.Stop.{IsQuietIfClosed, IsUnopened, seen_after, seen_of, unused};
 
 mod pipe;
 
@@ -45,6 +46,14 @@ enum Stop {
     View(String),
     // Nobody reads what is written any more.
     Unread,
+}
+
+// What came of a run: how it ends the program, the writer as it left it, and how many of its writes and flushes failed.
+#[derive(Drop)]
+struct AfterRun<W> {
+    ending: Result<(), Stop>,
+    pipe: Pipe<W>,
+    failures: u64,
 }
 
 impl Stop {
@@ -162,11 +171,15 @@ fn run_for(rt: &HostRuntime, order: &Order) -> Result<(), Stop> {
 // Opens the input, then runs.
 fn run_on<Q: Read + Drop>(rt: &HostRuntime, order: &Order, wanted: Q) -> Result<(), Stop> {
     let writer = buffered(rt.alloc(), rt.stdout())?;
+    let mut wanted = Input::new(wanted);
     match order.input {
-        None => carry_out(rt.alloc(), order, wanted, rt.stdin(), writer).0,
+        None => {
+            let mut input = Input::new(rt.stdin());
+            carry_out(rt.alloc(), order, &mut wanted, &mut input, writer).ending
+        }
         Some(path) => {
-            let file = opened(File::open(rt, path))?;
-            carry_out(rt.alloc(), order, wanted, file, writer).0
+            let mut input = Input::new(opened(File::open(rt, path))?);
+            carry_out(rt.alloc(), order, &mut wanted, &mut input, writer).ending
         }
     }
 }
@@ -175,10 +188,14 @@ fn run_on<Q: Read + Drop>(rt: &HostRuntime, order: &Order, wanted: Q) -> Result<
 fn run_view_on(rt: &HostRuntime, view: &View) -> Result<(), Stop> {
     let writer = buffered(rt.alloc(), rt.stdout())?;
     match view.input {
-        None => show_out(rt.alloc(), view, rt.stdin(), writer).0,
+        None => {
+            let mut input = Input::new(rt.stdin());
+            show_out(rt.alloc(), view, &mut input, writer).ending
+        }
         Some(path) => {
             let file = opened_by_name(rt.alloc(), path, File::open(rt, path))?;
-            show_out(rt.alloc(), view, file, writer).0
+            let mut input = Input::new(file);
+            show_out(rt.alloc(), view, &mut input, writer).ending
         }
     }
 }
@@ -224,60 +241,70 @@ fn opened_by_name(alloc: Global, path: &str, file: io::Result<File>) -> Result<F
 }
 
 // What is said of it.
-fn unopened_line(alloc: Global, path: &str, error: &io::Error) -> Result<String, AllocError> {
+fn unopened_line(alloc: Global, path: &str, error: &io::Error) -> Result<String, AllocError>
+    ensures { IfOk result (λ line. IsUnobeyed (string_bytes line)) }
+{
     let line = format!(in alloc; "{path}: {error}")?;
     escaped(alloc, line.as_str())
 }
 
 // The run reads in large pieces, so that nothing need be kept between it and the readers. The writer is given back, as
 // the run left it: no buffer is dropped that would write again behind a failed write.
-fn carry_out<Q: Read + Drop, R: Read + Drop, W: Write + Drop>(
+fn carry_out<Q: Read, R: Read, W: Write + Drop>(
     alloc: Global,
     order: &Order,
-    wanted: Q,
-    reader: R,
+    wanted: &mut Input<Q>,
+    input: &mut Input<R>,
     writer: BufWriter<Pipe<W>>,
-) -> (Result<(), Stop>, W)
-    ensures { (wanted_bytes bytes : List ℕ) → Q.remaining wanted ≡ Some wanted_bytes → R.remaining reader ≡ Some bytes
-        → EndsRun order.now wanted_bytes bytes (writer_contents (λ pipe. W.contents pipe.writer) writer)
-        (W.contents result.1) result.0 }
+) -> AfterRun<W>
+    ensures ends { EndsRun order.now (seen_of Q.remaining wanted.old) (seen_of Q.remaining wanted.new)
+        (seen_of R.remaining input.old) (seen_of R.remaining input.new)
+        (unused (writer_contents (λ pipe. W.contents pipe.writer) writer)) (seen_after W.contents result)
+        result.ending }
+    ensures quiet { IsQuietIfClosed result }
 {
-    let mut wanted = Input::new(wanted);
-    let mut input = Input::new(reader);
     let mut output = Output::new(writer);
-    let answer = run_order(alloc, order, &mut wanted, &mut input, &mut output);
+    let answer = run_order(alloc, order, wanted, input, &mut output);
     settled(answer, output)
 }
 
 // The run of a view, as that of an order.
-fn show_out<R: Read + Drop, W: Write + Drop>(
+fn show_out<R: Read, W: Write + Drop>(
     alloc: Global,
     view: &View,
-    reader: R,
+    input: &mut Input<R>,
     writer: BufWriter<Pipe<W>>,
-) -> (Result<(), Stop>, W)
-    ensures { (bytes : List ℕ) → R.remaining reader ≡ Some bytes
-        → EndsView view.now bytes (writer_contents (λ pipe. W.contents pipe.writer) writer)
-        (W.contents result.1) result.0 }
+) -> AfterRun<W>
+    ensures ends { EndsView view.now (seen_of R.remaining input.old) (seen_of R.remaining input.new)
+        (unused (writer_contents (λ pipe. W.contents pipe.writer) writer)) (seen_after W.contents result)
+        result.ending }
+    ensures quiet { IsQuietIfClosed result }
 {
-    let mut viewed = Input::new(reader);
     let mut output = Output::new(writer);
-    let answer = run_view(alloc, view, &mut viewed, &mut output);
+    let answer = run_view(alloc, view, input, &mut output);
     settled(answer, output)
 }
 
-// What comes of a run that answered this, and the writer behind what it wrote to.
+// What comes of a run that answered this, with the writer behind what it wrote to.
 fn settled<W: Write + Drop>(
     answer: Result<(), ToolFault>,
     output: Output<BufWriter<Pipe<W>>>,
-) -> (Result<(), Stop>, W)
-    ensures { IsSettled answer
-        (writer_contents (λ pipe. W.contents pipe.writer) (writer_of output)) (W.contents result.1) result.0 }
+) -> AfterRun<W>
+    ensures settled { IsSettled answer
+        (writer_contents (λ pipe. W.contents pipe.writer) (writer_of output)) (W.contents result.pipe.writer)
+        result.ending }
+    ensures counted { result.failures ≡ failed_writes output }
+    ensures quiet { IsQuietIfClosed result }
 {
+    let failures = output.failures();
     let (pipe, unwritten) = output.into_inner().into_parts();
     let answer = but_for_lost(answer, &unwritten);
     let ending = ended(answer, pipe.is_closed());
-    (ending, pipe.into_inner())
+    AfterRun {
+        ending,
+        pipe,
+        failures,
+    }
 }
 
 // What a run has answered: a failed write where bytes of it were lost, whatever stopped it.

@@ -1,8 +1,9 @@
 //! A writer that notes whether anybody reads what it writes.
 
-ghost use Rattle.std.specs.Prelude.{◌≡◌, false, OnOk};
+ghost use Rattle.std.specs.Prelude.{◌≡◌, false};
 ghost use Rattle.std.specs.Io.KnownBytes.{WriteAppends, Keeps};
 ghost use Rattle.std.specs.Io.{WritesAtMost};
+ghost use Rattle.gob.specs.Closing.{NotesClosed, NotesError};
 
 use std::io;
 use std::io::{ErrorKind, Write};
@@ -33,16 +34,10 @@ impl<W> Pipe<W> {
         self.is_closed
     }
 
-    /// The writer, as the writes so far left it.
-    pub(crate) fn into_inner(self) -> W
-        ensures { result ≡ self.writer }
-    {
-        self.writer
-    }
-
     // Notes it where this error says so.
     fn note(&mut self, error: &io::Error)
-        ensures { self.new.writer ≡ self.old.writer }
+        ensures writer { self.new.writer ≡ self.old.writer }
+        ensures noted { NotesError self.old.is_closed self.new.is_closed error.now }
     {
         if error.kind() == ErrorKind::BrokenPipe {
             self.is_closed = true;
@@ -56,7 +51,7 @@ impl<W: Write> Write for Pipe<W> {
     fn write(&mut self, buf: &[u8]) -> io::Result<usize>
         ensures bound { WritesAtMost result buf.now }
         ensures bytes { WriteAppends (W.contents self.old.writer) (W.contents self.new.writer) result buf.now }
-        ensures open { OnOk result (self.new.is_closed ≡ self.old.is_closed) }
+        ensures noted { NotesClosed self.old.is_closed self.new.is_closed result }
     {
         let result = self.writer.write(buf);
         if let Err(error) = &result {
@@ -67,7 +62,7 @@ impl<W: Write> Write for Pipe<W> {
 
     fn flush(&mut self) -> io::Result<()>
         ensures bytes { Keeps (W.contents self.old.writer) (W.contents self.new.writer) }
-        ensures open { OnOk result (self.new.is_closed ≡ self.old.is_closed) }
+        ensures noted { NotesClosed self.old.is_closed self.new.is_closed result }
     {
         let result = self.writer.flush();
         if let Err(error) = &result {

@@ -3,7 +3,7 @@
 ghost use Rattle.std.specs.Prelude.{◌≡◌, ℕ, List, Some};
 ghost use Rattle.gob_stream.specs.Calls.Ends.{failed_reads, failed_writes, reader_of, writer_of};
 ghost use Rattle.gob_tool.specs.Ending.{CountsOnlyWrites};
-ghost use Rattle.gob_tool.specs.Showing.{CountsReadFaults, CountsWriteFaults};
+ghost use Rattle.gob_tool.specs.Showing.{CountsReadFaults, CountsWriteFaults, IsFlushedSince};
 ghost use Rattle.gob_views.specs.Running.{ViewAnswers, version_line, view_explained, view_limits, view_style};
 ghost use Rattle.gob_views.specs.Sending.{SendsText};
 
@@ -31,6 +31,8 @@ pub fn run_view<R: Read, W: Write>(
         (W.contents (writer_of output.new)) result }
     ensures reads { CountsReadFaults (failed_reads input.old) (failed_reads input.new) result }
     ensures writes { CountsWriteFaults (failed_writes output.old) (failed_writes output.new) result }
+    ensures flushed { IsFlushedSince (failed_writes output.old) output.new }
+    ensures unread { view.now.command ≡ ViewCommand.Version → input.new ≡ input.old }
 {
     match view.command {
         ViewCommand::Values => {

@@ -4,12 +4,12 @@ use Rattle.std.specs.Io.KnownBytes.{append_known}
 use Rattle.gob_stream.specs.Calls.Ends.{writer_of}
 use Rattle.gob.proofs.settled.Goals as goal
 
-pub returns : goal.returns
-returns g c =
+pub returns-clause-settled : goal.returns-clause-settled
+returns-clause-settled g c =
     let left = writer_of c.args.output in
     let lost = c.into_parts-pipe.result.1.items in
-    let inner : c.into_inner-2.result ≡ left.inner.writer = c.into_inner-2.ensures
-    ∙ ap (λ p. p.writer) (c.into_parts-pipe.ensures.inner ∙ ap (λ b. b.inner) c.into_inner.ensures) in
+    let inner : c.into_parts-pipe.result.0.writer ≡ left.inner.writer =
+    ap (λ p. p.writer) (c.into_parts-pipe.ensures.inner ∙ ap (λ b. b.inner) c.into_inner.ensures) in
     let buffer : lost ≡ left.buf.items = c.into_parts-pipe.ensures.buffer
     ∙ ap (λ b. b.buf.items) c.into_inner.ensures in
     record {

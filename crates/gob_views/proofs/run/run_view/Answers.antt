@@ -98,3 +98,7 @@ returns-in-Explain-clause-shows g c = λ bytes known.
     c.run_explain.ensures.explained in
     subst (λ x. CommandAnswers x view bytes next old new c.run_explain.result) (sym c.in-Explain.is)
     (explained bytes known)
+
+pub returns-in-Version-clause-flushed : goal.returns-in-Version-clause-flushed
+returns-in-Version-clause-flushed g c =
+    c.end_run.ensures.flushed (failed_writes c.args.output.now) c.write_version.ensures.writes
