@@ -1,10 +1,8 @@
 //! The run that writes a text of each item of a stream of Go's encoder.
 
 ghost use Rattle.std.specs.Prelude.{◌≡◌, ◌≢◌, ℕ, ◌<◌, List, [], length, Option, Some, IfErr, min};
-ghost use Rattle.std.specs.Io.KnownBytes.{Keeps};
 ghost use Rattle.gob_stream.specs.Bounds.{greatest_depth, within_trees};
 ghost use Rattle.gob_stream.specs.Calls.Ends.{failed_reads, failed_writes, reader_of, writer_of};
-ghost use Rattle.gob_stream.specs.Calls.Writing.{CountsWriterFaults};
 ghost use Rattle.gob_filled.specs.Stream.{FilledItem};
 ghost use Rattle.gob_go.specs.Calls.Session.{limits_of};
 ghost use Rattle.gob_go.specs.Calls.Reader.{HasReadFrom, session_of, waits_in};
@@ -16,7 +14,7 @@ ghost use Rattle.gob_go_tool.specs.Machine.Texts.{AppendsTexts, HasReadSome, Mak
 use gob_go::{GoItem, GoReader};
 use gob_num::Memory;
 use gob_stream::{Fault, Input, Limits, Output, Step, WriteFault};
-use gob_tool::{ToolFault, end_run};
+use gob_tool::{ToolFault, end_run, flush_before_waiting};
 use gob_types::Table;
 use std::alloc::Global;
 use std::io::{Read, Write};
@@ -109,22 +107,6 @@ fn write_items<R: Read, W: Write, M: ItemTexts>(
         flush_before_waiting(&reader, output)?;
     }
     Ok(())
-}
-
-/// Flushes where the reader may have to wait for its input, so that the text of an item is out as soon as the item is
-/// whole.
-fn flush_before_waiting<W: Write>(
-    reader: &GoReader,
-    output: &mut Output<W>,
-) -> Result<(), WriteFault>
-    ensures bytes { Keeps (W.contents (writer_of output.old)) (W.contents (writer_of output.new)) }
-    ensures fault { IfErr result (λ fault. fault ≡ WriteFault.Write) }
-    ensures counted { CountsWriterFaults (failed_writes output.old) (failed_writes output.new) result }
-{
-    if !reader.may_wait() {
-        return Ok(());
-    }
-    output.flush_written()
 }
 
 /// Takes some of the bytes that wait, and writes the texts of the items that are whole with them, which are made in
