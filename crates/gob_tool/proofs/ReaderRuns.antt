@@ -173,13 +173,14 @@ module _ {X O : Type 0} {most : ℕ} (building : Building X O most) where
       }
 
   -- by a step
-  pub record StepsBehind (r r' : StreamReader X O) (items : List StreamItem) (taken : List ℕ) (step : Step (declared.Item O)) : Type
-      0 where
+  pub record StepsBehind (r r' : StreamReader X O) (items : List StreamItem) (taken : List ℕ)
+      (step : Step (declared.Item O)) : Type 0 where
     pub more : List StreamItem
     pub gives : GivesItems building.means step.item more
     pub behind : TakesBehind r r' items more taken step.used
 
-  pub steps_behind : {r r' : StreamReader X O} {items : List StreamItem} {taken : List ℕ} {step : Step (declared.Item O)}
+  pub steps_behind : {r r' : StreamReader X O} {items : List StreamItem} {taken : List ℕ}
+      {step : Step (declared.Item O)}
       (a : HasRead building (session_of r) items taken)
       → StepsOnFrom building r r' (Some (taken ++ waits_in r)) (Some []) items step
       → StepsBehind r r' items taken step

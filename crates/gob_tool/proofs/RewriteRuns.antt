@@ -386,7 +386,8 @@ pub record GivesTape (r r' : Tapes) (items : List StreamItem) (taken : List ℕ)
     pub meant : ItemMeans IsTape given item
     pub behind : TakesBehind tape_building r r' items (item ∷ []) taken used
 
-pub tape_given : {r r' : Tapes} {w : StreamWriter} {step : Step (declared.Item Tape)} (h : HasRewritten (session_of r) w)
+pub tape_given : {r r' : Tapes} {w : StreamWriter} {step : Step (declared.Item Tape)}
+    (h : HasRewritten (session_of r) w)
     (given : declared.Item Tape) → step.item ≡ Some given
     → StepsOnFrom tape_building r r' (Some (h.taken ++ waits_in r)) (Some []) h.items step
     → GivesTape r r' h.items h.taken step.used given
@@ -400,7 +401,8 @@ tape_given {r = r} {r' = r'} {step = step} h given is t =
           b.behind;
     }
 
-pub none_taken : {r r' : Tapes} {w : StreamWriter} {step : Step (declared.Item Tape)} (h : HasRewritten (session_of r) w)
+pub none_taken : {r r' : Tapes} {w : StreamWriter} {step : Step (declared.Item Tape)}
+    (h : HasRewritten (session_of r) w)
     → ((given : declared.Item Tape) → step.item ≡ Some given → ⊥)
     → StepsOnFrom tape_building r r' (Some (h.taken ++ waits_in r)) (Some []) h.items step
     → TakesBehind tape_building r r' h.items [] h.taken step.used

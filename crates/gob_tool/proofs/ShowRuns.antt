@@ -191,7 +191,8 @@ given_lines T (gives_one {given = given} {i = i} m) =
     let seen : item_view given ≡ i = cc in
     ap (λ (i : StreamItem). line T i) seen ∙ sym (append-nil (line T i))
 
-pub step_line_made : {r r' : Trees} {read now : Option (List ℕ)} {given : List StreamItem} {step : Step (declared.Item Value)}
+pub step_line_made : {r r' : Trees} {read now : Option (List ℕ)} {given : List StreamItem}
+    {step : Step (declared.Item Value)}
     {made : List ℕ}
     → 0 < step.used → StepsOnFrom tree_building r r' read now given step → made ≡ line_given (types_of (session_of r'))
     step.item
@@ -340,7 +341,13 @@ shown_none L bytes now P C known h = record {
   holds = record {
     items = [];
     table = base_table;
-    given = record { prefix = []; rest = []; whole = refl; few = omega arith; gives = none_longest L; table = refl };
+    given = record {
+      prefix = [];
+      rest = [];
+      whole = refl;
+      few = omega arith;
+      gives = record { gives = none_longest L; table = refl };
+    };
     holds = h;
   };
 }

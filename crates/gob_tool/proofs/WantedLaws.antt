@@ -57,7 +57,8 @@ pub finds_first : (r : Trees) (read : Option (List ℕ)) → HasReadFrom tree_bu
     → FindsSo r read read None
 finds_first r read has = record { given = []; has = has; is = refl }
 
-pub finds_step : {r q r' : Trees} {read now next : Option (List ℕ)} {first found : Option TypeId} {step : Step (declared.Item Value)}
+pub finds_step : {r q r' : Trees} {read now next : Option (List ℕ)} {first found : Option TypeId}
+    {step : Step (declared.Item Value)}
     (p : FindsSo r read now first) → StepsOnFrom tree_building q r' read next p.given step
     → found ≡ first_type_of first (first_type (views_given step.item)) → FindsSo r' read next found
 finds_step {first = first} {step = step} p t e = record {
