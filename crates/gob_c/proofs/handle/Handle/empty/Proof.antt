@@ -12,7 +12,29 @@ use types.Logic.{Logic}
 use contract.Monad.{Fun}
 use contract.Running.{tables, tables_of}
 use sound.WpLaws.{WpFn-mono}
-use types.Kit.{Item, ‵, raw, ◌⊛◌, ◌$◌, ◌∵◌, !, qed, by, move, keep, drop, use1, join, split, fsplit, fjoin, fpack, feq_i, suffices, done}
+use types.Kit.{
+  Item,
+  ‵,
+  raw,
+  ◌⊛◌,
+  ◌$◌,
+  ◌∵◌,
+  !,
+  qed,
+  by,
+  move,
+  keep,
+  drop,
+  use1,
+  join,
+  split,
+  fsplit,
+  fjoin,
+  fpack,
+  feq_i,
+  suffices,
+  done,
+}
 use types.Part.{agg}
 use types.Run.{lit, no_more, and_then, of_opd, returns, enter}
 use types.ByLocal.{alloc_all, pass_all, free_all, look_at, get, sets}
@@ -60,7 +82,13 @@ module _ {M : Type 1} {𝓤 : Ura M} (𝓛 : Logic 𝓤) (at_mem : Memory → SP
       let Γ : List (Item 𝓤) = ‵ (To.own_val made (w ∷ [])) ∷ [] in
       nothing ! $ nothing ! $ move ! (2 ∷ 0 ∷ []) $ fjoin ! $ feq_i ! (List Val) (at ∷ []) (at ∷ []) refl $ fjoin ! $
       feq_i ! (List Val) (w ∷ []) (w ∷ []) refl $ fjoin ! $
-      fpack ! (Valss (RawPtr ∷ E.al.row ∷ [])) (within (shape Handle.the_type) (null_ptr, (((a.memory.seal, tt), tt), tt))
+      fpack ! (Valss (RawPtr ∷ E.al.row ∷ [])) (within (shape Handle.the_type) (
+        null_ptr,
+        (
+          ((a.memory.seal, tt), tt),
+          tt,
+        ),
+      )
       (w ∷ []))
       (at ∷ [], (hv ∷ [], tt)) $ fjoin ! $ use1 𝓛 (‵ (To.own_val made (w ∷ []))) (id⊢ 𝓤 _) $
       by ! (subst (λ (us : List Val). ent 𝓤 (types.Kit.⋆ 𝓛 Γ) (WpFn 𝓤 H 𝓣.C 𝓣.Λ code.function (us ++ []) Post)) (sym ws)
