@@ -306,6 +306,8 @@ class Tests:
         codes = {"ArrowLeft": 37, "ArrowUp": 38, "ArrowRight": 39, "ArrowDown": 40}
         for key, due in steps:
             page.press(key, codes[key])
+            # (what a key opens is filled behind it)
+            time.sleep(0.3)
             told = page.evaluate(f"{ACTIVE}.textContent")
             self.due(f"{key} leads to {due}", told.startswith(due), told)
         page.press("/", 191, "/")
