@@ -9,7 +9,8 @@ use Rattle.gob_types.specs.Table.{Table}
 use Rattle.gob_stream.specs.declared.fault.Refusal.{Refusal}
 use Rattle.gob_stream.specs.Bounds.{Bounds, within_trees}
 use Rattle.gob_stream.specs.Refusing.{refuses}
-use Rattle.gob_filled.specs.Outcome.{BeginsFilled, LongestFilled, FilledOutcome, at_the_end, within_an_item, the_end, refused}
+use Rattle.gob_filled.specs.Outcome.{BeginsFilled, LongestFilled, FilledOutcome, at_the_end, within_an_item, the_end}
+use Rattle.gob_filled.specs.Outcome.{refused}
 use Rattle.gob_filled.specs.Stream.{FilledItem, FilledStream}
 use Rattle.gob_filled.proofs.Refused.{begins}
 use Rattle.gob_go.specs.Machine.HasRead.{StageHasRead, in_count, in_type_number, in_definition, in_put, HasRead}

@@ -1,15 +1,18 @@
 -- What the session of streams of Go's encoder answers, in the words of any session.
-use Rattle.std.proofs.Common.{◌≡◌, ◌≢◌, ℕ, List, [], ◌∷◌, ◌++◌, length, Option, Ok, Err, Result, ◌∙◌, ap, sym, subst, refl}
-use Rattle.std.proofs.Common.{◌+◌, append-nil, append_assoc, arith, take, length-append, None, Some, IfSome}
+use Rattle.std.proofs.Common.{◌≡◌, ◌≢◌, ℕ, ◌<◌, ◌≤◌, List, [], ◌∷◌, ◌++◌, length, Option, Ok, Err, Result, ◌∙◌}
+use Rattle.std.proofs.Common.{ap, sym, subst, refl, ◌+◌, append-nil}
+use Rattle.std.proofs.Common.{append_assoc, arith, take, length-append, None, Some, IfSome}
 use Rattle.std.proofs.Common.{Bool, true, false, IsTrue, MatchBool}
 use Rattle.std.proofs.lemmas.List.{length-take-le}
+use Rattle.gob_num.proofs.PublicLaws.{unsigned_length}
 use Rattle.gob_types.specs.Base.{base_table}
 use Rattle.gob_types.specs.Defined.{types}
 use Rattle.gob_types.specs.Table.{Table}
 use Rattle.gob_types.specs.declared.reason.Reason.TheVariants as reason
 use Rattle.gob_stream.specs.Bounds.{Bounds, within_trees}
 use Rattle.gob_stream.specs.Stepping.{AdvancesBy, FinishAnswersBy, GivesAllBy, GivesItemsOf, GivesNoMoreBy}
-use Rattle.gob_stream.specs.Stepping.{ReadsItemsBy, StepAnswersBy}
+use Rattle.gob_stream.specs.Grammar.{GivesIn}
+use Rattle.gob_stream.specs.Stepping.{ReadsItemsBy, StandsBy, StepAnswersBy}
 use Rattle.gob_stream.specs.Stepping.{gives_none, gives_one}
 use Rattle.gob_stream.specs.declared.fault.Fault.{Fault}
 use Rattle.gob_stream.specs.declared.fault.Fault.TheVariants as fault
@@ -18,7 +21,10 @@ use Rattle.gob_stream.specs.declared.session.Step.{Step}
 use Rattle.gob_stream.specs.declared.whole.Awaited.{Awaited}
 use Rattle.gob_filled.specs.Outcome.{BeginsFilled, EndsFilled, FilledOutcome, RefusesFilled, at_the_end, next_refused}
 use Rattle.gob_filled.specs.Outcome.{within_an_item, the_end, refused}
-use Rattle.gob_filled.specs.Stream.{FilledItem, FilledStream}
+use Rattle.gob_filled.specs.Outcome.{profile}
+use Rattle.gob_filled.specs.Stream.{AreFilledItems, AreCounted, FilledItem, FilledStream, IsFilledItem}
+use Rattle.gob_filled.specs.Stream.{last_counted, next_counted, of_definition, of_value}
+use Rattle.gob_stream.proofs.PublicLaws.{gives_nothing, items_few}
 use Rattle.gob_filled.proofs.Outcomes.{no_item}
 use Rattle.gob_filled.proofs.Shown.{filled_shown, filled_there}
 use Rattle.gob_go.specs.Calls.Session.{FinishAnswers, HasBegunNext, HasFailed, HasRead, IsBetweenItems}
@@ -32,9 +38,9 @@ use Rattle.gob_go.specs.declared.item.GoItem.{GoItem}
 use Rattle.gob_go.proofs.AdvanceSteps.{not_read}
 use Rattle.gob_go.proofs.FeedSteps.{between_table}
 use Rattle.gob_go.proofs.FinishSteps.{count_begins_here, given_longest}
-use Rattle.gob_go.proofs.ItemsLaws.{items_grown, longest, one_reading, wire_of}
+use Rattle.gob_go.proofs.ItemsLaws.{items_end, items_grown, longest, one_reading, wire_of}
 use Rattle.gob_go.proofs.LeadingLaws.{refused_lead}
-use Rattle.gob_go.proofs.UnderWayLaws.{under_way_lead}
+use Rattle.gob_go.proofs.UnderWayLaws.{stage_bound, under_way_lead}
 use Rattle.gob_go.proofs.WholeSteps.{begun_no_next, types_between}
 
 -- ---- the types behind the items
@@ -60,6 +66,46 @@ gives_all s = λ items bytes h. record {
     longest = (given_longest h).longest;
   };
   table = refl;
+}
+
+-- an item has a byte at least
+segments_some : {L : Bounds} {most offset : ℕ} {ls f : List ℕ} → AreCounted L most offset ls f → 0 < length f
+segments_some (last_counted {c = c} s o u l k) = let n = (unsigned_length u).0 in omega (arith, length-append c s)
+segments_some (next_counted {c = c} {f = f} s o u l k n m) = let z = (unsigned_length u).0 in
+    omega (arith, length-append c (s ++ f))
+
+pub item_some : {L : Bounds} {T U : Table} {offset : ℕ} {i : FilledItem} {b : List ℕ}
+    → IsFilledItem base_table L T offset i b U → 0 < length b
+item_some (of_definition {c = c} {d = d} u l s p) = let n = (unsigned_length u).0 in omega (arith, length-append c d)
+item_some (of_value may sg k cs) = segments_some cs
+
+pub nothing_filled : (L : Bounds) → GivesIn profile L base_table [] []
+nothing_filled L = gives_nothing profile L (λ T U offset i b q. item_some q)
+
+pub few_items : {L : Bounds} {T U : Table} {offset : ℕ} {items : List FilledItem} {bytes : List ℕ}
+    → AreFilledItems base_table L T offset items bytes U → length items ≤ length bytes
+few_items a = items_few (λ T U offset i b q. item_some q) a
+
+-- no more bytes than the limit for the stream, and a count
+pub read_within : {s : SessionState} {items : List FilledItem} {bytes : List ℕ} → HasRead s items bytes
+    → length bytes ≤ (limits_of s).stream + 9
+read_within a =
+    let end = items_end a.stream (omega arith) in
+    let bound = stage_bound (omega arith) a.stage in
+    omega (arith, ap length a.whole, length-append a.prefix a.under_way)
+
+-- wherever it stands
+pub stands : (s : SessionState) → StandsBy go_stepping s
+stands s = record {
+  few = λ items bytes a.
+      let few = few_items a.stream in
+      let bound = read_within a in
+      let taken = a.taken in (
+        omega (arith, few, taken, ap length a.whole, length-append a.prefix a.under_way),
+        omega (arith, bound, taken),
+      );
+  gives = gives_all s;
+  settled = λ items bytes a between. table_between a between;
 }
 
 -- and the first bytes of an item that isn't whole give none

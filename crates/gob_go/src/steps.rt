@@ -7,8 +7,8 @@ use gob_stream::{Awaited, Fault, Limits, Passed, ReaderOf, Step, Steps, Whole};
 use gob_types::Table;
 use std::alloc::Global;
 
-/// A reader of one stream of Go's encoder, from its first byte on. Where an item is refused, its definitions in front of
-/// that place are among the types of [`ReaderOf::table`].
+/// A reader of one stream of Go's encoder, from its first byte on. Where an item is refused, its definitions in front
+/// of that place are among the types of [`ReaderOf::table`].
 pub type GoReader = ReaderOf<GoSession>;
 
 impl Steps for GoSession {

@@ -2,6 +2,7 @@
 pub use Rattle.gob_stream.proofs.Stream.DescriptionDepth.{FieldsAll, IsFlat, PartsAll, ShapeAll, field_all}
 pub use Rattle.gob_stream.proofs.Stream.OutcomeLaws.{one_prefix, outcome_once, outcome_refused, outcome_within}
 pub use Rattle.gob_stream.proofs.ReadBackLaws.{read_back}
+pub use Rattle.gob_stream.proofs.Stream.FewLaws.{gives_nothing, items_few}
 pub use Rattle.gob_stream.proofs.Stream.RefusalLaws.{not_counted, one_counted}
 pub use Rattle.gob_stream.proofs.Stream.RefusingLaws.{take_prefix}
 pub use Rattle.gob_stream.proofs.Stream.SomeOutcome.{outcome_somehow, somehow}

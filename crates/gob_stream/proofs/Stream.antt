@@ -1,5 +1,6 @@
 -- What follows from the definition of a stream and of its refusals.
 pub mod StreamLaws
+pub mod FewLaws
 pub mod RefusalLaws
 pub mod WireLaws
 pub mod DefinableLaws

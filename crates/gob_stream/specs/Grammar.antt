@@ -1,5 +1,5 @@
--- What any bytes give, in any grammar of items: `is` says which bytes are an item, and `refuses` what is none. They give
--- the items of the longest stream that they begin with, and then its end, or the refusal of what stands behind it.
+-- What any bytes give, in any grammar of items: `is` says which bytes are an item, and `refuses` what is none. They
+-- give the items of the longest stream that they begin with, and then its end, or the refusal of what stands behind it.
 use Rattle.std.specs.Prelude.{◌≡◌, ◌≢◌, ℕ, ◌≤◌, List, [], ◌++◌, length}
 use Rattle.gob_types.specs.declared.reason.Reason.TheVariants as reason
 use Rattle.gob_types.specs.Base.{base_table}

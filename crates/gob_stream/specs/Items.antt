@@ -1,5 +1,5 @@
--- Items one behind another, in any grammar: `is` says which bytes are an item at an offset, by the types in front of it,
--- and which types stand behind it.
+-- Items one behind another, in any grammar: `is` says which bytes are an item at an offset, by the types in front of
+-- it, and which types stand behind it.
 use Rattle.std.specs.Prelude.{◌≡◌, ℕ, ◌+◌, List, [], ◌∷◌, ◌++◌, length}
 use Rattle.gob_types.specs.Table.{Table}
 

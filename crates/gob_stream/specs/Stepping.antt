@@ -46,6 +46,16 @@ abbrev pub GivesAllBy : {X Item Told : Type 0} → Stepping X Item Told → X �
 GivesAllBy {Told = Told} d s = (items : List Told) (bytes : List ℕ) (h : d.read s items bytes)
     → GivesIn d.grammar (d.within (d.limits s)) (d.behind s items bytes h) items bytes
 
+-- wherever it stands: it has given no more items than it has read bytes, of which there are no more than the limit for
+-- the stream, and a count; the items are all that the bytes give; and between two items the types behind them are its
+-- own
+pub record StandsBy {X Item Told : Type 0} (d : Stepping X Item Told) (s : X) : Type 0 where
+  pub few : (items : List Told) (bytes : List ℕ) → d.read s items bytes
+      → (length items ≤ d.taken s) × (d.taken s ≤ (d.limits s).stream + 9)
+  pub gives : GivesAllBy d s
+  pub settled : (items : List Told) (bytes : List ℕ) (h : d.read s items bytes) → d.between s
+      → d.behind s items bytes h ≡ types (d.table s)
+
 -- and with the piece behind them
 abbrev pub GivesNoMoreBy : {X Item Told : Type 0} → Stepping X Item Told → X → (piece : List ℕ) → Type 0
 GivesNoMoreBy {Told = Told} d s piece = (items : List Told) (bytes : List ℕ) (h : d.read s items bytes)

@@ -10,7 +10,9 @@ ghost use Rattle.gob_stream.specs.Calls.ReaderOf.{PassesBy, PassesOneBy, ReadsOn
 ghost use Rattle.gob_stream.specs.Calls.ReaderOf.{session_of, types_behind, waits_in};
 ghost use Rattle.gob_stream.specs.Honest.{OfRefusal};
 ghost use Rattle.gob_stream.specs.Reading.{CountsReads};
-ghost use Rattle.gob_stream.specs.Stepping.{GivesAllBy, HasBodyNextBy, HasItemNextBy};
+ghost use Rattle.gob_stream.specs.Stepping.{GivesAllBy, HasBodyNextBy, HasItemNextBy, StandsBy};
+ghost use Rattle.gob_stream.specs.Grammar.{GivesIn};
+ghost use Rattle.gob_types.specs.Base.{base_table};
 
 use crate::fault::Fault;
 use crate::input::Input;
@@ -56,6 +58,8 @@ impl<S: Steps> ReaderOf<S> {
         ensures taken { IfOk result (λ reader. S.stepping.taken (session_of reader) ≡ 0) }
         ensures limits { IfOk result (λ reader. S.stepping.limits (session_of reader) ≡ limits) }
         ensures allowed { AreLimits deepest limits }
+        ensures stands { IfOk result (λ reader. StandsBy S.stepping (session_of reader)) }
+        ensures nothing { GivesIn S.stepping.grammar (S.stepping.within limits) base_table [] [] }
     {
         let session = S::begin(alloc, limits)?;
         let waiting = Waiting::new(alloc)?;
@@ -233,6 +237,8 @@ impl<S: Steps> ReaderOf<S> {
         requires item { HasItemNextBy S.stepping (session_of self.old) (take used (waits_in self.old)) }
         requires within { used ≤ length (waits_in self.old) }
         ensures passed { PassesOneBy S.stepping self.old self.new used }
+        ensures between { S.stepping.between (session_of self.new) }
+        ensures stands { StandsBy S.stepping (session_of self.new) }
         ensures table { S.stepping.table (session_of self.new) ≡ S.stepping.table (session_of self.old) }
         ensures limits { S.stepping.limits (session_of self.new) ≡ S.stepping.limits (session_of self.old) }
     {
@@ -246,6 +252,7 @@ impl<S: Steps> ReaderOf<S> {
     pub fn pass_values(&mut self) -> Passed
         ensures passed { PassesBy S.stepping self.old self.new result }
         ensures left { waits_in self.new ≡ drop result.used (waits_in self.old) }
+        ensures stands { StandsBy S.stepping (session_of self.new) }
         ensures between { 0 < result.items
             → S.stepping.between (session_of self.old) × S.stepping.between (session_of self.new) }
         ensures stays { HasFailedBy S.stepping self.old
@@ -273,6 +280,7 @@ impl<S: Steps> ReaderOf<S> {
         ensures stays { HasFailedBy S.stepping self.old → (result ≡ Err Fault.Failed) × (self.new ≡ self.old) }
         // what it has taken, and what stays
         ensures used { IfOk result (λ step. 0 < step.used) }
+        ensures stands { StandsBy S.stepping (session_of self.new) }
         ensures between { IfOk result (λ step. IfSome step.item (λ _. S.stepping.between (session_of self.new))) }
         ensures unread { IfErr result (λ fault. fault ≢ Fault.Read) }
         ensures limits { S.stepping.limits (session_of self.new) ≡ S.stepping.limits (session_of self.old) }

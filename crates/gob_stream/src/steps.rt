@@ -17,7 +17,9 @@ pub trait Steps: Drop {
     ghost use Rattle.gob_stream.specs.Bounds.{AreLimits, deepest};
     ghost use Rattle.gob_stream.specs.Stepping.{FinishAnswersBy, GivesAllBy, GivesNoMoreBy, HasBegunNextBy};
     ghost use Rattle.gob_stream.specs.Stepping.{HasBodyNextBy, HasItemNextBy, ReadsItemsBy, ReadsOnBy, StepAnswersBy};
-    ghost use Rattle.gob_stream.specs.Stepping.{Stepping};
+    ghost use Rattle.gob_stream.specs.Stepping.{StandsBy, Stepping};
+    ghost use Rattle.gob_stream.specs.Grammar.{GivesIn};
+    ghost use Rattle.gob_types.specs.Base.{base_table};
 
     /// An item, as it is handed out.
     type Item: Drop;
@@ -33,7 +35,9 @@ pub trait Steps: Drop {
         ensures new { IfOk result (λ session. stepping.read session [] []) }
         ensures taken { IfOk result (λ session. stepping.taken session ≡ 0) }
         ensures limits { IfOk result (λ session. stepping.limits session ≡ limits) }
-        ensures allowed { AreLimits deepest limits };
+        ensures allowed { AreLimits deepest limits }
+        ensures stands { IfOk result (λ session. StandsBy stepping session) }
+        ensures nothing { GivesIn stepping.grammar (stepping.within limits) base_table [] [] };
 
     /// Takes some bytes from the front of the piece, one at least where it has any, and none behind the end of an item.
     /// After a fault each call answers [`Fault::Failed`].
@@ -43,6 +47,7 @@ pub trait Steps: Drop {
             result }
         ensures used { IfOk result (λ step. (0 < length piece.now → 0 < step.used) × (step.used ≤ length piece.now)) }
         ensures between { IfOk result (λ step. IfSome step.item (λ _. stepping.between self.new)) }
+        ensures stands { StandsBy stepping self.new }
         ensures failed { OnErr result (stepping.failed self.new) }
         ensures stays { stepping.failed self.old → (result ≡ Err Fault.Failed) × (self.new ≡ self.old) }
         ensures unread { IfErr result (λ fault. fault ≢ Fault.Read) }
@@ -77,6 +82,8 @@ pub trait Steps: Drop {
         requires between { stepping.between self.old }
         requires item { HasItemNextBy stepping self.old item.now }
         ensures passed { ReadsOnBy stepping self.old self.new item.now }
+        ensures between { stepping.between self.new }
+        ensures stands { StandsBy stepping self.new }
         ensures taken { stepping.taken self.new ≡ stepping.taken self.old + length item.now }
         ensures types { stepping.table self.new ≡ stepping.table self.old }
         ensures limits { stepping.limits self.new ≡ stepping.limits self.old };
@@ -86,6 +93,7 @@ pub trait Steps: Drop {
     fn pass_values(&mut self, piece: &[u8]) -> Passed
         ensures passed { ReadsItemsBy stepping self.old self.new result.items result.used piece.now }
         ensures between { 0 < result.items → stepping.between self.old × stepping.between self.new }
+        ensures stands { StandsBy stepping self.new }
         ensures stays { stepping.failed self.old
             → (result.items ≡ 0) × (result.used ≡ 0) × (self.new ≡ self.old) }
         ensures taken { stepping.taken self.new ≡ stepping.taken self.old + result.used }

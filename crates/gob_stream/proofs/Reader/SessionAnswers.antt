@@ -1,21 +1,23 @@
 -- What the session of the format answers, in the words of any session.
 use Rattle.std.proofs.Common.{◌≡◌, ℕ, List, [], ◌∷◌, ◌++◌, length, Option, Ok, Err, Result, ◌∙◌, ap, sym, subst, refl}
-use Rattle.std.proofs.Common.{append-nil, append_assoc, arith, take, length-append, None, Some, IfSome}
+use Rattle.std.proofs.Common.{append-nil, append_assoc, arith, take, length-append, None, Some, IfOk, IfSome}
 use Rattle.std.proofs.Common.{Bool, true, false, IsTrue, MatchBool}
 use Rattle.std.proofs.lemmas.List.{take-append-le, length-take-le}
 use Rattle.gob_types.specs.Base.{base_table}
 use Rattle.gob_read.specs.Building.{Building}
 use Rattle.gob_stream.specs.Bounds.{Bounds, no_deeper}
-use Rattle.gob_stream.specs.Calls.Session.{FinishAnswers, HasBegunNext, HasFailed, HasItemNext, HasRead, IsBetweenItems, ReadsItems}
+use Rattle.gob_stream.specs.Calls.Session.{FinishAnswers, HasBegunNext, HasFailed, HasItemNext, HasRead}
+use Rattle.gob_stream.specs.Calls.Session.{IsBetweenItems, ReadsItems}
 use Rattle.gob_stream.specs.Calls.Session.{ReadsOn, StepAnswers}
 use Rattle.gob_stream.specs.Calls.Session.{limits_of, types_of}
 use Rattle.gob_stream.specs.Item.{StreamItem, ItemMeans}
 use Rattle.gob_stream.specs.Machine.ReadParts.{AdvancesOver, over_some, over_item}
 use Rattle.gob_stream.specs.Machine.SessionState.{SessionState}
-use Rattle.gob_stream.specs.Outcome.{BeginsWithStream, EndsSo, the_end, at_the_end}
+use Rattle.gob_stream.specs.Grammar.{GivesIn}
+use Rattle.gob_stream.specs.Outcome.{BeginsWithStream, EndsSo, the_end, at_the_end, strict}
 use Rattle.gob_stream.specs.Reading.{ShowsRefusal}
 use Rattle.gob_stream.specs.Stepping.{AdvancesBy, FinishAnswersBy, GivesAllBy, GivesNoMoreBy, HasItemNextBy}
-use Rattle.gob_stream.specs.Stepping.{ReadsItemsBy, ReadsOnBy}
+use Rattle.gob_stream.specs.Stepping.{ReadsItemsBy, ReadsOnBy, StandsBy}
 use Rattle.gob_stream.specs.Stepping.{StepAnswersBy, GivesItemsOf, gives_none, gives_one}
 use Rattle.gob_stream.specs.Stream.{Stream}
 use Rattle.gob_stream.specs.StrictStepping.{strict_stepping}
@@ -26,9 +28,11 @@ use Rattle.gob_stream.specs.declared.item.Item as declared
 use Rattle.gob_stream.specs.declared.session.Step.{Step}
 use Rattle.gob_stream.specs.declared.whole.Awaited.{Awaited}
 use Rattle.gob_stream.proofs.Reader.FailedSteps.{not_read}
-use Rattle.gob_stream.proofs.Reader.HasReadLaws.{one_table}
+use Rattle.gob_stream.proofs.Reader.HasReadLaws.{one_table, stands_within}
 use Rattle.gob_stream.proofs.Reader.UnderWayLaws.{after_gives}
 use Rattle.gob_stream.proofs.Reader.WholeSteps.{begun_gives}
+use Rattle.gob_stream.proofs.Stream.FewLaws.{gives_nothing, items_few}
+use Rattle.gob_stream.proofs.Stream.StreamLaws.{counted_some}
 use Rattle.gob_stream.proofs.Stream.StayLaws.{shown_refusal_stays, shown_there}
 
 -- the bytes that a refusal is shown by are followed by others
@@ -37,6 +41,15 @@ shown_more : {L : Bounds} {bytes : List ℕ} {items : List StreamItem} {R : Refu
 shown_more {L = L} {bytes = bytes} {items = items} {R = R} more shown =
     (shown_refusal_stays L bytes (bytes ++ more) items R shown
     (take-append-le R.seen bytes more (shown_there shown))).1
+
+-- what holds of all holds of the one that there is
+pub of_ok : {A E : Type 0} {P : A → Type 0} (r : Result A E) → ((a : A) → P a) → IfOk r P
+of_ok (Ok a) h = h a
+of_ok (Err e) h = tt
+
+-- no byte gives no item
+pub nothing_strict : (L : Bounds) → GivesIn strict L base_table [] []
+nothing_strict L = gives_nothing strict L (λ T U offset i b q. counted_some q)
 
 module _ {X O : Type 0} {most : ℕ} (building : Building X O most) where
   -- behind the items of bytes with which others begin there is the table of what gave them
@@ -58,6 +71,20 @@ module _ {X O : Type 0} {most : ℕ} (building : Building X O most) where
   gives_all s = λ items bytes a.
       let g = after_gives a in
       record { gives = g; table = table_is s items bytes bytes [] (sym (append-nil bytes)) a g.begins }
+
+  -- wherever it stands
+  pub stands : (s : SessionState X O) → StandsBy (strict_stepping building) s
+  stands s = record {
+    few = λ items bytes a.
+        let few = items_few (λ T U offset i b q. counted_some q) a.stream in
+        let bound = stands_within a in
+        let taken = a.taken in (
+          omega (arith, few, taken, ap length a.whole, length-append a.prefix a.under_way),
+          omega (arith, bound, taken),
+        );
+    gives = gives_all s;
+    settled = λ items bytes a between. refl;
+  }
 
   -- a session that has failed has read nothing
   pub failed_unread : (s : SessionState X O) (failed : Bool) → MatchBool failed (HasFailed s) (¬ HasFailed s)

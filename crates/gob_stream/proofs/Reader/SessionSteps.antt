@@ -554,8 +554,8 @@ if_some P {o = Some y} p e = p
 if_some P {o = None} p e = cc
 
 pub step_gives : {X O : Type 0} {most : ℕ} {building : Building X O most} {s s' : SessionState X O}
-    {items : List StreamItem} {bytes : List ℕ} (piece : List ℕ) (step : Step (declared.Item O)) {given : declared.Item O}
-    → Stepped building s s' piece (Ok step) → step.used ≡ length piece
+    {items : List StreamItem} {bytes : List ℕ} (piece : List ℕ) (step : Step (declared.Item O))
+    {given : declared.Item O} → Stepped building s s' piece (Ok step) → step.used ≡ length piece
     → IfSome step.item (λ _. IsBetween s') → step.item ≡ Some given → HasRead building s items bytes
     → ReadingGivesNext building s' given items (bytes ++ piece)
 step_gives {s' = s'} {items = items} {bytes = bytes} piece step p u b e a = over_the_item step.used step.item e u
@@ -571,8 +571,8 @@ reads_item building s s' items bytes rest now None n f = absurd (n refl)
 reads_item building s s' items bytes rest now (Some x) n f = f x refl
 
 pub gives_taken : {X O : Type 0} {most : ℕ} {building : Building X O most} {s s' : SessionState X O}
-    {items : List StreamItem} {bytes rest : List ℕ} {now : Option (List ℕ)} (piece : List ℕ) (step : Step (declared.Item O))
-    {given : declared.Item O}
+    {items : List StreamItem} {bytes rest : List ℕ} {now : Option (List ℕ)} (piece : List ℕ)
+    (step : Step (declared.Item O)) {given : declared.Item O}
     → Stepped building s s' piece (Ok step) → step.used ≡ length piece
     → IfSome step.item (λ _. IsBetween s') → step.item ≡ Some given
     → SomeTaken rest now (StoodBefore building s items bytes piece)

@@ -1,11 +1,13 @@
--- What a reader of the format has read of its input, and what its calls answer: the words of any reader, for the format.
+-- What a reader of the format has read of its input, and what its calls answer: the words of any reader, for the
+-- format.
 use Rattle.std.specs.Prelude.{◌≡◌, ℕ, List, Option, Result, Bool}
 use Rattle.gob_types.specs.Table.{Table}
 use Rattle.gob_read.specs.Building.{Building}
 use Rattle.gob_value.specs.Tree.{Tree}
 use Rattle.gob_stream.specs.Bounds.{Bounds}
 use Rattle.gob_types.specs.Base.{base_table}
-use Rattle.gob_stream.specs.Calls.ReaderOf.{EndsWithIn, FillsBy, GivesAllButIn, HasReadBy, PassesBy, PassesOneBy, StepsOnBy}
+use Rattle.gob_stream.specs.Calls.ReaderOf.{EndsWithIn, FillsBy, GivesAllButIn, HasReadBy, PassesBy, PassesOneBy}
+use Rattle.gob_stream.specs.Calls.ReaderOf.{StepsOnBy}
 use Rattle.gob_stream.specs.Calls.ReaderOf.{StopsBy, StopsIn, TakesBy}
 use Rattle.gob_stream.specs.Calls.Session.{types_of}
 use Rattle.gob_stream.specs.Item.{StreamItem, ItemMeans}
