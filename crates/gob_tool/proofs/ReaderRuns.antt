@@ -15,11 +15,10 @@ use Rattle.gob_stream.specs.Machine.SessionState.{SessionState}
 use Rattle.gob_stream.specs.Stream.{AreItems, IsItem, Stream, and_then, no_more}
 use Rattle.gob_stream.specs.declared.item.Item as declared
 use Rattle.gob_stream.specs.declared.session.Step.{Step}
-use Rattle.gob_stream.proofs.PublicLaws.{one_prefix}
+use Rattle.gob_stream.proofs.PublicLaws.{counted_some, items_few, one_prefix}
 use Rattle.gob_stream.specs.Calls.Reader.{GivesAllBut, GivesItems, gives_none, gives_one, HasReadFrom, StepsOnFrom}
 use Rattle.gob_stream.specs.Calls.Reader.{TakesItems, most_ahead, room_in, session_of}
 use Rattle.gob_stream.specs.Calls.Reader.{waits_in}
-use Rattle.gob_tool.proofs.CheckLaws.{items_few}
 use Rattle.gob_stream.specs.Calls.Reader.{StreamReader}
 
 -- bytes of one length that both come first are the same, where they are known
@@ -125,7 +124,7 @@ nothing_given L = record {
     gives = record {
       begins = record { prefix = []; rest = []; table = base_table; stream = no_more; whole = refl };
       longest = λ others b.
-          let few = items_few b.stream in
+          let few = items_few (λ T U offset i b q. counted_some q) b.stream in
           omega (arith, few, ap length b.whole, length-append b.prefix b.rest);
     };
     table = refl;

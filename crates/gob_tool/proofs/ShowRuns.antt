@@ -31,7 +31,7 @@ use Rattle.gob_tool.specs.Machine.Sending.{CountsFaults, ShowsLarge, ShowsNone}
 use Rattle.gob_stream.specs.declared.fault.Fault.{Fault}
 use Rattle.gob_stream.specs.declared.fault.Fault.TheVariants as reading
 use Rattle.gob_stream.specs.declared.item.Item as declared
-use Rattle.gob_stream.proofs.PublicLaws.{one_table, stands_within, views_meant, whole_item}
+use Rattle.gob_stream.proofs.PublicLaws.{counted_some, items_few, one_table, stands_within, views_meant, whole_item}
 use Rattle.gob_stream.proofs.PublicLaws.{ahead_so, begins_so}
 use Rattle.gob_stream.specs.Calls.Reader.{Begins, EndsWith, GivesItems, gives_none, gives_one, HasReadFrom, PassesOne}
 use Rattle.gob_stream.specs.Calls.Reader.{StepsOnFrom}
@@ -45,7 +45,6 @@ use Rattle.gob_tool.specs.Machine.Lines.{IsWholeLine, line_given, MakesLines, Sh
 use Rattle.gob_tool.specs.Machine.Lines.{Trees}
 use Rattle.gob_tool.specs.Showing.{AppendsPrefix, BeginsOutcome, CountsReadFaults, EndsWhole, OfLines, RunAnswers}
 use Rattle.gob_tool.specs.Showing.{ShowAnswers}
-use Rattle.gob_tool.proofs.CheckLaws.{items_few}
 use Rattle.gob_tool.proofs.EndLaws.{all_kept, prefix_kept}
 use Rattle.gob_tool.proofs.LinesStay.{first_items, lines_stay}
 
@@ -326,7 +325,7 @@ none_longest : (L : Bounds) → LongestStream base_table L [] []
 none_longest L = record {
   begins = record { prefix = []; rest = []; table = base_table; stream = no_more; whole = refl };
   longest = λ others b.
-      let few = items_few b.stream in
+      let few = items_few (λ T U offset i b q. counted_some q) b.stream in
       omega (arith, few, ap length b.whole, length-append b.prefix b.rest);
 }
 

@@ -4,12 +4,14 @@ use Rattle.std.specs.Prelude.{◌≡◌, ℕ, ◌+◌, List, [], ◌∷◌, ◌+
 use Rattle.std.specs.Fmt.{decimal}
 use Rattle.std.specs.Io.KnownBytes.{Appends}
 use Rattle.gob_types.specs.Base.{base_table}
+use Rattle.gob_types.specs.Defined.{definition_count}
 use Rattle.gob_types.specs.Table.{Table}
 use Rattle.gob_stream.specs.declared.fault.Fault.{Fault}
 use Rattle.gob_stream.specs.declared.fault.Fault.TheVariants as reading
 use Rattle.gob_stream.specs.Bounds.{Bounds}
 use Rattle.gob_stream.specs.Item.{StreamItem, defines, puts}
-use Rattle.gob_stream.specs.Outcome.{LongestStream, Outcome, refused}
+use Rattle.gob_stream.specs.Grammar.{Grammar, LongestIn, OutcomeIn, StreamIn}
+use Rattle.gob_stream.specs.Outcome.{Outcome, refused, strict}
 use Rattle.gob_stream.specs.Reading.{SomeTaken}
 use Rattle.gob_stream.specs.Stream.{Stream}
 use Rattle.gob_tool.specs.declared.in_memory.Tally.{Tally}
@@ -33,35 +35,48 @@ counts_line items types bytes =
 abbrev pub tally_line : Tally → List ℕ
 tally_line tally = counts_line tally.items tally.types tally.bytes
 
--- the bytes are the stream of some items, all of them were read, and this holds of the line that says so
-pub record IsCountedStream (L : Bounds) (bytes : List ℕ) (now : Option (List ℕ)) (P : List ℕ → Type 0) : Type 0 where
-  pub items : List StreamItem
+-- how many types stand behind items, beside those of the base table
+abbrev pub definitions_behind : {Told : Type 0} → List Told → Table → ℕ
+definitions_behind items T = definition_count T
+
+-- the bytes are the stream of some items, all of them were read, and this holds of the line that says so, where
+-- `defined` is how many types the items define, with the table behind them
+pub record IsCountedIn {Told : Type 0} (G : Grammar Told) (defined : List Told → Table → ℕ) (L : Bounds)
+    (bytes : List ℕ) (now : Option (List ℕ)) (P : List ℕ → Type 0) : Type 0 where
+  pub items : List Told
   pub table : Table
-  pub stream : Stream base_table L items bytes table
+  pub stream : StreamIn G L items bytes table
   pub end : now ≡ Some []
-  pub holds : P (counts_line (length items) (definitions_in items) (length bytes))
+  pub holds : P (counts_line (length items) (defined items table) (length bytes))
 
 -- why the bytes aren't known to be a stream, where these are left
-abbrev pub IsNoStream : Bounds → (bytes : List ℕ) → (now : Option (List ℕ)) → ToolFault → Type 0
-IsNoStream L bytes now (fault.Refused R) = (items : List StreamItem) × Outcome base_table L bytes items (refused R)
-IsNoStream L bytes now fault.Read = SomeTaken bytes now
-    (λ taken. (items : List StreamItem) × LongestStream base_table L taken items)
-IsNoStream L bytes now fault.Memory = Unit {0}
-IsNoStream L bytes now fault.Write = ⊥
-IsNoStream L bytes now (fault.Wanted R) = ⊥
-IsNoStream L bytes now fault.NoWantedType = ⊥
-IsNoStream L bytes now (fault.Clash path reason) = ⊥
+abbrev pub IsNoStreamIn : {Told : Type 0} → Grammar Told → Bounds → (bytes : List ℕ) → (now : Option (List ℕ))
+    → ToolFault → Type 0
+IsNoStreamIn {Told = Told} G L bytes now (fault.Refused R) = (items : List Told) × OutcomeIn G L bytes items (refused R)
+IsNoStreamIn {Told = Told} G L bytes now fault.Read =
+    SomeTaken bytes now (λ taken. (items : List Told) × LongestIn G L taken items)
+IsNoStreamIn G L bytes now fault.Memory = Unit {0}
+IsNoStreamIn G L bytes now fault.Write = ⊥
+IsNoStreamIn G L bytes now (fault.Wanted R) = ⊥
+IsNoStreamIn G L bytes now fault.NoWantedType = ⊥
+IsNoStreamIn G L bytes now (fault.Clash path reason) = ⊥
 
 -- how the run ends, over an input with these bytes left and an output with the old bytes: the line of the whole stream
 -- went out, or a prefix of it where the output failed; or nothing was written
-pub data CheckAnswers (L : Bounds) (bytes : List ℕ) (now old new : Option (List ℕ)) : Result (Unit {0}) ToolFault
-    → Type 0
+pub data ChecksIn {Told : Type 0} (G : Grammar Told) (defined : List Told → Table → ℕ) (L : Bounds) (bytes : List ℕ)
+    (now old new : Option (List ℕ)) : Result (Unit {0}) ToolFault → Type 0
   where
-    is_accepted : {u : Unit {0}} → IsCountedStream L bytes now (Appends old new)
-        → CheckAnswers L bytes now old new (Ok u)
-    is_cut : IsCountedStream L bytes now (AppendsPrefix old new) → CheckAnswers L bytes now old new (Err fault.Write)
-    is_stopped : {f : ToolFault} → IsNoStream L bytes now f → Appends old new []
-        → CheckAnswers L bytes now old new (Err f)
+    is_accepted : {u : Unit {0}} → IsCountedIn G defined L bytes now (Appends old new)
+        → ChecksIn G defined L bytes now old new (Ok u)
+    is_cut : IsCountedIn G defined L bytes now (AppendsPrefix old new)
+        → ChecksIn G defined L bytes now old new (Err fault.Write)
+    is_stopped : {f : ToolFault} → IsNoStreamIn G L bytes now f → Appends old new []
+        → ChecksIn G defined L bytes now old new (Err f)
+
+-- so of a stream of the format
+abbrev pub CheckAnswers : Bounds → (bytes : List ℕ) → (now old new : Option (List ℕ)) → Result (Unit {0}) ToolFault
+    → Type 0
+CheckAnswers L bytes now old new result = ChecksIn strict (λ items T. definitions_in items) L bytes now old new result
 
 -- the bytes are the stream of some items, and the tally is theirs
 pub record IsTallied (L : Bounds) (bytes : List ℕ) (tally : Tally) : Type 0 where

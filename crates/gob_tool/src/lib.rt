@@ -25,7 +25,7 @@ mod tidied;
 mod untidy;
 mod wanted;
 
-pub use check::run_check;
+pub use check::{run_check, run_check_in};
 pub use end::{end_run, flush_before_waiting};
 pub use fault::{ToolFault, status};
 pub use gob_words::{Chosen, Order, OrderFault, order_of};

@@ -1,44 +1,44 @@
 -- Where a run stands that counts what it reads. For private clauses.
 use Rattle.std.specs.Prelude.{◌≡◌, ℕ, List, length, Option, None, Some, Result, Ok, Err}
-use Rattle.gob_read.specs.Calls.Builders.{skip_building}
-use Rattle.gob_read.specs.declared.skip_builder.SkipBuilder.{SkipBuilder}
+use Rattle.gob_types.specs.Table.{Table}
 use Rattle.gob_stream.specs.Bounds.{Bounds}
-use Rattle.gob_stream.specs.Calls.Session.{taken_of}
+use Rattle.gob_stream.specs.Calls.ReaderOf.{HasReadBy, StopsBy, TakesBy, session_of}
 use Rattle.gob_stream.specs.Devices.{counts_up}
-use Rattle.gob_stream.specs.Item.{StreamItem}
+use Rattle.gob_stream.specs.Grammar.{Grammar}
+use Rattle.gob_stream.specs.Stepping.{Stepping}
 use Rattle.gob_stream.specs.declared.fault.Fault.{Fault}
+use Rattle.gob_stream.specs.declared.reader_of.ReaderOf.{ReaderOf}
 use Rattle.gob_stream.specs.declared.values.Passed.{Passed}
-use Rattle.gob_stream.specs.Calls.Reader.{HasReadFrom, StopsFrom, TakesItems, session_of}
-use Rattle.gob_stream.specs.Calls.Reader.{StreamReader}
+use Rattle.gob_tool.specs.Checking.{IsCountedIn, IsNoStreamIn, tally_line, definitions_behind}
 use Rattle.gob_tool.specs.declared.fault.ToolFault.{ToolFault}
 use Rattle.gob_tool.specs.declared.fault.ToolFault.TheVariants as fault
-use Rattle.gob_tool.specs.Checking.{IsCountedStream, IsNoStream}
+use Rattle.gob_tool.specs.declared.in_memory.Tally.{Tally}
 
 -- what was taken was counted
-pub record CountsSo (r : StreamReader SkipBuilder (Unit {0})) (read now : Option (List ℕ)) (items bytes : ℕ) : Type
-    0 where
-  pub given : List StreamItem
-  pub has : HasReadFrom skip_building r read now given
+pub record CountsSo {X I Told : Type 0} (d : Stepping X I Told) (r : ReaderOf X I) (read now : Option (List ℕ))
+    (items bytes : ℕ) : Type 0 where
+  pub given : List Told
+  pub has : HasReadBy d r read now given
   pub items_are : items ≡ length given
-  pub bytes_are : bytes ≡ taken_of (session_of r)
+  pub bytes_are : bytes ≡ d.taken (session_of r)
 
 -- so many items and bytes were taken of what waits
-pub record CountsOn (r r' : StreamReader SkipBuilder (Unit {0})) (read now : Option (List ℕ)) (given : List StreamItem)
-    (passed : Passed) : Type 0 where
-  pub more : List StreamItem
+pub record CountsOn {X I Told : Type 0} (d : Stepping X I Told) (r r' : ReaderOf X I) (read now : Option (List ℕ))
+    (given : List Told) (passed : Passed) : Type 0 where
+  pub more : List Told
   pub counted : passed.items ≡ length more
-  pub takes : TakesItems skip_building r r' read now given more passed.used
+  pub takes : TakesBy d r r' read now given more passed.used
 
-abbrev pub CountsNext : (r r' : StreamReader SkipBuilder (Unit {0})) → (read now : Option (List ℕ)) → List StreamItem
-    → Result Passed Fault → Type 0
-CountsNext r r' read now given (Ok passed) = CountsOn r r' read now given passed
-CountsNext r r' read now given (Err e) = StopsFrom skip_building (session_of r) read now given e
+abbrev pub CountsNext : {X I Told : Type 0} → Stepping X I Told → (r r' : ReaderOf X I) → (read now : Option (List ℕ))
+    → List Told → Result Passed Fault → Type 0
+CountsNext d r r' read now given (Ok passed) = CountsOn d r r' read now given passed
+CountsNext d r r' read now given (Err e) = (T : Table) × StopsBy d (session_of r) T read now given e
 
--- how counting what the input has left ends, where this is the line of what is given
-abbrev pub EndsCounting : {A : Type 0} → (A → List ℕ) → Bounds → (bytes : List ℕ) → (now : Option (List ℕ))
-    → Result A ToolFault → Type 0
-EndsCounting line_of L bytes now (Ok given) = IsCountedStream L bytes now (λ line. line_of given ≡ line)
-EndsCounting line_of L bytes now (Err f) = IsNoStream L bytes now f
+-- how counting what the input has left ends
+abbrev pub EndsCountingIn : {Told : Type 0} → Grammar Told → Bounds → (bytes : List ℕ) → (now : Option (List ℕ))
+    → Result Tally ToolFault → Type 0
+EndsCountingIn G L bytes now (Ok tally) = IsCountedIn G definitions_behind L bytes now (λ line. tally_line tally ≡ line)
+EndsCountingIn G L bytes now (Err f) = IsNoStreamIn G L bytes now f
 
 -- a read failed exactly where the fault says so, and no write did
 abbrev pub CountsCounting : {A : Type 0} → (failures failures' : ℕ) → Result A ToolFault → Type 0

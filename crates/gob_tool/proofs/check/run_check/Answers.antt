@@ -1,17 +1,8 @@
-use Rattle.gob_stream.specs.Bounds.{deepest, no_deeper}
-use Rattle.gob_stream.specs.Calls.Ends.{failed_writes, reader_of, writer_of}
-use Rattle.gob_tool.proofs.CheckLaws.{checks_ended}
+-- A stream of the format defines as many types as it has items that define one.
+use Rattle.gob_stream.specs.Outcome.{strict}
+use Rattle.gob_tool.proofs.CheckLaws.{checks_by, defined_so}
 use Rattle.gob_tool.proofs.check.run_check.Goals as goal
 
 pub returns-clause-checked : goal.returns-clause-checked
 returns-clause-checked g c = λ bytes known.
-    checks_ended (no_deeper deepest c.args.limits) bytes (g.R.Read.remaining (reader_of c.check_stream.new.input))
-    (g.W.Write.contents (writer_of c.args.output.now)) (g.W.Write.contents (writer_of c.check_stream.new.output))
-    (g.W.Write.contents (writer_of c.end_run.new.output)) c.check_stream.result c.end_run.result c.end_run.ensures.bytes
-    c.end_run.ensures.ends (c.check_stream.ensures.checked bytes known)
-
-pub returns-clause-writes : goal.returns-clause-writes
-returns-clause-writes g c = c.end_run.ensures.writes (failed_writes c.args.output.now) c.check_stream.ensures.writes
-
-pub returns-clause-flushed : goal.returns-clause-flushed
-returns-clause-flushed g c = c.end_run.ensures.flushed (failed_writes c.args.output.now) c.check_stream.ensures.writes
+    checks_by strict (λ items bytes T s. defined_so items bytes T s) (c.run_check_in.ensures.checked bytes known)
