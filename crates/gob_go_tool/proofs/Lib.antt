@@ -1,5 +1,3 @@
-pub mod CountLaws
-pub mod CheckLaws
 mod FormLaws
 mod HoistedLineLaws
 pub mod LineLaws

@@ -31,7 +31,7 @@ use Rattle.gob_go.specs.declared.item.GoItem.{GoItem}
 use Rattle.gob_go.specs.Calls.Reader.{GoReader}
 use Rattle.gob_stream.specs.declared.session.Step.{Step}
 use Rattle.gob_go.proofs.GoReaderLaws.{table_between}
-use Rattle.gob_go.proofs.SessionAnswers.{gives_all}
+use Rattle.gob_go.proofs.SessionAnswers.{few_items, gives_all, read_within}
 use Rattle.gob_go.specs.GoStepping.{go_stepping}
 use Rattle.gob_go.proofs.ItemsLaws.{last_of, one_reading}
 use Rattle.gob_tool.specs.Ending.{EndsRun, ends_so, flush_fails}
@@ -44,7 +44,6 @@ use Rattle.gob_go_tool.specs.Machine.Texts.{AppendsTexts, AreNextTexts, MakesNex
 use Rattle.gob_go_tool.specs.Machine.Texts.{TextGiven, WritesNext, WritesSo}
 use Rattle.gob_go_tool.specs.RunningGo.{BeginsGo, EndsWholeGo, RunGoAnswers}
 use Rattle.gob_go_tool.specs.Texts.{HaveTexts, no_texts, texts_then, IsWholeText, OfTexts, TextsAnswers}
-use Rattle.gob_go_tool.proofs.CountLaws.{items_few, read_within}
 
 -- ---- what was read
 -- the items begin known bytes, and this is the table behind them
@@ -156,7 +155,7 @@ none_longest L = record {
   gives = record {
     begins = record { prefix = []; rest = []; table = base_table; stream = no_more; whole = refl };
     longest = λ others b.
-        let few = items_few b.stream in
+        let few = few_items b.stream in
         omega (arith, few, ap length b.whole, length-append b.prefix b.rest);
   };
   table = refl;

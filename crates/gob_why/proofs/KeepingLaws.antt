@@ -21,8 +21,8 @@ use Rattle.gob_go.specs.declared.item.GoItem.{GoItem}
 use Rattle.gob_go.proofs.FinishSteps.{count_begins_here}
 use Rattle.gob_go.proofs.GoReaderLaws.{table_between}
 use Rattle.gob_go.proofs.ItemsLaws.{one_reading}
+use Rattle.gob_go.proofs.SessionAnswers.{few_items, read_within}
 use Rattle.gob_tool.specs.Machine.Counting.{given_count}
-use Rattle.gob_go_tool.proofs.CountLaws.{items_few, read_within}
 use Rattle.gob_explain.specs.Items.{ShowsFirst, ShowsItem}
 use Rattle.gob_why.specs.Explain.{AreExplained, IsChosen, IsItemText, no_item, item_behind, explained_so, left_out}
 use Rattle.gob_why.specs.Machine.Keeping.{BeginsKept, EndsItem, ExplainsEnd, GoesOn, HasKept, HasReadKept}
@@ -66,7 +66,7 @@ pub items_end : {which : Option Explained} {s : SessionState} {items : ℕ} {byt
     {text : List ℕ} → HasReadKept which s items bytes item begin text → items ≤ (limits_of s).stream + 9
 items_end {bytes = bytes} {item = item} h =
     let k = h.kept in
-    let few = items_few k.stream in
+    let few = few_items k.stream in
     let bound = read_within h.gave in
     omega (arith, h.items_are, ap length k.whole, length-append k.prefix item)
 
@@ -254,7 +254,7 @@ pub step_fits : {which : Option Explained} {s s' : SessionState} {items items' :
     → items' < 2 ^ 64
 step_fits same limits n h (over_some l w a) = let fit = items_fit h limits in omega arith
 step_fits {bytes = bytes} {piece = piece} {used = used} same limits n h (over_item {i = i} l w m a) =
-    let few = items_few a.stream in
+    let few = few_items a.stream in
     let bound = read_within a in
     let stream_is = ap (λ (L : Bounds). L.stream) same in
     omega (
@@ -298,7 +298,7 @@ pub value_fits : {which : Option Explained} {s s' : SessionState} {items : ℕ} 
 value_fits {bytes = bytes} {piece = piece} {used = used} v same limits h on =
     let i = puts v.id v.whole.value in
     let a = on h.given bytes i h.gave (whole_item greatest_depth refl v.next v.whole) in
-    let few = items_few a.stream in
+    let few = few_items a.stream in
     let bound = read_within a in
     let stream_is = ap (λ (L : Bounds). L.stream) same in
     omega (

@@ -13,8 +13,7 @@ use Rattle.gob_stream.specs.declared.fault.Fault.{Fault}
 use Rattle.gob_stream.specs.declared.fault.Fault.TheVariants as reading
 use Rattle.gob_stream.specs.declared.fault.Refusal.{Refusal}
 use Rattle.gob_filled.specs.Outcome.{EndsFilled, FilledOutcome, RefusesFilled, at_the_end, next_refused, refused}
-use Rattle.gob_filled.specs.Outcome.{the_end}
-use Rattle.gob_filled.specs.Outcome.{within_an_item}
+use Rattle.gob_filled.specs.Outcome.{profile, the_end, within_an_item}
 use Rattle.gob_filled.specs.Stream.{FilledItem, FilledStream}
 use Rattle.gob_filled.proofs.Outcomes.{no_item}
 use Rattle.gob_filled.proofs.Shown.{filled_shown, filled_there}
@@ -22,14 +21,16 @@ use Rattle.gob_go.specs.Calls.Session.{FinishAnswers, HasRead, limits_of, types_
 use Rattle.gob_go.specs.Machine.SessionState.{SessionState}
 use Rattle.gob_go.specs.Reading.{ShowsRefusal}
 use Rattle.gob_go.proofs.ItemsLaws.{items_grown, longest, one_reading, wire_of}
+use Rattle.gob_go.proofs.SessionAnswers.{read_within}
 use Rattle.gob_go.proofs.UnderWayLaws.{no_item_yet}
 use Rattle.gob_go.proofs.WholeSteps.{types_between}
 use Rattle.gob_tool.specs.Fault.{reading_fault}
+use Rattle.gob_tool.specs.Machine.Counting.{EndsCountingIn}
 use Rattle.gob_tool.specs.declared.in_memory.Tally.{Tally}
+use Rattle.gob_tool.specs.declared.fault.ToolFault.{ToolFault}
 use Rattle.gob_tool.specs.declared.fault.ToolFault.TheVariants as fault
+use Rattle.gob_tool.proofs.CheckLaws.{counted_whole}
 use Rattle.gob_go_tool.specs.CheckingGo.{IsNoGoStream, LongestGoStream}
-use Rattle.gob_go_tool.specs.Machine.Counting.{EndsCountingGo}
-use Rattle.gob_go_tool.proofs.CountLaws.{counted_whole, no_stream_under, read_within}
 use Rattle.gob_why.specs.Machine.Keeping.{HasReadKept, KeepsAll}
 use Rattle.gob_why.specs.Machine.Reading.{HasTaken}
 use Rattle.gob_why.specs.declared.explained.Explained.{Explained}
@@ -63,6 +64,11 @@ all_taken now next bytes taken known c d e = all_known now next bytes taken (sub
     d e
 
 -- ---- what was read gives
+-- why the bytes are no stream, under the limits by their other name
+pub no_stream_under : (L M : Bounds) (bytes : List ℕ) (now : Option (List ℕ)) (f : ToolFault) → L ≡ M
+    → IsNoGoStream (within_trees L) bytes now f → IsNoGoStream (within_trees M) bytes now f
+no_stream_under L M bytes now f same h = subst (λ (L : Bounds). IsNoGoStream (within_trees L) bytes now f) same h
+
 -- the longest stream that it begins with
 pub gives_longest : {s : SessionState} {items : List FilledItem} {bytes : List ℕ} → HasRead s items bytes
     → LongestGoStream (within_trees (limits_of s)) bytes items
@@ -196,12 +202,12 @@ module _ {which : Option Explained} {s : SessionState} {n m : ℕ} {read now : O
       → limits_of s ≡ M → Consumes now next [] → IsAtEnd next → tally.items ≡ n
       → tally.types ≡ definition_count (types_of s) → tally.bytes ≡ m
       → FinishAnswers s s' h.has.given h.taken (Ok u) → (bytes : List ℕ) → read ≡ Some bytes
-      → EndsCountingGo (within_trees M) bytes next (Ok tally)
+      → EndsCountingIn profile (within_trees M) bytes next (Ok tally)
   end_counts s' M next u tally same c end items types_are bytes_are f bytes known =
       let a = all_taken now next bytes h.taken known h.input c end in
       let L = within_trees (limits_of s) in
-      subst (λ (L : Bounds). EndsCountingGo (within_trees L) bytes next (Ok tally)) same
-      (counted_whole tally (items ∙ h.has.items_are) types_are (bytes_are ∙ h.bytes_are) (record {
+      subst (λ (L : Bounds). EndsCountingIn profile (within_trees L) bytes next (Ok tally)) same
+      (counted_whole profile tally (items ∙ h.has.items_are) types_are (bytes_are ∙ h.bytes_are) (record {
         stream = subst (λ (b : List ℕ). FilledStream base_table L h.has.given b (types_of s)) a.all
             (stream_read h.has.gave f.0.ends);
         count = ap length a.all;

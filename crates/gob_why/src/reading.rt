@@ -4,9 +4,9 @@ ghost use Rattle.std.specs.Prelude.{◌≡◌, ◌≢◌, ◌<◌, ◌≤◌, �
 ghost use Rattle.gob_explain.specs.Putting.{PutsMore};
 ghost use Rattle.gob_stream.specs.Bounds.{AreLimits, deepest, greatest_depth, within_trees};
 ghost use Rattle.gob_stream.specs.Calls.Ends.{failed_reads, reader_of};
+ghost use Rattle.gob_filled.specs.Outcome.{profile};
 ghost use Rattle.gob_go.specs.Calls.Session.{limits_of};
-ghost use Rattle.gob_tool.specs.Machine.Counting.{CountsCounting, given_count};
-ghost use Rattle.gob_go_tool.specs.Machine.Counting.{EndsCountingGo};
+ghost use Rattle.gob_tool.specs.Machine.Counting.{CountsCounting, EndsCountingIn, given_count};
 ghost use Rattle.gob_why.specs.Machine.Keeping.{HasReadKept, HasReadSome, TakesNext, TakesPiece};
 ghost use Rattle.gob_why.specs.Machine.Reading.{HasValueNext};
 
@@ -32,7 +32,8 @@ pub(crate) fn read_all<R: Read>(
     requires first { HasReadKept kept.old.explained session.old items.old [] kept.old.item.items kept.old.begin [] }
     requires limits { AreLimits deepest (limits_of session.old) }
     ensures counted { (bytes : List ℕ) → R.remaining (reader_of input.old) ≡ Some bytes
-        → EndsCountingGo (within_trees (limits_of session.old)) bytes (R.remaining (reader_of input.new)) result }
+        → EndsCountingIn profile (within_trees (limits_of session.old)) bytes (R.remaining (reader_of input.new))
+        result }
     ensures reads { CountsCounting (failed_reads input.old) (failed_reads input.new) result }
 {
     let mut piece = room_for_piece(alloc)?;

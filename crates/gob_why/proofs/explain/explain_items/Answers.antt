@@ -14,7 +14,7 @@ use Rattle.gob_tool.specs.declared.fault.ToolFault.TheVariants as fault
 use Rattle.gob_tool.proofs.EndLaws.{at_error, reading_unread, reads_unread, write_counts, writing_unread}
 use Rattle.gob_tool.proofs.ShowRuns.{stop_faults}
 use Rattle.gob_tool.proofs.CheckLaws.{limits_as}
-use Rattle.gob_go_tool.proofs.CountLaws.{read_within}
+use Rattle.gob_go.proofs.SessionAnswers.{read_within}
 use Rattle.gob_why.specs.Machine.Keeping.{ExplainsAll}
 use Rattle.gob_why.proofs.ExplainLaws.{end_explained, end_refused, explains_first, explains_turn}
 use Rattle.gob_why.proofs.ExplainLaws.{none_explained, piece_stops, read_stops}

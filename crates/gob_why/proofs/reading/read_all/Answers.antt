@@ -4,13 +4,14 @@ use Rattle.std.proofs.lemmas.List.{length-take-le}
 use Rattle.gob_types.specs.Defined.{types, definition_count}
 use Rattle.gob_stream.specs.Bounds.{Bounds, within_trees}
 use Rattle.gob_stream.specs.Calls.Ends.{reader_of}
+use Rattle.gob_filled.specs.Outcome.{profile}
 use Rattle.gob_go.specs.Calls.Session.{limits_of}
 use Rattle.gob_tool.specs.Fault.{reading_fault}
+use Rattle.gob_tool.specs.Machine.Counting.{EndsCountingIn}
 use Rattle.gob_tool.specs.declared.in_memory.Tally.{Tally}
 use Rattle.gob_tool.proofs.CheckLaws.{limits_as}
 use Rattle.gob_tool.proofs.EndLaws.{at_error}
 use Rattle.gob_go_tool.specs.CheckingGo.{IsNoGoStream}
-use Rattle.gob_go_tool.specs.Machine.Counting.{EndsCountingGo}
 use Rattle.gob_why.proofs.ReadingLaws.{bytes_within, end_counts, end_stops, none_came, piece_came, piece_stops}
 use Rattle.gob_why.proofs.ReadingLaws.{piece_taken, read_failed, taken_none}
 use Rattle.gob_why.proofs.reading.read_all.Goals as goal
@@ -36,7 +37,7 @@ returns-in_err-count-clause-counted g c = λ bytes known.
     let e = c.in_err-count.field-0.0 in
     let M = limits_of c.args.session.now in
     let next = g.R.Read.remaining (reader_of c.read_piece.new.input) in
-    at_error (λ r. EndsCountingGo (within_trees M) bytes next r) c.from_residual-in_err-count.result
+    at_error (λ r. EndsCountingIn profile (within_trees M) bytes next r) c.from_residual-in_err-count.result
     (reading_fault e) c.from_residual-in_err-count.ensures.1
     (subst (λ f. IsNoGoStream (within_trees M) bytes next (reading_fault f)) (sym c.in_err-count.ensures.fault)
     (read_failed i.2 M next i.0 c.in_err-count.ensures.unread bytes known))
@@ -48,7 +49,7 @@ returns-in_err-finish-clause-counted g c = λ bytes known.
     let M = limits_of c.args.session.now in
     let next = g.R.Read.remaining (reader_of c.read_piece.new.input) in
     let zero = c.if-count-eq0.true in
-    at_error (λ r. EndsCountingGo (within_trees M) bytes next r) c.from_residual-in_err-finish.result
+    at_error (λ r. EndsCountingIn profile (within_trees M) bytes next r) c.from_residual-in_err-finish.result
     (reading_fault e) c.from_residual-in_err-finish.ensures.1
     (end_stops i.2 c.finish.new.self M next e i.0
     (none_came (g.R.Read.remaining (reader_of c.pieces.input))
@@ -79,7 +80,7 @@ returns-in_err-count_piece-clause-counted g c = λ bytes known.
     let M = limits_of c.args.session.now in
     let next = g.R.Read.remaining (reader_of c.read_piece.new.input) in
     let t = c.count_piece.new in
-    at_error (λ r. EndsCountingGo (within_trees M) bytes next r) c.from_residual-in_err-count_piece.result
+    at_error (λ r. EndsCountingIn profile (within_trees M) bytes next r) c.from_residual-in_err-count_piece.result
     (reading_fault e) c.from_residual-in_err-count_piece.ensures.1
     (piece_stops i.2 t.session t.items t.kept.item.items t.kept.begin _ M next _ e
     (c.in_err-count_piece.ensures.limits ∙ i.0)
