@@ -105,7 +105,7 @@ pub refuses_as_met : (words : List Text) (met : Option (Text × List Row)) (faul
     → met ≡ subcommand_of program words → fault_of program words ≡ [] → ((view : View) → ¬ IsViewOf met view)
     → IsWordAtFault fault → RefusesToView words fault
 unfolding RefusesToView
-refuses_as_met words met (view_fault.Word line) e none h is = asks_as_unmet words met e none h
+refuses_as_met words met (view_fault.Word line) e none h is = (asks_as_unmet words met e none h, is)
 refuses_as_met words met (view_fault.Order (fault.Help text)) e none h is = absurd is
 refuses_as_met words met (view_fault.Order fault.Words) e none h is = asks_as_unmet words met e none h
 refuses_as_met words met (view_fault.Order fault.Memory) e none h is = tt
@@ -127,7 +127,7 @@ pub refuses_as_shown : (words : List Text) (error : Error) (fault : ViewFault) �
     → HasKind (fault_of program words) error → RefusesToView words fault
 unfolding RefusesToView
 refuses_as_shown words error (view_fault.Word line) is other passes kinds =
-    asks_as_refused words error is other passes kinds
+    (asks_as_refused words error (is.0, is.1) other passes kinds, is.2)
 refuses_as_shown words error (view_fault.Order (fault.Help text)) is other passes (inl lost) = absurd (search rules)
 refuses_as_shown words error (view_fault.Order (fault.Help text)) is other passes (inr among) =
     subst (λ kind. IsAmong kind (fault_of program words)) is among

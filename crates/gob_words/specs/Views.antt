@@ -1,5 +1,6 @@
 -- What the words ask to be shown, to people and to other programs. (docs/FORMAT.md, The program: this project's own.)
-use Rattle.std.specs.Prelude.{◌≡◌, ◌≢◌, ◌⊎◌, ◌≤◌, ◌∷◌, ◌++◌, ⊤, ℕ, List, [], codes, Option, Some, None, Bool, true, false}
+use Rattle.std.specs.Prelude.{◌≡◌, ◌≢◌, ◌⊎◌, ◌≤◌, ◌∷◌, ◌++◌, ⊤, ℕ, List, [], codes, string_bytes}
+use Rattle.std.specs.Prelude.{Option, Some, None, Bool, true, false}
 use Rattle.clap.specs.Words.{Row, Text, first_of, subcommand_of, takes, fault_of, IsAmong}
 use Rattle.clap.specs.declared.error.kind.ErrorKind.{ErrorKind}
 use Rattle.clap.specs.declared.error.kind.ErrorKind.TheVariants.{DisplayHelp, DisplayVersion, OutOfMemory}
@@ -9,6 +10,7 @@ use Rattle.gob_words.specs.declared.view.ViewCommand.TheVariants as view
 use Rattle.gob_words.specs.declared.view.ViewFault.{ViewFault}
 use Rattle.gob_words.specs.declared.view.ViewFault.TheVariants as view_fault
 use Rattle.gob_words.specs.declared.words.OrderFault.TheVariants as fault
+use Rattle.gob_words.specs.Escaped.{IsUnobeyed}
 use Rattle.gob_words.specs.ViewDepths.{greatest_view_depth}
 use Rattle.gob_words.specs.Words.{AsksForHelp, IsNumber, IsSet, order_line, order_status, program, text_of}
 
@@ -101,22 +103,25 @@ abbrev pub AsksForNothing : List Text → Type 0
 AsksForNothing words = (takes program words ≡ true → (view : View) → ¬ IsViewOf (subcommand_of program words) view)
     × (¬ AsksForHelp words) × (¬ AsksForVersion words)
 
--- what the words do where they don't: they ask for help, or for nothing that there is
+-- what the words do where they don't: they ask for help, or for nothing that there is; a terminal obeys no character of
+-- the line that says what is wrong
 unfoldable pub RefusesToView : List Text → ViewFault → Type 0
-RefusesToView words (view_fault.Word line) = AsksForNothing words
+RefusesToView words (view_fault.Word line) = AsksForNothing words × IsUnobeyed (string_bytes line)
 RefusesToView words (view_fault.Order (fault.Help text)) = IsAmong DisplayHelp (fault_of program words)
 RefusesToView words (view_fault.Order fault.Words) = AsksForNothing words
 RefusesToView words (view_fault.Order fault.Memory) = ⊤
 
 -- the fault of words that clap answers with an error of this kind
 abbrev pub IsViewFaultOf : ErrorKind → ViewFault → Type 0
-IsViewFaultOf kind (view_fault.Word line) = (kind ≢ OutOfMemory) × (kind ≢ DisplayHelp)
+IsViewFaultOf kind (view_fault.Word line) =
+    (kind ≢ OutOfMemory) × (kind ≢ DisplayHelp) × IsUnobeyed (string_bytes line)
 IsViewFaultOf kind (view_fault.Order (fault.Help text)) = kind ≡ DisplayHelp
 IsViewFaultOf kind (view_fault.Order fault.Words) = (kind ≢ OutOfMemory) × (kind ≢ DisplayHelp)
 IsViewFaultOf kind (view_fault.Order fault.Memory) = ⊤
 
 -- a word is wrong, or no memory was had to say so: help isn't asked for
 abbrev pub IsWordAtFault : ViewFault → Type 0
+IsWordAtFault (view_fault.Word line) = IsUnobeyed (string_bytes line)
 IsWordAtFault (view_fault.Order (fault.Help text)) = ⊥
 IsWordAtFault _ = ⊤
 

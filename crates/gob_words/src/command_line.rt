@@ -1,7 +1,7 @@
 //! The commands, options and files that the words can name, for clap, which reads the words and shows help.
 
 ghost use Rattle.std.specs.Prelude.{◌≡◌, IfOk, codes, false};
-ghost use Rattle.clap.specs.Words.{app_of, rule_of, with_subcommand};
+ghost use Rattle.clap.specs.Words.{App, app_of, rule_of, with_subcommand};
 ghost use Rattle.clap.specs.declared.builder.Command.TheViews.{out-Command};
 ghost use Rattle.gob_words.specs.Words.{flag_rule, option_rule, with_flags, with_options, with_input, one_stream};
 ghost use Rattle.gob_words.specs.Words.{exact_program, explain, go_stream, program, rewrite, two_streams, values};
@@ -16,17 +16,12 @@ pub(crate) fn program<'a>(alloc: Global) -> Result<Command<'a>, AllocError>
     ensures { IfOk result (λ command. app_of command ≡ program) }
 {
     let exact = exact_program(alloc)?;
-    let valuing = exact.subcommand(values(alloc)?)?;
-    let typing = with_one_stream(
-        alloc,
-        valuing,
-        "types",
-        help::TYPES,
-        help::DEPTH,
-        help::FILE,
-    )?;
-    let telling = with_one_stream(alloc, typing, "why", help::WHY, help::DEPTH, help::FILE)?;
-    let explaining = telling.subcommand(explain(alloc)?)?;
+    let valuing = with_command(exact, values(alloc))?;
+    let types = one_stream(alloc, "types", help::TYPES, help::DEPTH, help::FILE);
+    let typing = with_command(valuing, types)?;
+    let why = one_stream(alloc, "why", help::WHY, help::DEPTH, help::FILE);
+    let telling = with_command(typing, why)?;
+    let explaining = with_command(telling, explain(alloc))?;
     explaining.subcommand(Command::new(alloc, "version").about(help::NAME_AND_VERSION))
 }
 
@@ -81,30 +76,27 @@ fn exact_program<'a>(alloc: Global) -> Result<Command<'a>, AllocError>
         .version(help::VERSION)
         .after_help(help::USE)
         .subcommand_required(true);
-    let showing = bare.subcommand(go_stream(alloc, "show", help::SHOW, help::DEPTH)?)?;
-    let checking = showing.subcommand(go_stream(
-        alloc,
-        "check",
-        help::CHECK,
-        help::DEPTH_WITH_GO,
-    )?)?;
-    let rewriting = checking.subcommand(rewrite(alloc)?)?;
-    rewriting.subcommand(two_streams(alloc, "take", help::TAKE, help::DEPTH)?)
+    let show = go_stream(alloc, "show", help::SHOW, help::DEPTH);
+    let showing = with_command(bare, show)?;
+    let check = go_stream(alloc, "check", help::CHECK, help::DEPTH_WITH_GO);
+    let checking = with_command(showing, check)?;
+    let rewriting = with_command(checking, rewrite(alloc))?;
+    with_command(
+        rewriting,
+        two_streams(alloc, "take", help::TAKE, help::DEPTH),
+    )
 }
 
-// The program with one command more, which reads one stream.
-fn with_one_stream<'a>(
-    alloc: Global,
+// The program with one command more, where that was made. Here alone a program is dropped.
+fn with_command<'a>(
     program: Command<'a>,
-    name: &'a str,
-    about: &'a str,
-    depth: &'a str,
-    input: &'a str,
+    command: Result<Command<'a>, AllocError>,
 ) -> Result<Command<'a>, AllocError>
-    ensures { IfOk result (λ more. app_of more
-        ≡ with_subcommand (app_of program.entry) (one_stream name.now).top) }
+    requires { IfOk command (λ made. (out-Command made).has_globals ≡ false) }
+    ensures { (app : App) → IfOk command.entry (λ made. app_of made ≡ app)
+        → IfOk result (λ more. app_of more ≡ with_subcommand (app_of program.entry) app.top) }
 {
-    program.subcommand(one_stream(alloc, name, about, depth, input)?)
+    program.subcommand(command?)
 }
 
 // A command that reads one stream.

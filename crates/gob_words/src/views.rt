@@ -1,9 +1,10 @@
 //! What the words of the command line ask to be shown to people and to other programs, beside the orders.
 
-ghost use Rattle.std.specs.Prelude.{◌≡◌, ◌≢◌, ℕ, Option, MatchBool, MatchOption, MatchResult, map};
+ghost use Rattle.std.specs.Prelude.{◌≡◌, ◌≢◌, ℕ, Option, IfOk, MatchBool, MatchOption, MatchResult, map, string_bytes};
 ghost use Rattle.clap.specs.Words.{subcommand_rows_of};
 ghost use Rattle.gob_words.specs.declared.view.View.{View};
 ghost use Rattle.gob_words.specs.declared.view.ViewCommand.{ViewCommand};
+ghost use Rattle.gob_words.specs.Escaped.{IsUnobeyed};
 ghost use Rattle.gob_words.specs.Views.{AsksToView, IsFileOf, IsViewFaultOf, IsViewOf, RefusesToView, view_name};
 ghost use Rattle.gob_words.specs.Views.{IsAskedFor, IsFaultFlagOf, IsFlagOf, IsHoistFlagOf, IsPlaceIn, IsPlaceOf};
 ghost use Rattle.gob_words.specs.Views.{IsVersionView, IsWordAtFault};
@@ -282,6 +283,7 @@ fn has_flag(words: &[&str], flag: &str) -> bool {
 
 // A fault that is told by this line.
 fn said(line: Result<String, AllocError>) -> ViewFault
+    requires { IfOk line (λ text. IsUnobeyed (string_bytes text)) }
     ensures { IsWordAtFault result }
 {
     match line {
