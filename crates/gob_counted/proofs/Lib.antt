@@ -1,0 +1,3 @@
+pub mod StrictLaws
+pub mod GoLaws
+pub mod CountLaws
