@@ -31,7 +31,8 @@ static union head *grown(uint64_t size) {
     }
     if (end - top < size) {
         uint64_t pages = (size - (end - top) + PAGE - 1) / PAGE;
-        if (__builtin_wasm_memory_grow(0, pages) == (size_t)-1) return NULL;
+        /* (-1 comes with 32 bits, as pointers do) */
+        if ((uint32_t)__builtin_wasm_memory_grow(0, pages) == (uint32_t)-1) return NULL;
         end += pages * PAGE;
     }
     union head *at = (union head *)top;
