@@ -14,6 +14,7 @@ use std::alloc::Global;
 #[derive(Clone, Copy, Debug, PartialEq, Eq)]
 pub struct Checked {
     /// That of its items: all of them where the bytes are a stream, and those before the refused one where they aren't.
+    /// Where memory is wanting it is that of items with which the bytes begin, none at the least.
     pub tally: Tally,
     /// Ok exactly where all of the bytes are a stream; else its refusal, or want of memory.
     pub ended: Result<(), Fault>,

@@ -1,7 +1,7 @@
 -- What the session of streams of Go's encoder answers, in the words of any session.
 use Rattle.std.proofs.Common.{◌≡◌, ◌≢◌, ℕ, ◌<◌, ◌≤◌, List, [], ◌∷◌, ◌++◌, length, Option, Ok, Err, Result, ◌∙◌}
 use Rattle.std.proofs.Common.{ap, sym, subst, refl, ◌+◌, append-nil}
-use Rattle.std.proofs.Common.{append_assoc, arith, take, length-append, None, Some, IfSome}
+use Rattle.std.proofs.Common.{append_assoc, arith, take, length-append, None, Some, IfOk, IfSome}
 use Rattle.std.proofs.Common.{Bool, true, false, IsTrue, MatchBool}
 use Rattle.std.proofs.lemmas.List.{length-take-le}
 use Rattle.gob_num.proofs.PublicLaws.{unsigned_length}
@@ -12,6 +12,7 @@ use Rattle.gob_types.specs.declared.reason.Reason.TheVariants as reason
 use Rattle.gob_stream.specs.Bounds.{Bounds, within_trees}
 use Rattle.gob_stream.specs.Stepping.{AdvancesBy, FinishAnswersBy, GivesAllBy, GivesItemsOf, GivesNoMoreBy}
 use Rattle.gob_stream.specs.Grammar.{GivesIn}
+use Rattle.gob_stream.specs.Honest.{OfRefusal}
 use Rattle.gob_stream.specs.Stepping.{ReadsItemsBy, StandsBy, StepAnswersBy}
 use Rattle.gob_stream.specs.Stepping.{gives_none, gives_one}
 use Rattle.gob_stream.specs.declared.fault.Fault.{Fault}
@@ -205,7 +206,22 @@ steps s s' items bytes piece (Err fault.Read) h f = absurd f
 steps s s' items bytes piece (Err fault.Memory) h f = gives_all s items bytes h
 steps s s' items bytes piece (Err fault.Failed) h f = absurd f
 
+-- what it refuses is shown by bytes of the piece
+pub step_shows : (s s' : SessionState) (items : List FilledItem) (bytes piece : List ℕ)
+    (result : Result (Step GoItem) Fault) → StepAnswers s s' items bytes piece result
+    → OfRefusal (λ R. length bytes < R.seen) result
+step_shows s s' items bytes piece (Ok step) a = tt
+step_shows s s' items bytes piece (Err (fault.Refused R)) a = a.2
+step_shows s s' items bytes piece (Err fault.Read) a = tt
+step_shows s s' items bytes piece (Err fault.Memory) a = tt
+step_shows s s' items bytes piece (Err fault.Failed) a = tt
+
 -- ---- the end
+pub end_stays : (s s' : SessionState) (items : List FilledItem) (bytes : List ℕ) (r : Result (Unit {0}) Fault)
+    → FinishAnswers s s' items bytes r → IfOk r (λ _. s' ≡ s)
+end_stays s s' items bytes (Ok u) a = a.1
+end_stays s s' items bytes (Err e) a = tt
+
 -- the types where all that was taken leads
 taken_lead : {s : SessionState} {items : List FilledItem} {taken : List ℕ} → HasRead s items taken
     → LeadsBehind (within_trees (limits_of s)) taken items (types_of s)

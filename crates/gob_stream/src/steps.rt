@@ -19,6 +19,7 @@ pub trait Steps: Drop {
     ghost use Rattle.gob_stream.specs.Stepping.{HasBodyNextBy, HasItemNextBy, ReadsItemsBy, ReadsOnBy, StepAnswersBy};
     ghost use Rattle.gob_stream.specs.Stepping.{StandsBy, Stepping};
     ghost use Rattle.gob_stream.specs.Grammar.{GivesIn};
+    ghost use Rattle.gob_stream.specs.Honest.{OfRefusal};
     ghost use Rattle.gob_types.specs.Base.{base_table};
 
     /// An item, as it is handed out.
@@ -45,6 +46,8 @@ pub trait Steps: Drop {
         ensures stepped { (items : List Told) (bytes : List ℕ) (h : stepping.read self.old items bytes)
             → StepAnswersBy stepping (stepping.behind self.old items bytes h) self.old self.new items bytes piece.now
             result }
+        ensures shown { (items : List Told) (bytes : List ℕ) → stepping.read self.old items bytes
+            → OfRefusal (λ refusal. length bytes < refusal.seen) result }
         ensures used { IfOk result (λ step. (0 < length piece.now → 0 < step.used) × (step.used ≤ length piece.now)) }
         ensures between { IfOk result (λ step. IfSome step.item (λ _. stepping.between self.new)) }
         ensures stands { StandsBy stepping self.new }
@@ -53,10 +56,13 @@ pub trait Steps: Drop {
         ensures unread { IfErr result (λ fault. fault ≢ Fault.Read) }
         ensures limits { stepping.limits self.new ≡ stepping.limits self.old };
 
-    /// Says that no byte follows. Ok exactly between two items. After a fault it answers [`Fault::Failed`].
+    /// Says that no byte follows. Ok exactly between two items, and then nothing has changed. After a fault it answers
+    /// [`Fault::Failed`].
     fn finish(&mut self) -> Result<(), Fault>
         ensures finished { (items : List Told) (bytes : List ℕ) (h : stepping.read self.old items bytes)
             → FinishAnswersBy stepping (stepping.behind self.old items bytes h) self.old self.new items bytes result }
+        ensures whole { (items : List Told) (bytes : List ℕ) → stepping.read self.old items bytes
+            → IfOk result (λ _. self.new ≡ self.old) }
         ensures failed { OnErr result (stepping.failed self.new) }
         ensures unread { IfErr result (λ fault. fault ≢ Fault.Read) }
         ensures types { stepping.table self.new ≡ stepping.table self.old }

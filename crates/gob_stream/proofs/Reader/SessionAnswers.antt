@@ -1,6 +1,6 @@
 -- What the session of the format answers, in the words of any session.
-use Rattle.std.proofs.Common.{◌≡◌, ℕ, List, [], ◌∷◌, ◌++◌, length, Option, Ok, Err, Result, ◌∙◌, ap, sym, subst, refl}
-use Rattle.std.proofs.Common.{append-nil, append_assoc, arith, take, length-append, None, Some, IfOk, IfSome}
+use Rattle.std.proofs.Common.{◌≡◌, ◌<◌, ℕ, List, [], ◌∷◌, ◌++◌, length, Option, Ok, Err, Result, ◌∙◌, ap, sym}
+use Rattle.std.proofs.Common.{subst, refl, append-nil, append_assoc, arith, take, length-append, None, Some, IfOk, IfSome}
 use Rattle.std.proofs.Common.{Bool, true, false, IsTrue, MatchBool}
 use Rattle.std.proofs.lemmas.List.{take-append-le, length-take-le}
 use Rattle.gob_types.specs.Base.{base_table}
@@ -14,6 +14,7 @@ use Rattle.gob_stream.specs.Item.{StreamItem, ItemMeans}
 use Rattle.gob_stream.specs.Machine.ReadParts.{AdvancesOver, over_some, over_item}
 use Rattle.gob_stream.specs.Machine.SessionState.{SessionState}
 use Rattle.gob_stream.specs.Grammar.{GivesIn}
+use Rattle.gob_stream.specs.Honest.{OfRefusal}
 use Rattle.gob_stream.specs.Outcome.{BeginsWithStream, EndsSo, the_end, at_the_end, strict}
 use Rattle.gob_stream.specs.Reading.{ShowsRefusal}
 use Rattle.gob_stream.specs.Stepping.{AdvancesBy, FinishAnswersBy, GivesAllBy, GivesNoMoreBy, HasItemNextBy}
@@ -150,7 +151,22 @@ module _ {X O : Type 0} {most : ℕ} (building : Building X O most) where
   steps s s' items bytes piece (Err fault.Memory) h f = gives_all s items bytes h
   steps s s' items bytes piece (Err fault.Failed) h f = absurd f
 
+  -- what it refuses is shown by bytes of the piece
+  pub step_shows : (s s' : SessionState X O) (items : List StreamItem) (bytes piece : List ℕ)
+      (result : Result (Step (declared.Item O)) Fault) → StepAnswers building s s' items bytes piece result
+      → OfRefusal (λ R. length bytes < R.seen) result
+  step_shows s s' items bytes piece (Ok step) a = tt
+  step_shows s s' items bytes piece (Err (fault.Refused R)) a = a.1
+  step_shows s s' items bytes piece (Err fault.Read) a = tt
+  step_shows s s' items bytes piece (Err fault.Memory) a = tt
+  step_shows s s' items bytes piece (Err fault.Failed) a = tt
+
   -- the end
+  pub end_stays : (s s' : SessionState X O) (items : List StreamItem) (bytes : List ℕ)
+      (r : Result (Unit {0}) Fault) → FinishAnswers building s s' items bytes r → IfOk r (λ _. s' ≡ s)
+  end_stays s s' items bytes (Ok u) a = a.1
+  end_stays s s' items bytes (Err e) a = tt
+
   pub finishes : (s s' : SessionState X O) (items : List StreamItem) (bytes : List ℕ) (r : Result (Unit {0}) Fault)
       → HasRead building s items bytes → FinishAnswers building s s' items bytes r
       → FinishAnswersBy (strict_stepping building) (types_of s) s s' items bytes r

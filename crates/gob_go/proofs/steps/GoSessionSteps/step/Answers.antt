@@ -1,10 +1,15 @@
-use Rattle.gob_go.proofs.SessionAnswers.{steps}
+use Rattle.gob_go.proofs.SessionAnswers.{step_shows, steps}
 use Rattle.gob_go.proofs.SessionAnswers.{stands}
 use Rattle.gob_go.proofs.steps.GoSessionSteps.step.Goals as goal
 
 pub returns-clause-stepped : goal.returns-clause-stepped
 returns-clause-stepped c = λ items bytes h.
     steps c.args.self.now c.step.new.self items bytes c.args.piece.now c.step.result h
+    (c.step.ensures.advances items bytes h)
+
+pub returns-clause-shown : goal.returns-clause-shown
+returns-clause-shown c = λ items bytes h.
+    step_shows c.args.self.now c.step.new.self items bytes c.args.piece.now c.step.result
     (c.step.ensures.advances items bytes h)
 
 pub returns-clause-stands : goal.returns-clause-stands
