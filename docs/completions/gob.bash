@@ -6,9 +6,9 @@ _gob() {
     --depth | --item | --at) return ;;
     esac
     if [ "$COMP_CWORD" -eq 1 ]; then
-        words='show check rewrite take values types why explain version help --help -h --version -V'
+        words='show check rewrite take values types why explain salvage version help --help -h --version -V'
     elif [ "${COMP_WORDS[1]}" = help ]; then
-        words='show check rewrite take values types why explain version help'
+        words='show check rewrite take values types why explain salvage version help'
     elif [[ $current == -* ]]; then
         words='--depth --item -h --help'
         case ${COMP_WORDS[1]} in

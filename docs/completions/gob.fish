@@ -8,11 +8,12 @@ complete -c gob -n __fish_use_subcommand -a values -d 'Print each value of a str
 complete -c gob -n __fish_use_subcommand -a types -d 'Print the types of a stream as Go source'
 complete -c gob -n __fish_use_subcommand -a why -d 'Say why a stream is refused, and what to do, or how much is in it'
 complete -c gob -n __fish_use_subcommand -a explain -d 'Print the bytes of a stream row by row, each with what it is'
+complete -c gob -n __fish_use_subcommand -a salvage -d 'Write what isn'\''t damaged of a stream as one stream, and say what is left out'
 complete -c gob -n __fish_use_subcommand -a version -d 'Print the program'\''s name and version'
 complete -c gob -n __fish_use_subcommand -a help -d 'Print this message or the help of the given subcommand(s)'
-complete -c gob -n '__fish_seen_subcommand_from help' -a 'show check rewrite take values types why explain version help'
-complete -c gob -n '__fish_seen_subcommand_from show check rewrite take values types why explain' -l depth -x -d 'Refuse deeper values'
-complete -c gob -n '__fish_seen_subcommand_from show check rewrite take values types why explain' -l item -x -d 'Refuse items of more bytes'
+complete -c gob -n '__fish_seen_subcommand_from help' -a 'show check rewrite take values types why explain salvage version help'
+complete -c gob -n '__fish_seen_subcommand_from show check rewrite take values types why explain salvage' -l depth -x -d 'Refuse deeper values'
+complete -c gob -n '__fish_seen_subcommand_from show check rewrite take values types why explain salvage' -l item -x -d 'Refuse items of more bytes'
 complete -c gob -n '__fish_seen_subcommand_from show' -l go -d 'Take all that Go'\''s encoder writes, as values in interfaces'
 complete -c gob -n '__fish_seen_subcommand_from check' -l go -d 'Take all that Go'\''s encoder writes, as values in interfaces'
 complete -c gob -n '__fish_seen_subcommand_from rewrite' -l go -d 'Take all that Go'\''s encoder writes, as values in interfaces'
@@ -24,4 +25,4 @@ complete -c gob -n '__fish_seen_subcommand_from explain' -l fault -d 'Show the i
 complete -c gob -n '__fish_seen_subcommand_from explain' -l at -x -d 'Show the item around the byte at this offset alone'
 complete -c gob -n __fish_use_subcommand -s V -l version -d 'Print version'
 complete -c gob -s h -l help -d 'Print help'
-complete -c gob -n '__fish_seen_subcommand_from show check rewrite take values types why explain' -F
+complete -c gob -n '__fish_seen_subcommand_from show check rewrite take values types why explain salvage' -F

@@ -17,7 +17,7 @@ use Rattle.gob_words.specs.declared.view.View.{View}
 use Rattle.gob_views.specs.Running.{ViewAnswers}
 use Rattle.gob.specs.declared.AfterRun.{AfterRun}
 use Rattle.gob.specs.declared.Stop.{Stop}
-use Rattle.gob.specs.declared.Stop.TheVariants.{Words, Run, Unread}
+use Rattle.gob.specs.declared.Stop.TheVariants.{Words, Run, LeftOut, Unread}
 use Rattle.gob.specs.declared.Stop.TheVariants as stop
 
 -- the exit status after what ends it with a line
@@ -25,6 +25,7 @@ abbrev pub stop_status : Stop → ℕ
 stop_status (Words fault) = order_status fault
 stop_status (Run fault) = fault_status fault
 stop_status (stop.View line) = 2
+stop_status (LeftOut report) = 1
 stop_status Unread = 2
 
 -- the exit status
@@ -37,6 +38,7 @@ abbrev pub stop_line : Stop → List ℕ
 stop_line (Words fault) = order_line fault
 stop_line (Run fault) = fault_line fault
 stop_line (stop.View line) = codes "gob: " ++ line.bytes.items
+stop_line (LeftOut report) = report.bytes.items
 stop_line Unread = fault_line run_fault.Write
 
 -- the run that ends the program so has answered this
@@ -45,6 +47,7 @@ HasAnswered answer (Ok _) = answer ≡ Ok tt
 HasAnswered answer (Err (Words fault)) = ⊥
 HasAnswered answer (Err (Run fault)) = answer ≡ Err fault
 HasAnswered answer (Err (stop.View line)) = ⊥
+HasAnswered answer (Err (LeftOut report)) = ⊥
 HasAnswered answer (Err Unread) = answer ≡ Err run_fault.Write
 
 -- a file wasn't opened: that is told, unless there is no memory to

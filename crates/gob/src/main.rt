@@ -6,8 +6,9 @@
 //! `gob take WANTED [IN]` receives each value of IN as one of the type of the first value in the file WANTED, and
 //! prints a line for each. `gob values [IN]` prints each value as plain JSON, `gob types [IN]` the types as Go source,
 //! `gob why [IN]` why IN is refused or how much is in it, `gob explain [IN]` the bytes row by row, and `gob version`
-//! the version. `gob help` says the rest. Where the program stops at a fault, it prints a line on standard error. Its
-//! exit status is 0 for a whole stream and for help, 1 for an input that is no stream or has values that don't match,
+//! the version. `gob salvage [IN]` writes what isn't damaged of IN, and says on standard error what is left out.
+//! `gob help` says the rest. Where the program stops at a fault, it prints a line on standard error. Its exit status is
+//! 0 for a whole stream and for help, 1 for an input that is no stream, that is damaged or has values that don't match,
 //! and 2 for all else.
 #![tactic(auto)]
 
@@ -24,6 +25,7 @@ ghost use Rattle.gob.specs.Stop.{IsQuietIfClosed, IsUnopened, seen_after, seen_o
 mod pipe;
 
 use crate::pipe::Pipe;
+use gob_salvage::{Salvaged, report};
 use gob_stream::{Input, Output};
 use gob_tool::{ToolFault, run_order, status};
 use gob_views::run_view;
@@ -44,6 +46,8 @@ enum Stop {
     Run(ToolFault),
     // What is wrong with the words of a view, or with the file that they name.
     View(String),
+    // What is told of an input of which something was left out.
+    LeftOut(String),
     // Nobody reads what is written any more.
     Unread,
 }
@@ -63,6 +67,7 @@ impl Stop {
         match self {
             Stop::Words(fault) => fault.status(),
             Stop::Run(fault) => status(fault),
+            Stop::LeftOut(_) => 1,
             Stop::View(_) | Stop::Unread => 2,
         }
     }
@@ -79,6 +84,7 @@ impl fmt::Display for Stop {
             Stop::Words(fault) => write!(f, "{fault}"),
             Stop::Run(fault) => write!(f, "{fault}"),
             Stop::View(line) => write!(f, "gob: {line}"),
+            Stop::LeftOut(report) => f.write_str(report.as_str()),
             Stop::Unread => write!(f, "gob: write fault"),
         }
     }
@@ -187,17 +193,34 @@ fn run_on<Q: Read + Drop>(rt: &HostRuntime, order: &Order, wanted: Q) -> Result<
 // Opens the input of a view, then shows it.
 fn run_view_on(rt: &HostRuntime, view: &View) -> Result<(), Stop> {
     let writer = buffered(rt.alloc(), rt.stdout())?;
-    match view.input {
+    let mut told = None;
+    let ending = match view.input {
         None => {
             let mut input = Input::new(rt.stdin());
-            show_out(rt.alloc(), view, &mut input, writer).ending
+            show_out(rt.alloc(), view, &mut input, writer, &mut told).ending
         }
         Some(path) => {
             let file = opened_by_name(rt.alloc(), path, File::open(rt, path))?;
             let mut input = Input::new(file);
-            show_out(rt.alloc(), view, &mut input, writer).ending
+            show_out(rt.alloc(), view, &mut input, writer, &mut told).ending
         }
+    };
+    ending?;
+    match told {
+        Some(kept) => tell(rt, &kept),
+        None => Ok(()),
     }
+}
+
+// Tells what was kept of an input and what was left out: where that is damaged bytes, this stops the program.
+fn tell(rt: &HostRuntime, kept: &Salvaged) -> Result<(), Stop> {
+    let text = report(rt.alloc(), kept)?;
+    if kept.is_damaged() {
+        return Err(Stop::LeftOut(text));
+    }
+    // Where standard error takes no line, the status still tells.
+    let _ = eprintln!(rt; "{text}");
+    Ok(())
 }
 
 // A run writes line by line, and each write to the system is dear.
@@ -274,6 +297,7 @@ fn show_out<R: Read, W: Write + Drop>(
     view: &View,
     input: &mut Input<R>,
     writer: BufWriter<Pipe<W>>,
+    told: &mut Option<Salvaged>,
 ) -> AfterRun<W>
     ensures ends { EndsView view.now (seen_of R.remaining input.old) (seen_of R.remaining input.new)
         (unused (writer_contents (λ pipe. W.contents pipe.writer) writer)) (seen_after W.contents result)
@@ -281,7 +305,7 @@ fn show_out<R: Read, W: Write + Drop>(
     ensures quiet { IsQuietIfClosed result }
 {
     let mut output = Output::new(writer);
-    let answer = run_view(alloc, view, input, &mut output);
+    let answer = run_view(alloc, view, input, &mut output, told);
     settled(answer, output)
 }
 

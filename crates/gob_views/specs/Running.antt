@@ -4,6 +4,8 @@ use Rattle.gob_go_tool.specs.CheckingGo.{CheckGoAnswers}
 use Rattle.gob_go_tool.specs.RewritingGo.{RewriteGoAnswers}
 use Rattle.gob_go_tool.specs.ShowingGo.{ShowGoAnswers}
 use Rattle.gob_plain.specs.declared.style.Style.{Style}
+use Rattle.gob_salvage.specs.Running.{SalvageAnswers}
+use Rattle.gob_salvage.specs.declared.keeping.Salvaged.{Salvaged}
 use Rattle.gob_stream.specs.Bounds.{Bounds}
 use Rattle.gob_tool.specs.declared.fault.ToolFault.{ToolFault}
 use Rattle.gob_why.specs.Explain.{ExplainAnswers}
@@ -47,6 +49,8 @@ CommandAnswers command.Types view bytes now old new result = TypesAnswers (view_
 CommandAnswers command.Why view bytes now old new result = WhyAnswers (view_limits view) bytes now old new result
 CommandAnswers command.Explain view bytes now old new result =
     ExplainAnswers (view_explained view) (view_limits view) bytes now old new result
+CommandAnswers command.Salvage view bytes now old new result =
+    (told : Option Salvaged) × SalvageAnswers (view_limits view) bytes now old new told result
 CommandAnswers command.Version view bytes now old new result = SendsText old new version_line result
 CommandAnswers command.ShowGo view bytes now old new result = ShowGoAnswers (view_limits view) bytes now old new result
 CommandAnswers command.CheckGo view bytes now old new result =

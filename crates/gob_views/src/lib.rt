@@ -10,7 +10,8 @@
 //! }
 //! ```
 //!
-//! [`run_view`] is the run of any of these, and of `gob why` and `gob explain`, which are those of `gob_why`.
+//! [`run_view`] is the run of any of these, and of `gob why`, `gob explain` and `gob salvage`, which are those of
+//! `gob_why` and `gob_salvage`.
 #![tactic(auto)]
 
 mod ids;

@@ -1,6 +1,7 @@
 //! The run that the words ask for.
 
-ghost use Rattle.std.specs.Prelude.{◌≡◌, ℕ, List, Some};
+ghost use Rattle.std.specs.Prelude.{◌≡◌, ◌≢◌, ℕ, List, Some};
+ghost use Rattle.gob_salvage.specs.Running.{SalvageAnswers};
 ghost use Rattle.gob_stream.specs.Calls.Ends.{failed_reads, failed_writes, reader_of, writer_of};
 ghost use Rattle.gob_tool.specs.Ending.{CountsOnlyWrites};
 ghost use Rattle.gob_tool.specs.Showing.{CountsReadFaults, CountsWriteFaults, IsFlushedSince};
@@ -11,6 +12,7 @@ use crate::types::run_types;
 use crate::values::run_values;
 use gob_go_tool::{run_check_go, run_rewrite_go, run_show_go};
 use gob_plain::Style;
+use gob_salvage::{Salvaged, run_salvage};
 use gob_stream::{Input, Limits, Output};
 use gob_tool::{ToolFault, end_run};
 use gob_why::{Explained, run_explain, run_why};
@@ -19,12 +21,14 @@ use std::alloc::Global;
 use std::io::{Read, Write};
 
 /// Shows of the input what the view asks for, under its limits; the run of each command says what that is, and what
-/// each fault means. For [`ViewCommand::Version`] nothing is read.
+/// each fault means. For [`ViewCommand::Version`] nothing is read. `told` is, for [`ViewCommand::Salvage`] alone, where
+/// that is Ok, what was kept and what was left out.
 pub fn run_view<R: Read, W: Write>(
     alloc: Global,
     view: &View<'_>,
     input: &mut Input<R>,
     output: &mut Output<W>,
+    told: &mut Option<Salvaged>,
 ) -> Result<(), ToolFault>
     ensures shows { (bytes : List ℕ) → R.remaining (reader_of input.old) ≡ Some bytes
         → ViewAnswers view.now bytes (R.remaining (reader_of input.new)) (W.contents (writer_of output.old))
@@ -32,6 +36,11 @@ pub fn run_view<R: Read, W: Write>(
     ensures reads { CountsReadFaults (failed_reads input.old) (failed_reads input.new) result }
     ensures writes { CountsWriteFaults (failed_writes output.old) (failed_writes output.new) result }
     ensures flushed { IsFlushedSince (failed_writes output.old) output.new }
+    ensures told { (bytes : List ℕ) → R.remaining (reader_of input.old) ≡ Some bytes
+        → view.now.command ≡ ViewCommand.Salvage
+        → SalvageAnswers (view_limits view.now) bytes (R.remaining (reader_of input.new))
+        (W.contents (writer_of output.old)) (W.contents (writer_of output.new)) told.new result }
+    ensures untold { view.now.command ≢ ViewCommand.Salvage → told.new ≡ told.old }
     ensures unread { view.now.command ≡ ViewCommand.Version → input.new ≡ input.old }
 {
     match view.command {
@@ -50,6 +59,7 @@ pub fn run_view<R: Read, W: Write>(
         ViewCommand::Explain => {
             run_explain(alloc, input, output, limits_of(view), explained_of(view))
         }
+        ViewCommand::Salvage => run_salvage(alloc, input, output, limits_of(view), told),
         ViewCommand::Version => end_run(write_version(output), output),
         ViewCommand::ShowGo => run_show_go(alloc, input, output, limits_of(view)),
         ViewCommand::CheckGo => run_check_go(alloc, input, output, limits_of(view)),

@@ -95,7 +95,7 @@ fn shown(alloc: Global, view: &View<'_>, stream: &str) -> Result<Vec<u8>, AllocE
     let mut written = Vec::new(alloc);
     let mut input = Input::new(bytes.as_slice());
     let mut output = Output::new(&mut written);
-    match run_view(alloc, view, &mut input, &mut output) {
+    match run_view(alloc, view, &mut input, &mut output, &mut None) {
         Ok(()) => Ok(written),
         Err(_) => Ok(Vec::new(alloc)),
     }

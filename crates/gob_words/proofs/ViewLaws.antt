@@ -10,7 +10,7 @@ use Rattle.gob_words.specs.declared.words.OrderFault.{OrderFault}
 use Rattle.gob_words.specs.declared.words.OrderFault.TheVariants as fault
 use Rattle.gob_words.specs.declared.view.View.{View}
 use Rattle.gob_words.specs.declared.view.ViewCommand.{ViewCommand}
-use Rattle.gob_words.specs.declared.view.ViewCommand.TheVariants.{Values, Types, Why, Explain, Version}
+use Rattle.gob_words.specs.declared.view.ViewCommand.TheVariants.{Values, Types, Why, Explain, Salvage, Version}
 use Rattle.gob_words.specs.declared.view.ViewCommand.TheVariants.{ShowGo, CheckGo, RewriteGo}
 use Rattle.gob_words.specs.declared.view.ViewFault.{ViewFault}
 use Rattle.gob_words.specs.declared.view.ViewFault.TheVariants as view_fault
@@ -26,7 +26,8 @@ use Rattle.gob_words.proofs.WordLaws.{name_met, rows_met, some_fault, the_one, t
 -- the command of this name, by its first letter or its second one
 abbrev having : (first second : ℕ) → ViewCommand
 having first c =
-    if first == 99 then CheckGo else (if first == 115 then ShowGo else (if first == 114 then RewriteGo
+    if first == 99 then CheckGo else (if first == 115 then (if c == 97 then Salvage else ShowGo)
+    else (if first == 114 then RewriteGo
     else (if c == 97 then Values
     else (if c == 121 then Types else (if c == 104 then Why else (if c == 120 then Explain else Version))))))
 
@@ -35,6 +36,7 @@ has Values = refl
 has Types = refl
 has Why = refl
 has Explain = refl
+has Salvage = refl
 has Version = refl
 has ShowGo = refl
 has CheckGo = refl

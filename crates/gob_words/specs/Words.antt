@@ -82,8 +82,9 @@ explain = with_input (with_parts (with_options (codes "explain")))
 -- and those that show it to people and to other programs
 abbrev pub program : App
 program =
-    with_subcommand (with_subcommand (with_subcommand (with_subcommand (with_subcommand exact_program values.top)
-    (one_stream (codes "types")).top) (one_stream (codes "why")).top) explain.top) (new_app (codes "version")).top
+    with_subcommand (with_subcommand (with_subcommand (with_subcommand (with_subcommand (with_subcommand exact_program
+    values.top) (one_stream (codes "types")).top) (one_stream (codes "why")).top) explain.top)
+    (one_stream (codes "salvage")).top) (new_app (codes "version")).top
 
 -- ---- what they say
 

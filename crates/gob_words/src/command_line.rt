@@ -22,7 +22,9 @@ pub(crate) fn program<'a>(alloc: Global) -> Result<Command<'a>, AllocError>
     let why = one_stream(alloc, "why", help::WHY, help::DEPTH, help::FILE);
     let telling = with_command(typing, why)?;
     let explaining = with_command(telling, explain(alloc))?;
-    explaining.subcommand(Command::new(alloc, "version").about(help::NAME_AND_VERSION))
+    let salvage = one_stream(alloc, "salvage", help::SALVAGE, help::DEPTH, help::FILE);
+    let salvaging = with_command(explaining, salvage)?;
+    salvaging.subcommand(Command::new(alloc, "version").about(help::NAME_AND_VERSION))
 }
 
 // The command that shows values, with its flags behind the options that other commands have too.

@@ -24,6 +24,9 @@ pub(crate) const WHY: &str = "Say why a stream is refused, and what to do, or ho
 
 pub(crate) const EXPLAIN: &str = "Print the bytes of a stream row by row, each with what it is";
 
+pub(crate) const SALVAGE: &str =
+    "Write what isn't damaged of a stream as one stream, and say what is left out";
+
 pub(crate) const NAME_AND_VERSION: &str = "Print the program's name and version";
 
 /// Their options and files.
@@ -65,7 +68,7 @@ Example:
 
 Exit status:
   0  the whole input is a stream, or help was asked for
-  1  the input is refused, or a value's type doesn't match the wanted type
+  1  the input is refused or damaged, or has a value that doesn't match WANTED
   2  bad arguments, a file that isn't opened, a failed read or write, no memory
 
 A fault is told in one line on standard error: the number and the name of the

@@ -23,6 +23,8 @@ pub enum ViewCommand {
     Why,
     /// The bytes, row by row, each with what it is.
     Explain,
+    /// What isn't damaged of a stream, in its own bytes, as one stream.
+    Salvage,
     /// The program's name and version.
     Version,
     /// Each item of a stream of Go's encoder as a line of JSON, with what interfaces hold.

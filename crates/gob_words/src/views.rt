@@ -98,6 +98,7 @@ fn command_of(name: &str) -> Option<ViewCommand>
         "types" => Some(ViewCommand::Types),
         "why" => Some(ViewCommand::Why),
         "explain" => Some(ViewCommand::Explain),
+        "salvage" => Some(ViewCommand::Salvage),
         "version" => Some(ViewCommand::Version),
         "show" => Some(ViewCommand::ShowGo),
         "check" => Some(ViewCommand::CheckGo),
@@ -119,6 +120,7 @@ fn is_asked(command: ViewCommand, go: Option<&str>, hoist: Option<&str>) -> bool
         | ViewCommand::Types
         | ViewCommand::Why
         | ViewCommand::Explain
+        | ViewCommand::Salvage
         | ViewCommand::Version => true,
     }
 }
@@ -132,6 +134,7 @@ fn is_fault_asked(command: ViewCommand, value: Option<&str>) -> bool
         ViewCommand::Values
         | ViewCommand::Types
         | ViewCommand::Why
+        | ViewCommand::Salvage
         | ViewCommand::Version
         | ViewCommand::ShowGo
         | ViewCommand::CheckGo
@@ -149,6 +152,7 @@ fn is_hoist_asked(command: ViewCommand, value: Option<&str>) -> bool
         | ViewCommand::Types
         | ViewCommand::Why
         | ViewCommand::Explain
+        | ViewCommand::Salvage
         | ViewCommand::Version
         | ViewCommand::ShowGo
         | ViewCommand::CheckGo => false,
@@ -165,6 +169,7 @@ fn place_of(command: ViewCommand, word: Option<&str>) -> Option<Option<u64>>
         ViewCommand::Values
         | ViewCommand::Types
         | ViewCommand::Why
+        | ViewCommand::Salvage
         | ViewCommand::Version
         | ViewCommand::ShowGo
         | ViewCommand::CheckGo
@@ -195,6 +200,7 @@ fn is_given(command: ViewCommand, value: Option<&str>) -> bool
         ViewCommand::Types
         | ViewCommand::Why
         | ViewCommand::Explain
+        | ViewCommand::Salvage
         | ViewCommand::Version
         | ViewCommand::ShowGo
         | ViewCommand::CheckGo

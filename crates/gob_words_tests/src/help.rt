@@ -42,6 +42,7 @@ Usage: gob <COMMAND>
   types 
   why 
   explain 
+  salvage 
   version 
   help 
   -V, --version

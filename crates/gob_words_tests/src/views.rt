@@ -24,6 +24,10 @@ types f --depth=999
 Types Some("f") 999 67108864 None
 why f --depth=1 --item 7
 Why Some("f") 1 7 None
+salvage
+Salvage None 1000 67108864 None
+salvage - --item 7 --depth 9
+Salvage None 9 7 None
 version
 Version None 1000 67108864 None
 --version

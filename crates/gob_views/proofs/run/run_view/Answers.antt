@@ -73,6 +73,21 @@ returns-in-RewriteGo-clause-shows g c = λ bytes known.
     subst (λ x. CommandAnswers x view bytes next old new c.run_rewrite_go.result) (sym c.in-RewriteGo.is)
     (rewritten bytes known)
 
+pub returns-in-Salvage-clause-shows : goal.returns-in-Salvage-clause-shows
+returns-in-Salvage-clause-shows g c = λ bytes known.
+    let old = g.W.Write.contents (writer_of c.args.output.now) in
+    let new = g.W.Write.contents (writer_of c.run_salvage.new.output) in
+    let next = g.R.Read.remaining (reader_of c.run_salvage.new.input) in
+    let view = c.args.view.now in
+    let kept = rw (c.limits_of-in-Salvage.ensures, within_view view) at c.run_salvage.ensures.kept in
+    subst (λ x. CommandAnswers x view bytes next old new c.run_salvage.result) (sym c.in-Salvage.is)
+    (c.run_salvage.new.told, kept bytes known)
+
+pub returns-in-Salvage-clause-told : goal.returns-in-Salvage-clause-told
+returns-in-Salvage-clause-told g c = λ bytes known is.
+    let kept = rw (c.limits_of-in-Salvage.ensures, within_view c.args.view.now) at c.run_salvage.ensures.kept in
+    kept bytes known
+
 pub returns-in-Version-clause-shows : goal.returns-in-Version-clause-shows
 returns-in-Version-clause-shows g c = λ bytes known.
     let old = g.W.Write.contents (writer_of c.args.output.now) in

@@ -17,7 +17,9 @@ returns c =
     ∙ ap (λ (x : App). with_subcommand x (one_stream (codes "why")).top) typing in
     let explaining = c.in_ok-explaining.ensures explain c.explain.ensures.app
     ∙ ap (λ (x : App). with_subcommand x explain.top) telling in
+    let salvaging = c.in_ok-salvaging.ensures (one_stream (codes "salvage")) c.one_stream-salvage.ensures.app
+    ∙ ap (λ (x : App). with_subcommand x (one_stream (codes "salvage")).top) explaining in
     let version = ap app_of_fields c.about.ensures ∙ c.new.ensures.app in
     IfOk-weaker c.subcommand.result _ _ (λ r added. added.shape (ap (λ f. f.has_globals) c.about.ensures
     ∙ c.new.ensures.local)
-    ∙ ap₂ with_subcommand explaining (ap (λ (x : App). x.top) version)) c.subcommand.ensures
+    ∙ ap₂ with_subcommand salvaging (ap (λ (x : App). x.top) version)) c.subcommand.ensures

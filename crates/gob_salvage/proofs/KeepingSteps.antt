@@ -1,0 +1,465 @@
+-- What is kept, item by item, and what is left out.
+use Rattle.std.proofs.Common.{◌≡◌, ℕ, ◌+◌, ◌-◌, ◌<◌, ◌≤◌, List, [], ◌∷◌, ◌++◌, length, take, drop}
+use Rattle.std.proofs.Common.{arith, refl, sym, ap, ◌∙◌, subst, append_assoc, length-append, length-drop}
+use Rattle.std.proofs.Common.{drop_of_length-le}
+use Rattle.std.proofs.lemmas.List.{append-nil, drop-drop, length-take-le, take-append-drop, take_rest}
+use Rattle.gob_types.specs.declared.reason.Reason.TheVariants as reason
+use Rattle.gob_types.specs.Base.{base_table}
+use Rattle.gob_types.specs.Defined.{IsTable, definition_count, types}
+use Rattle.gob_types.specs.Table.{Table}
+use Rattle.gob_stream.specs.Bounds.{Bounds, within_trees}
+use Rattle.gob_stream.specs.Devices.{counts_up}
+use Rattle.gob_stream.specs.Refusing.{refuses}
+use Rattle.gob_stream.specs.declared.fault.Refusal.{Refusal}
+use Rattle.gob_filled.specs.Outcome.{EndsFilled, Ending, at_the_end, next_refused, refused, within_an_item}
+use Rattle.gob_filled.specs.Stream.{FilledItem, IsFilledItem, FilledStream, AreFilledItems, no_more, and_then}
+use Rattle.gob_go.specs.Calls.Session.{HasRead, IsBetweenItems, ReadsItems, limits_of, table_of, types_of}
+use Rattle.gob_go.specs.Machine.SessionState.{SessionState}
+use Rattle.gob_go.proofs.FeedSteps.{rest_of}
+use Rattle.gob_go.proofs.GoReaderLaws.{table_between}
+use Rattle.gob_go.proofs.ItemsLaws.{item_ends, item_grown, last_of, one_more, one_reading}
+use Rattle.gob_salvage.specs.declared.gap.Gap.{Gap}
+use Rattle.gob_salvage.specs.Keeping.{GoesOn, HasKept, HasKeptWith, IsRefusedNext, KeepsMore}
+use Rattle.gob_salvage.specs.declared.keeping.Keeper.{Keeper}
+use Rattle.gob_stream.specs.declared.values.Passed.{Passed}
+use Rattle.gob_salvage.specs.Salvage.{Salvages, nothing_is_left, keeps, leaves_out, NoItemNext, IsSalvage}
+use Rattle.gob_salvage.specs.Salvage.{RefusesHere, for_bytes, for_the_end}
+use Rattle.gob_salvage.specs.Taking.{HasReadAll, NotesItem, OneMore, ReadsOne, RefusesNext, noted, nothing_new}
+use Rattle.gob_salvage.proofs.PassingSteps.{between_still, none_passed, passed_items, passed_some}
+use Rattle.gob_salvage.proofs.SalvageLaws.{item_moved, items_moved, same_items}
+use Rattle.gob_salvage.proofs.TakingSteps.{between_stream, new_between}
+
+-- ---- nothing yet
+only_base : {L : Bounds} {b : List ℕ} {T : Table} → FilledStream base_table L [] b T → T ≡ base_table
+only_base no_more = refl
+
+pub keep_start : {s : SessionState} {L : Bounds} {out defs : List ℕ} {gaps : List Gap} (bytes : List ℕ)
+    → HasRead s [] [] → within_trees (limits_of s) ≡ L → out ≡ [] → gaps ≡ [] → length bytes ≤ L.stream → defs ≡ []
+    → HasKept L s bytes 0 0 0 out defs gaps
+keep_start {s = s} {L = L} {out = out} {gaps = gaps} bytes a l none no_gaps small no_defs = record {
+  items = [];
+  own = [];
+  read = [];
+  has = a;
+  between = new_between a;
+  limits = l;
+  ahead_is = refl;
+  few_read = omega arith;
+  defining = [];
+  defines = subst (λ (d : List ℕ). FilledStream base_table L [] d (types_of s)) (sym no_defs)
+      (subst (λ (T : Table). FilledStream base_table L [] [] T)
+      (sym (only_base a.stream) ∙ table_between a (new_between a)) no_more);
+  few_defs = omega (arith, ap length no_defs);
+  few_out = omega (arith, ap length none);
+  small = small;
+  counted = refl;
+  few = omega arith;
+  within = omega arith;
+  on = λ T more rest others h.
+      subst (λ (o : List ℕ). Salvages L base_table 0 0 bytes more (o ++ rest) (gaps ++ others) T) (sym none)
+      (subst (λ (g : List Gap). Salvages L base_table 0 0 bytes more rest (g ++ others) T) (sym no_gaps)
+      (subst (λ (n : ℕ). Salvages L base_table n 0 bytes more rest others T) (ap length none)
+      (subst (λ (U : Table). Salvages L U (length out) 0 bytes more rest others T)
+      (sym (table_between a (new_between a)) ∙ only_base a.stream) h)));
+}
+
+-- the item that was read continues what was kept
+continues : {s s' : SessionState} {items : List FilledItem} {out b : List ℕ} → (a : HasRead s items out)
+    → IsBetweenItems s → (m : OneMore s' items (out ++ b)) → IsBetweenItems s' → limits_of s' ≡ limits_of s
+    → IsFilledItem base_table (within_trees (limits_of s)) (types_of s) (length out) m.item b (types_of s')
+continues {s = s} {s' = s'} {items = items} {out = out} {b = b} a between m between' limits =
+    let L = within_trees (limits_of s) in
+    let old = between_stream a between in
+    let new = subst (λ (M : Bounds). FilledStream base_table (within_trees M) (items ++ m.item ∷ []) (out ++ b)
+    (types_of s')) limits (between_stream m.after between') in
+    let last = last_of items new in
+    let one = one_reading b last.bytes old last.items_are last.whole in
+    subst (λ (c : List ℕ). IsFilledItem base_table L (types_of s) (length out) m.item c (types_of s')) (sym one.rest)
+    (subst (λ (c : List ℕ). IsFilledItem base_table L (types_of s) (length c) m.item last.bytes (types_of s'))
+    (sym one.bytes)
+    (subst (λ (T : Table). IsFilledItem base_table L T (length last.before) m.item last.bytes (types_of s'))
+    (sym one.table)
+    (subst (λ n. IsFilledItem base_table L last.table n m.item last.bytes (types_of s')) (omega arith) last.item)))
+
+-- the types are the same where no definition came, else the item is noted
+same_types : {L : Bounds} {T U : Table} {offset : ℕ} {i : FilledItem} {b : List ℕ} → IsTable T
+    → IsFilledItem base_table L T offset i b U → definition_count U ≡ definition_count T → U ≡ T
+same_types {T = T} k i e =
+    let g = item_grown i in
+    let base = length-append base_table k.definitions in
+    let none : length g.more ≡ 0 = omega (arith, ap length g.grown, length-append T g.more, ap length k.behind_base) in
+    g.grown ∙ ap (λ (m : Table). T ++ m) (no_more_types g.more none) ∙ append-nil T
+  where
+    no_more_types : (m : Table) → length m ≡ 0 → m ≡ []
+    no_more_types [] e = refl
+    no_more_types (x ∷ m) e = absurd (omega arith)
+
+record Defining (L : Bounds) (T : Table) (defs : List ℕ) : Type 0 where
+  items : List FilledItem
+  stream : FilledStream base_table L items defs T
+
+defines_on : {L : Bounds} {T U : Table} {before after offset : ℕ} {i : FilledItem} {b defs defs' : List ℕ}
+    (items : List FilledItem) → IsTable T → before ≡ definition_count T → after ≡ definition_count U
+    → IsFilledItem base_table L T offset i b U → FilledStream base_table L items defs T
+    → length defs + length b ≤ L.stream → NotesItem before after defs defs' b → Defining L U defs'
+defines_on {L = L} {T = T} {U = U} {defs = defs} items k p q i s l (nothing_new e same) =
+    let types = same_types k i (sym q ∙ e ∙ p) in
+    record {
+      items = items;
+      stream = subst (λ (d : List ℕ). FilledStream base_table L items d U) (sym same)
+          (subst (λ (T : Table). FilledStream base_table L items defs T) (sym types) s);
+    }
+defines_on {L = L} {U = U} {i = i} {b = b} {defs = defs} items k p q h s l (noted e) = record {
+  items = items ++ i ∷ [];
+  stream = subst (λ (d : List ℕ). FilledStream base_table L (items ++ i ∷ []) d U) (sym e)
+      (one_more s (omega arith) (item_moved (length defs) h l));
+}
+
+notes_few : {before after m : ℕ} {old new z : List ℕ} → NotesItem before after old new z → length old ≤ m
+    → length new ≤ m + length z
+notes_few (nothing_new e same) l = omega (arith, ap length same)
+notes_few {old = old} {z = z} (noted e) l = omega (arith, ap length e, length-append old z)
+
+pub keep_on : {s s' : SessionState} {L : Bounds} {at ahead count used before after : ℕ}
+    {out out' defs defs' : List ℕ} {gaps : List Gap} (bytes : List ℕ) → HasKept L s bytes at ahead count out defs gaps
+    → ReadsOne s s' (take used (rest_of bytes at)) → IsBetweenItems s' → limits_of s' ≡ limits_of s → 0 < used
+    → used ≤ length (rest_of bytes at) → out' ≡ out ++ take used (rest_of bytes at) → IsTable (types_of s)
+    → before ≡ definition_count (types_of s) → after ≡ definition_count (types_of s')
+    → NotesItem before after defs defs' (take used (rest_of bytes at))
+    → HasKept L s' bytes (at + used) ahead (count + 1) out' defs' gaps
+keep_on {s = s} {s' = s'} {L = L} {at = at} {count = count} {used = used} {out = out} {out' = out'} {defs = defs}
+    {gaps = gaps} bytes h f between limits some few is table p q notes =
+    let b = take used (rest_of bytes at) in
+    let m = f h.own h.read h.has in
+    let w = h.within in let n = h.few in let k = h.counted in let r = h.few_read in let o = h.few_out in
+    let d = h.few_defs in let small = h.small in
+    let size : length b ≡ used = length-take-le used (rest_of bytes at) few in
+    let rest = ap length (take_rest bytes at) in
+    let here : at + used ≤ length bytes = omega (arith, rest, length-drop at bytes) in
+    let own = subst (λ (M : Bounds). IsFilledItem base_table M (types_of s) (length h.read) m.item b (types_of s'))
+    h.limits (continues h.has h.between m between limits) in
+    let there = item_moved (length out) own (omega arith) in
+    let noted = defines_on h.defining table p q own h.defines (omega arith) notes in
+    let all : b ++ drop (at + used) bytes ≡ drop at bytes =
+    ap (λ (l : List ℕ). take used l ++ drop (at + used) bytes) (take_rest bytes at)
+    ∙ ap (λ (l : List ℕ). take used (drop at bytes) ++ l) (sym (drop-drop used at bytes ∙ ap (λ n. drop n bytes)
+    (omega arith)))
+    ∙ take-append-drop used (drop at bytes) in
+    let long : length out' ≡ length out + length b = ap length is ∙ length-append out b in
+    record {
+      items = h.items ++ m.item ∷ [];
+      own = h.own ++ m.item ∷ [];
+      read = h.read ++ b;
+      has = m.after;
+      between = between;
+      limits = ap (λ M. within_trees M) limits ∙ h.limits;
+      ahead_is = let l = h.ahead_is in omega (arith, length-append h.read b);
+      few_read = omega (arith, length-append h.read b);
+      defining = noted.items;
+      defines = noted.stream;
+      few_defs = let l = notes_few notes h.few_defs in omega arith;
+      few_out = omega arith;
+      small = h.small;
+      counted = omega (arith, length-append h.items (m.item ∷ []));
+      few = omega arith;
+      within = here;
+      on = λ T more rest others S.
+          subst (λ (i : List FilledItem). Salvages L base_table 0 0 bytes i (out' ++ rest) (gaps ++ others) T)
+          (sym (append_assoc h.items (m.item ∷ []) more))
+          (subst (λ (o : List ℕ). Salvages L base_table 0 0 bytes (h.items ++ m.item ∷ more) o (gaps ++ others) T)
+          (sym (ap (λ (o : List ℕ). o ++ rest) is ∙ append_assoc out b rest))
+          (h.on T (m.item ∷ more) (b ++ rest) others
+          (subst (λ (z : List ℕ). Salvages L (types_of s) (length out) at z (m.item ∷ more) (b ++ rest) others T) all
+          (keeps there long (omega arith) S))));
+    }
+
+-- where they are refused, some bytes are left out
+none_next : {s : SessionState} {items : List FilledItem} {out z : List ℕ} {R : Refusal} → (a : HasRead s items out)
+    → IsBetweenItems s → RefusesNext s z R → NoItemNext (within_trees (limits_of s)) (types_of s) (length out) z
+none_next {items = items} {out = out} a between f i U b y h e =
+    let l = (f items out a).gives.longest (items ++ i ∷ []) (record {
+      prefix = out ++ b;
+      rest = y;
+      table = U;
+      stream = one_more (between_stream a between) (omega arith) h;
+      whole = ap (λ (l : List ℕ). out ++ l) e ∙ sym (append_assoc out b y);
+    }) in
+    omega (arith, length-append items (i ∷ []))
+
+-- for a reason
+refused_here : {L : Bounds} {T : Table} {items : List FilledItem} {out : List ℕ} {e : Ending} (z : List ℕ)
+    (R : Refusal) → FilledStream base_table L items out T → EndsFilled base_table L (out ++ z) items e → e ≡ refused R
+    → RefusesHere L T (length out) z R
+refused_here z R s (at_the_end h) e = absurd (cc)
+refused_here {L = L} {T = T} {out = out} z R s (next_refused {f = f} {T = U} {R = S} y h e r) is =
+    let one = one_reading z y s h e in
+    let same : S ≡ R = cc in
+    subst (λ R. RefusesHere L T (length out) z R) same
+    (subst (λ T. RefusesHere L T (length out) z S) (sym one.table)
+    (subst (λ (o : List ℕ). RefusesHere L U (length o) z S) (sym one.bytes)
+    (subst (λ (w : List ℕ). RefusesHere L U (length f) w S) (sym one.rest) (for_bytes r))))
+refused_here {L = L} {T = T} {out = out} z R s (within_an_item {f = f} {T = U} y h e some none) is =
+    let one = one_reading z y s h e in
+    let here : RefusesHere L U (length f) y (refuses (length f + length y) (length f + length y) reason.Ended) =
+    for_the_end some none in
+    let moved = subst (λ T. RefusesHere L T (length out) z (refuses (length out + length z) (length out + length z)
+    reason.Ended)) (sym one.table)
+    (subst (λ (o : List ℕ). RefusesHere L U (length o) z (refuses (length o + length z) (length o + length z)
+    reason.Ended)) (sym one.bytes)
+    (subst (λ (w : List ℕ). RefusesHere L U (length f) w (refuses (length f + length w) (length f + length w)
+    reason.Ended)) (sym one.rest) here)) in
+    let there : refuses (length out + length z) (length out + length z) reason.Ended ≡ R =
+    ap (λ n. refuses n n reason.Ended) (sym (length-append out z)) ∙ the_refusal is in
+    subst (λ R. RefusesHere L T (length out) z R) there moved
+  where
+    the_refusal : {S R : Refusal} → refused S ≡ refused R → S ≡ R
+    the_refusal e = cc
+
+pub leave_on : {s s' : SessionState} {L : Bounds} {at ahead next count : ℕ} {out defs : List ℕ} {gaps : List Gap}
+    {R : Refusal} (bytes : List ℕ) (g : Gap) → HasKept L s bytes at ahead count out defs gaps
+    → RefusesNext s (drop at bytes) R → at < next → next ≤ length bytes → HasReadAll s' defs
+    → within_trees (limits_of s') ≡ L → g.begin ≡ at → g.end ≡ next → g.reason ≡ R.reason
+    → g.place ≡ counts_up R.place ahead
+    → HasKept L s' bytes next (next - length defs) count out defs (gaps ++ g ∷ [])
+leave_on {s = s} {s' = s'} {L = L} {at = at} {ahead = ahead} {next = next} {count = count} {out = out} {defs = defs}
+    {gaps = gaps} {R = R} bytes g h f some within r limits begins ends why place =
+    let d = take (next - at) (drop at bytes) in
+    let n = h.few in let k = h.counted in let w = h.within in let o = h.few_out in let q = h.few_read in
+    let fd = h.few_defs in
+    let size : length d ≡ next - at = length-take-le (next - at) (drop at bytes) (omega (arith, length-drop at bytes))
+    in
+    let all : d ++ drop next bytes ≡ drop at bytes =
+    ap (λ (l : List ℕ). d ++ l) (sym (drop-drop (next - at) at bytes ∙ ap (λ n. drop n bytes) (omega arith)))
+    ∙ take-append-drop (next - at) (drop at bytes) in
+    let new = subst (λ (M : Bounds). FilledStream base_table M r.items defs (types_of s')) limits
+    (between_stream r.has r.between) in
+    let same : r.items ≡ h.defining = same_items new h.defines refl in
+    let again = subst (λ (i : List FilledItem). FilledStream base_table L i defs (types_of s')) same new in
+    let table : types_of s' ≡ types_of s = (one_reading [] [] again h.defines refl).table in
+    let own = subst (λ (M : Bounds). NoItemNext M (types_of s) (length h.read) (d ++ drop next bytes)) h.limits
+    (subst (λ (z : List ℕ). NoItemNext (within_trees (limits_of s)) (types_of s) (length h.read) z)
+    (sym all) (none_next h.has h.between f)) in
+    let here = refused_here (drop at bytes) R (between_stream h.has h.between) (f h.own h.read h.has).ends refl in
+    let refuses = subst (λ (M : Bounds). RefusesHere M (types_of s) (length h.read) (d ++ drop next bytes) R) h.limits
+    (subst (λ (z : List ℕ). RefusesHere (within_trees (limits_of s)) (types_of s) (length h.read) z R) (sym all) here)
+    in
+    let moved : ahead ≡ g.begin - length h.read = let l = h.ahead_is in omega arith in
+    record {
+      items = h.items;
+      own = r.items;
+      read = defs;
+      has = r.has;
+      between = r.between;
+      limits = limits;
+      ahead_is = omega arith;
+      few_read = h.few_defs;
+      defining = h.defining;
+      defines = again;
+      few_defs = h.few_defs;
+      few_out = omega arith;
+      small = h.small;
+      counted = h.counted;
+      few = omega arith;
+      within = within;
+      on = λ T more rest others S.
+          subst (λ (g : List Gap). Salvages L base_table 0 0 bytes (h.items ++ more) (out ++ rest) g T)
+          (sym (append_assoc gaps (g ∷ []) others))
+          (h.on T more rest (g ∷ others)
+          (subst (λ (z : List ℕ). Salvages L (types_of s) (length out) at z more rest (g ∷ others) T) all
+          (leaves_out d (omega arith)
+          (λ i U b y p. own i U b y (item_moved (length h.read) p (let e = item_ends p in omega arith)))
+          (record {
+            behind = length h.read;
+            few = h.few_read;
+            refusal = R;
+            refuses = refuses;
+            reason_is = why;
+            place_is = place ∙ ap (λ n. counts_up R.place n) moved;
+          })
+          begins ends (omega arith)
+          (subst (λ (U : Table). Salvages L U (length out) next (drop next bytes) more rest others T) table S))));
+    }
+
+pub keep_end : {s : SessionState} {L : Bounds} {at ahead count : ℕ} {out defs : List ℕ} {gaps : List Gap}
+    (bytes : List ℕ) → HasKept L s bytes at ahead count out defs gaps → length bytes ≤ at → IsSalvage L bytes count out
+    gaps
+keep_end {s = s} {L = L} {at = at} {out = out} {gaps = gaps} bytes h l =
+    record {
+      items = h.items;
+      table = types_of s;
+      salvages = subst (λ (i : List FilledItem). Salvages L base_table 0 0 bytes i out gaps (types_of s))
+          (append-nil h.items)
+          (subst (λ (o : List ℕ). Salvages L base_table 0 0 bytes (h.items ++ []) o gaps (types_of s)) (append-nil out)
+          (subst (λ (g : List Gap). Salvages L base_table 0 0 bytes (h.items ++ []) (out ++ []) g (types_of s))
+          (append-nil gaps)
+          (h.on (types_of s) [] [] []
+          (subst (λ (z : List ℕ). Salvages L (types_of s) (length out) at z [] [] [] (types_of s))
+          (sym (drop_of_length-le bytes l)) nothing_is_left))));
+      counted = h.counted;
+    }
+
+-- ---- values that are passed
+keeps_all : {L : Bounds} {T U V : Table} {kept next offset on : ℕ} {items more : List FilledItem}
+    {b z rest : List ℕ} {gaps : List Gap} → AreFilledItems base_table L T kept items b U → next ≡ kept + length b
+    → on ≡ offset + length b → Salvages L U next on z more rest gaps V
+    → Salvages L T kept offset (b ++ z) (items ++ more) (b ++ rest) gaps V
+keeps_all {L = L} {V = V} {next = next} {offset = offset} {more = more} {z = z} {rest = rest} {gaps = gaps}
+    (no_more {T = T}) k o S =
+    subst (λ n. Salvages L T n offset z more rest gaps V) (omega arith)
+    (subst (λ n. Salvages L T next n z more rest gaps V) (omega arith) S)
+keeps_all {L = L} {T = T} {V = V} {kept = kept} {offset = offset} {more = more} {z = z} {rest = rest} {gaps = gaps}
+    (and_then {i = i} {items = items} {b = b} {c = c} h n is) k o S =
+    subst (λ (l : List ℕ). Salvages L T kept offset l (i ∷ (items ++ more)) ((b ++ c) ++ rest) gaps V)
+    (sym (append_assoc b c z))
+    (subst (λ (l : List ℕ). Salvages L T kept offset (b ++ (c ++ z)) (i ∷ (items ++ more)) l gaps V)
+    (sym (append_assoc b c rest))
+    (keeps {on = offset + length b} h n refl (keeps_all is (omega (arith, length-append b c))
+    (omega (arith, length-append b c)) S)))
+
+pub pass_on : {s s' : SessionState} {L : Bounds} {at ahead count used more : ℕ} {out out' defs : List ℕ}
+    {gaps : List Gap} (bytes : List ℕ) → HasKept L s bytes at ahead count out defs gaps → ReadsItems s s' more used
+    (rest_of bytes at)
+    → IsBetweenItems s' → limits_of s' ≡ limits_of s → table_of s' ≡ table_of s
+    → out' ≡ out ++ take used (rest_of bytes at) → HasKept L s' bytes (at + used) ahead (count + more) out' defs gaps
+pass_on {s = s} {s' = s'} {L = L} {at = at} {count = count} {used = used} {out = out} {out' = out'} {defs = defs}
+    {gaps = gaps} bytes h p between limits table is =
+    let b = take used (rest_of bytes at) in
+    let own = subst (λ (M : Bounds). AreFilledItems base_table M (types_of s) (length h.read) p.given b (types_of s'))
+    h.limits (passed_items h.has h.between p between limits) in
+    let w = h.within in let n = h.few in let k = h.counted in let q = p.within in let g = p.counted in
+    let r = h.few_read in let o = h.few_out in let d = h.few_defs in let small = h.small in
+    let some = passed_some h.has h.between p between limits in
+    let size : length b ≡ used = length-take-le used (rest_of bytes at) p.within in
+    let rest = ap length (take_rest bytes at) in
+    let here : at + used ≤ length bytes = omega (arith, rest, length-drop at bytes) in
+    let there = items_moved (length out) own (omega arith) in
+    let all : b ++ drop (at + used) bytes ≡ drop at bytes =
+    ap (λ (l : List ℕ). take used l ++ drop (at + used) bytes) (take_rest bytes at)
+    ∙ ap (λ (l : List ℕ). take used (drop at bytes) ++ l) (sym (drop-drop used at bytes ∙ ap (λ n. drop n bytes)
+    (omega arith)))
+    ∙ take-append-drop used (drop at bytes) in
+    let long : length out' ≡ length out + length b = ap length is ∙ length-append out b in
+    record {
+      items = h.items ++ p.given;
+      own = h.own ++ p.given;
+      read = h.read ++ b;
+      has = p.passed h.own h.read h.has;
+      between = between;
+      limits = ap (λ M. within_trees M) limits ∙ h.limits;
+      ahead_is = let l = h.ahead_is in omega (arith, length-append h.read b);
+      few_read = omega (arith, length-append h.read b);
+      defining = h.defining;
+      defines = subst (λ (T : Table). FilledStream base_table L h.defining defs T) (sym (ap (λ d. types d) table))
+          h.defines;
+      few_defs = omega arith;
+      few_out = omega arith;
+      small = h.small;
+      counted = omega (arith, length-append h.items p.given);
+      few = omega arith;
+      within = here;
+      on = λ T others rest gs S.
+          subst (λ (i : List FilledItem). Salvages L base_table 0 0 bytes i (out' ++ rest) (gaps ++ gs) T)
+          (sym (append_assoc h.items p.given others))
+          (subst (λ (o : List ℕ). Salvages L base_table 0 0 bytes (h.items ++ (p.given ++ others)) o (gaps ++ gs) T)
+          (sym (ap (λ (o : List ℕ). o ++ rest) is ∙ append_assoc out b rest))
+          (h.on T (p.given ++ others) (b ++ rest) gs
+          (subst (λ (z : List ℕ). Salvages L (types_of s) (length out) at z (p.given ++ others) (b ++ rest) gs T) all
+          (keeps_all there long (omega arith) S))));
+    }
+
+pub pass_few : {s s' : SessionState} {L : Bounds} {at ahead count used more : ℕ} {out defs : List ℕ} {gaps : List Gap}
+    (bytes : List ℕ) → HasKept L s bytes at ahead count out defs gaps → ReadsItems s s' more used (rest_of bytes at)
+    → IsBetweenItems s' → limits_of s' ≡ limits_of s → (more ≤ used) × (at + used ≤ length bytes)
+pass_few {at = at} bytes h p between limits =
+    let q = p.within in let w = h.within in (
+      passed_some h.has h.between p between limits,
+      omega (arith, ap length (take_rest bytes at), length-drop at bytes),
+    )
+
+-- no value was passed
+pub still_kept : {s s' : SessionState} {L : Bounds} {at ahead count used more : ℕ} {out defs : List ℕ}
+    {gaps : List Gap} (bytes piece : List ℕ) → HasKept L s bytes at ahead count out defs gaps → ReadsItems s s' more
+    used piece → more ≡ 0
+    → limits_of s' ≡ limits_of s → table_of s' ≡ table_of s → HasKept L s' bytes at ahead count out defs gaps
+still_kept {s = s} {s' = s'} {L = L} {at = at} {out = out} {defs = defs} {gaps = gaps} bytes piece h p e limits table =
+    let b = none_passed piece p e h.has in
+    record {
+      items = h.items;
+      own = h.own;
+      read = h.read;
+      has = b;
+      between = between_still h.has h.between b limits;
+      limits = ap (λ M. within_trees M) limits ∙ h.limits;
+      ahead_is = h.ahead_is;
+      few_read = h.few_read;
+      defining = h.defining;
+      defines = subst (λ (T : Table). FilledStream base_table L h.defining defs T) (sym (ap (λ d. types d) table))
+          h.defines;
+      few_defs = h.few_defs;
+      few_out = h.few_out;
+      small = h.small;
+      counted = h.counted;
+      few = h.few;
+      within = h.within;
+      on = λ T more rest others S. h.on T more rest others
+          (subst (λ (U : Table). Salvages L U (length out) at (drop at bytes) more rest others T)
+          (ap (λ d. types d) table) S);
+    }
+
+-- ---- what the keeper has
+stands_so : {L : Bounds} {s s' : SessionState} {bytes out defs defs' : List ℕ} {at at' ahead ahead' count count' : ℕ}
+    {gaps gaps' : List Gap} → HasKept L s bytes at ahead count out defs gaps → s' ≡ s → at' ≡ at → ahead' ≡ ahead
+    → count' ≡ count → defs' ≡ defs → gaps' ≡ gaps → HasKept L s' bytes at' ahead' count' out defs' gaps'
+stands_so {L = L} {s = s} {bytes = bytes} {out = out} {defs = defs} {defs' = defs'} {at = at} {at' = at'}
+    {ahead = ahead} {ahead' = ahead'} {count = count} {count' = count'} {gaps' = gaps'} h session place before items
+    defining left =
+    subst (λ s. HasKept L s bytes at' ahead' count' out defs' gaps') (sym session)
+    (subst (λ n. HasKept L s bytes n ahead' count' out defs' gaps') (sym place)
+    (subst (λ n. HasKept L s bytes at n count' out defs' gaps') (sym before)
+    (subst (λ n. HasKept L s bytes at ahead n out defs' gaps') (sym items)
+    (subst (λ (d : List ℕ). HasKept L s bytes at ahead count out d gaps') (sym defining)
+    (subst (λ (g : List Gap). HasKept L s bytes at ahead count out defs g) (sym left) h)))))
+
+-- it goes on from wherever it stood at the same place
+pub goes_from : {L : Bounds} {j k k' : Keeper} {bytes : List ℕ} → j.at ≡ k.at → GoesOn L k k' bytes
+    → GoesOn L j k' bytes
+goes_from same g = record { keeping = g.keeping; further = let f = g.further in omega arith }
+
+pub values_kept : {L : Bounds} {s : SessionState} {k k' : Keeper} {passed : Passed} (bytes : List ℕ)
+    → HasKeptWith L s k bytes → ReadsItems s k.session passed.items passed.used (rest_of bytes k.at)
+    → IsBetweenItems k.session → limits_of k.session ≡ limits_of s → table_of k.session ≡ table_of s
+    → 0 < passed.items → KeepsMore k k' passed (take passed.used (rest_of bytes k.at)) → GoesOn L k k' bytes
+values_kept bytes h p between limits table some m = record {
+  keeping = stands_so (pass_on bytes h p between limits table m.bytes) m.session m.at m.ahead m.items
+      (ap (λ v. v.items) m.defining) (ap (λ v. v.items) m.gaps);
+  further = let few = passed_some h.has h.between p between limits in let place = m.at in omega arith;
+}
+
+pub item_kept : {L : Bounds} {s : SessionState} {k k' : Keeper} {passed : Passed} {before after : ℕ} {defs : List ℕ}
+    (bytes : List ℕ) → HasKept L s bytes k.at k.ahead k.kept.items k.kept.bytes.items defs k.kept.gaps.items
+    → ReadsOne s k.session (take passed.used (rest_of bytes k.at)) → IsBetweenItems k.session
+    → limits_of k.session ≡ limits_of s → 0 < passed.used → passed.used ≤ length (rest_of bytes k.at)
+    → passed.items ≡ 1 → IsTable (types_of s) → before ≡ definition_count (types_of s)
+    → after ≡ definition_count (types_of k.session)
+    → NotesItem before after defs k.defining.items (take passed.used (rest_of bytes k.at))
+    → KeepsMore k k' passed (take passed.used (rest_of bytes k.at)) → GoesOn L k k' bytes
+item_kept {k = k} bytes h f between limits some few one is p q notes m = record {
+  keeping = stands_so (keep_on bytes h f between limits some few m.bytes is p q notes) m.session m.at m.ahead
+      (m.items ∙ ap (λ n. k.kept.items + n) one) (ap (λ v. v.items) m.defining) (ap (λ v. v.items) m.gaps);
+  further = let place = m.at in omega arith;
+}
+
+pub gap_left : {L : Bounds} {k k' : Keeper} {next : ℕ} {R : Refusal} (bytes : List ℕ) (g : Gap)
+    → (h : IsRefusedNext L k bytes R) → k.at < next → next ≤ length bytes
+    → HasReadAll k'.session k.defining.items → within_trees (limits_of k'.session) ≡ L
+    → k'.kept.gaps.items ≡ k.kept.gaps.items ++ g ∷ [] → g.begin ≡ k.at → g.end ≡ next → g.reason ≡ R.reason
+    → g.place ≡ counts_up R.place k.ahead → k'.at ≡ next → k'.ahead ≡ next - length k.defining.items
+    → k'.kept.items ≡ k.kept.items → k'.kept.bytes ≡ k.kept.bytes → k'.defining ≡ k.defining → GoesOn L k k' bytes
+gap_left {L = L} {k' = k'} bytes g h some within read limits gaps begins ends why place at ahead items out defining =
+    record {
+      keeping = subst (λ (o : List ℕ). HasKept L k'.session bytes k'.at k'.ahead k'.kept.items o k'.defining.items
+          k'.kept.gaps.items) (sym (ap (λ v. v.items) out))
+          (stands_so (leave_on bytes g h.kept h.refused some within read limits begins ends why place) refl at ahead
+          items (ap (λ v. v.items) defining) gaps);
+      further = omega arith;
+    }

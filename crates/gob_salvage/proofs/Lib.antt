@@ -1,0 +1,5 @@
+pub mod KeepingSteps
+pub mod PassingSteps
+pub mod RunLaws
+pub mod SalvageLaws
+pub mod TakingSteps

@@ -1,0 +1,39 @@
+use Rattle.std.proofs.Common.{◌<◌, ◌+◌, ◌≤◌, arith, length, refl}
+use Rattle.std.proofs.lemmas.Result.{on_ok_weaker}
+use Rattle.gob_go.proofs.FeedSteps.{rest_of}
+use Rattle.gob_stream.specs.Bounds.{Bounds}
+use Rattle.gob_salvage.specs.Keeping.{IsKeeping}
+use Rattle.gob_salvage.proofs.KeepingSteps.{goes_from, pass_few, still_kept, values_kept}
+use Rattle.gob_salvage.proofs.keeping.Keeper.go_on.Goals as goal
+
+pub keep-requires-clause-few : goal.keep-requires-clause-few
+keep-requires-clause-few c =
+    let p = c.pass_values-passed.ensures in let h = c.requires.keeping.1 in
+    let few = pass_few c.args.bytes.now h p.passed (p.both (omega arith)).1 p.limits in
+    let some = few.0 in let within = few.1 in let items = h.few in omega arith
+
+pub keep-requires-clause-near : goal.keep-requires-clause-near
+keep-requires-clause-near c =
+    let p = c.pass_values-passed.ensures in let h = c.requires.keeping.1 in
+    let within = (pass_few c.args.bytes.now h p.passed (p.both (omega arith)).1 p.limits).1 in omega arith
+
+pub returns-then-passed-gt0 : goal.returns-then-passed-gt0
+returns-then-passed-gt0 c L h =
+    let p = c.pass_values-passed.ensures in
+    on_ok_weaker c.keep.result (λ m. goes_from refl (values_kept c.args.bytes.now h p.passed (p.both (omega arith)).1
+    p.limits p.types (omega arith) m)) c.keep.ensures
+
+pub take-requires-clause-keeping : goal.take-requires-clause-keeping
+take-requires-clause-keeping c =
+    let p = c.pass_values-passed.ensures in (
+      c.requires.keeping.0,
+      still_kept c.args.bytes.now (rest_of c.args.bytes.now c.args.self.now.at)
+          c.requires.keeping.1 p.passed (omega arith) p.limits p.types,
+    )
+
+pub returns : goal.returns
+returns c L h =
+    let p = c.pass_values-passed.ensures in
+    on_ok_weaker c.take.result (λ g. goes_from refl g) (c.take.ensures L
+    (still_kept c.args.bytes.now (rest_of c.args.bytes.now c.args.self.now.at) h p.passed (omega arith) p.limits
+    p.types))

@@ -1,0 +1,5 @@
+pub mod Salvage
+pub mod Laws
+pub mod Taking
+pub mod Keeping
+pub mod Running

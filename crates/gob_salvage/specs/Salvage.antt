@@ -1,0 +1,58 @@
+-- What is kept of bytes in which some are damaged: items that stand whole one behind another, under the definitions of
+-- those before them. Other bytes are left out, and only from a place on where no item stands that continues what was
+-- kept.
+-- (docs/FORMAT.md, What is kept of damaged bytes: this project's own.)
+use Rattle.std.specs.Prelude.{◌≡◌, ◌≢◌, ℕ, ◌+◌, ◌-◌, ◌<◌, ◌≤◌, List, [], ◌∷◌, ◌++◌, length}
+use Rattle.gob_types.specs.Base.{base_table}
+use Rattle.gob_types.specs.Table.{Table}
+use Rattle.gob_types.specs.declared.reason.Reason.TheVariants as reason
+use Rattle.gob_stream.specs.Bounds.{Bounds}
+use Rattle.gob_stream.specs.Devices.{counts_up}
+use Rattle.gob_stream.specs.Refusing as refusing
+use Rattle.gob_stream.specs.declared.fault.Refusal.{Refusal}
+use Rattle.gob_filled.specs.Outcome.{RefusesFilled}
+use Rattle.gob_filled.specs.Stream.{FilledItem, IsFilledItem}
+use Rattle.gob_salvage.specs.declared.gap.Gap.{Gap}
+
+-- no item stands at the front of the bytes that continues a stream of so many bytes, behind which the types are these
+abbrev pub NoItemNext : Bounds → Table → (kept : ℕ) → List ℕ → Type 0
+NoItemNext L T kept z = (i : FilledItem) (U : Table) (b y : List ℕ) → IsFilledItem base_table L T kept i b U
+    → ¬ (z ≡ b ++ y)
+
+-- these are all bytes that stand at the offset, behind a stream with these types: they are refused so, or end within an
+-- item
+pub data RefusesHere (L : Bounds) (T : Table) (offset : ℕ) (z : List ℕ) : Refusal → Type 0 where
+  for_bytes : {R : Refusal} → RefusesFilled base_table L T offset z R → RefusesHere L T offset z R
+  for_the_end : z ≢ [] → ((R : Refusal) → ¬ RefusesFilled base_table L T offset z R)
+      → RefusesHere L T offset z (refusing.refuses (offset + length z) (offset + length z) reason.Ended)
+
+-- why these bytes are left out where so many were kept: behind no more of them, with the same types, they are refused
+-- for this reason, and at this place but for where they begin
+pub record TellsWhy (L : Bounds) (T : Table) (kept : ℕ) (z : List ℕ) (g : Gap) : Type 0 where
+  pub behind : ℕ
+  pub few : behind ≤ kept
+  pub refusal : Refusal
+  pub refuses : RefusesHere L T behind z refusal
+  pub reason_is : g.reason ≡ refusal.reason
+  pub place_is : g.place ≡ counts_up refusal.place (g.begin - behind)
+
+-- from this offset of the bytes on, where so many bytes were kept before and the types are those of the first table:
+-- what is there, the items that are kept of it, their bytes, and what is left out, by offsets; the types behind them
+-- are those of the last table
+pub data Salvages (L : Bounds) : Table → (kept offset : ℕ) → (bytes : List ℕ) → List FilledItem
+    → (out : List ℕ) → List Gap → Table → Type 0 where
+  nothing_is_left : {T : Table} {kept offset : ℕ} → Salvages L T kept offset [] [] [] [] T
+  keeps : {T U V : Table} {kept offset next on : ℕ} {i : FilledItem} {items : List FilledItem} {b z out : List ℕ}
+      {gaps : List Gap} → IsFilledItem base_table L T kept i b U → next ≡ kept + length b → on ≡ offset + length b
+      → Salvages L U next on z items out gaps V → Salvages L T kept offset (b ++ z) (i ∷ items) (b ++ out) gaps V
+  leaves_out : {T V : Table} {kept offset on : ℕ} {items : List FilledItem} {z out : List ℕ} {gaps : List Gap} {g : Gap}
+      (d : List ℕ) → 0 < length d → NoItemNext L T kept (d ++ z) → TellsWhy L T kept (d ++ z) g
+      → g.begin ≡ offset → g.end ≡ on → on ≡ offset + length d → Salvages L T kept on z items out gaps V
+      → Salvages L T kept offset (d ++ z) items out (g ∷ gaps) V
+
+-- so many items are kept of all the bytes
+pub record IsSalvage (L : Bounds) (bytes : List ℕ) (count : ℕ) (out : List ℕ) (gaps : List Gap) : Type 0 where
+  pub items : List FilledItem
+  pub table : Table
+  pub salvages : Salvages L base_table 0 0 bytes items out gaps table
+  pub counted : count ≡ length items

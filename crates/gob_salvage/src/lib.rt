@@ -1,0 +1,27 @@
+//! What isn't damaged of a stream of Go's encoder: items that stand whole in the bytes, one behind another, under the
+//! definitions of those before them.
+//!
+//! ```text
+//! 1f ff 81 03 01 ..     an item: kept
+//! 07 ff 82 09 2c ..     an item with a changed byte: left out, up to where items go on
+//! 07 ff 82 01 2c ..     items: kept
+//! ```
+//!
+//! [`salvage`] keeps what it can of bytes, and says in [`Gap`]s what it leaves out. [`run_salvage`] is the run of the
+//! program, and [`report`] what that tells on standard error.
+#![tactic(auto)]
+
+mod again;
+mod frame;
+mod gap;
+mod item;
+mod keeping;
+pub mod laws;
+mod lines;
+mod run;
+mod search;
+
+pub use gap::Gap;
+pub use keeping::{Salvaged, salvage};
+pub use lines::report;
+pub use run::run_salvage;

@@ -1,0 +1,144 @@
+//! Damaged bytes, what is kept of them, and what is told.
+
+/// A row. Bytes are in the notation of `gob_test_rows`.
+#[derive(Clone, Copy)]
+pub(crate) struct Row {
+    pub what: &'static str,
+    pub bytes: &'static str,
+    /// How many items are kept.
+    pub items: u64,
+    /// Their bytes.
+    pub kept: &'static str,
+    /// The lines that are told.
+    pub told: &'static str,
+    /// Whether anything is lost.
+    pub is_damaged: bool,
+}
+
+pub(crate) const ROWS: [Row; 14] = [
+    Row {
+        what: "no bytes",
+        bytes: "",
+        items: 0,
+        kept: "",
+        told: "gob: kept 0 items, 0 bytes; left out nothing",
+        is_damaged: false,
+    },
+    Row {
+        what: "a whole stream",
+        bytes: "POINT 07 ff 82 01 2c 01 42 00",
+        items: 2,
+        kept: "POINT 07 ff 82 01 2c 01 42 00",
+        told: "gob: kept 2 items, 40 bytes; left out nothing",
+        is_damaged: false,
+    },
+    Row {
+        what: "a changed byte in the middle",
+        bytes: "POINT 07 ff 82 01 2c 01 42 00 07 ff 82 03 2c 01 42 00 07 ff 82 01 02 01 04 00",
+        items: 3,
+        kept: "POINT 07 ff 82 01 2c 01 42 00 07 ff 82 01 02 01 04 00",
+        told: "gob: left out 8 bytes, 40 to 47: FieldNumber at 43
+gob: kept 3 items, 48 bytes; left out 8 bytes in 1 place",
+        is_damaged: true,
+    },
+    Row {
+        what: "a byte too many between items",
+        bytes: "POINT 07 ff 82 01 2c 01 42 00 00 07 ff 82 01 02 01 04 00",
+        items: 3,
+        kept: "POINT 07 ff 82 01 2c 01 42 00 07 ff 82 01 02 01 04 00",
+        told: "gob: left out 1 byte, 40 to 40: Short at 41
+gob: kept 3 items, 48 bytes; left out 1 byte in 1 place",
+        is_damaged: true,
+    },
+    Row {
+        what: "a count that is too large",
+        bytes: "POINT 70 ff 82 01 2c 01 42 00 07 ff 82 01 02 01 04 00",
+        items: 2,
+        kept: "POINT 07 ff 82 01 02 01 04 00",
+        told: "gob: left out 8 bytes, 32 to 39: Extra at 40
+gob: kept 2 items, 40 bytes; left out 8 bytes in 1 place",
+        is_damaged: true,
+    },
+    Row {
+        what: "cut off",
+        bytes: "POINT 07 ff 82 01 2c 01 42 00 07 ff 82 01",
+        items: 2,
+        kept: "POINT 07 ff 82 01 2c 01 42 00",
+        told: "gob: left out 4 bytes, 40 to 43: Ended at 44
+gob: kept 2 items, 40 bytes; left out 4 bytes in 1 place",
+        is_damaged: true,
+    },
+    Row {
+        what: "the definition again",
+        bytes: "POINT 07 ff 82 01 2c 01 42 00 POINT 07 ff 82 01 02 01 04 00",
+        items: 3,
+        kept: "POINT 07 ff 82 01 2c 01 42 00 07 ff 82 01 02 01 04 00",
+        told: "gob: left out 32 bytes, 40 to 71: type 65 is defined again, in the same way
+gob: kept 3 items, 48 bytes; left out 32 bytes in 1 place",
+        is_damaged: false,
+    },
+    Row {
+        what: "another definition of the same type",
+        bytes: "POINT 07 ff 82 01 2c 01 42 00 ARRAY 06 ff 82 00 02 02 04",
+        items: 2,
+        kept: "POINT 07 ff 82 01 2c 01 42 00",
+        told: "gob: left out 22 bytes, 40 to 61: DefinedTwice(65) at 41
+gob: kept 2 items, 40 bytes; left out 22 bytes in 1 place",
+        is_damaged: true,
+    },
+    Row {
+        what: "a value of a type that isn't defined",
+        bytes: "POINT 07 ff 82 01 2c 01 42 00 03 ff 84 00 07 ff 82 01 02 01 04 00",
+        items: 3,
+        kept: "POINT 07 ff 82 01 2c 01 42 00 07 ff 82 01 02 01 04 00",
+        told: "gob: left out 4 bytes, 40 to 43: UndefinedType(66) at 41
+gob: kept 3 items, 48 bytes; left out 4 bytes in 1 place",
+        is_damaged: true,
+    },
+    Row {
+        what: "two such values",
+        bytes: "03 04 00 06 03 ff 84 00 03 ff 84 00 03 04 00 08",
+        items: 2,
+        kept: "03 04 00 06 03 04 00 08",
+        told: "gob: left out 4 bytes, 4 to 7: UndefinedType(66) at 5
+gob: left out 4 bytes, 8 to 11: UndefinedType(66) at 9
+gob: kept 2 items, 8 bytes; left out 8 bytes in 2 places",
+        is_damaged: true,
+    },
+    Row {
+        what: "what isn't a stream before one",
+        bytes: "00 POINT 07 ff 82 01 2c 01 42 00",
+        items: 2,
+        kept: "POINT 07 ff 82 01 2c 01 42 00",
+        told: "gob: left out 1 byte, 0 to 0: Short at 1
+gob: kept 2 items, 40 bytes; left out 1 byte in 1 place",
+        is_damaged: true,
+    },
+    Row {
+        what: "a lost definition",
+        bytes: "07 ff 82 01 2c 01 42 00",
+        items: 0,
+        kept: "",
+        told: "gob: left out 8 bytes, 0 to 7: UndefinedType(65) at 1
+gob: kept 0 items, 0 bytes; left out 8 bytes in 1 place",
+        is_damaged: true,
+    },
+    Row {
+        what: "a value in an interface",
+        bytes: "0a 10 00 03 69 6e 74 04 02 00 0a 00 03 04 00 06 03 04 00 08",
+        items: 3,
+        kept: "0a 10 00 03 69 6e 74 04 02 00 0a 03 04 00 06 03 04 00 08",
+        told: "gob: left out 1 byte, 11 to 11: Short at 12
+gob: kept 3 items, 19 bytes; left out 1 byte in 1 place",
+        is_damaged: true,
+    },
+    Row {
+        what: "nothing that stands anywhere",
+        bytes: "80 80 80",
+        items: 0,
+        kept: "",
+        told: "gob: left out 3 bytes, 0 to 2: BadHead at 0
+gob: kept 0 items, 0 bytes; left out 3 bytes in 1 place",
+        is_damaged: true,
+    },
+];
