@@ -1,12 +1,14 @@
-//! Tests of numbers, types and values, by their public calls alone. Each row is one of docs/FORMAT.md, or worked out
-//! by hand from it. What the rows of a list say behind what they are, stands before the list: numbers, a value, bytes,
-//! and what is due.
+//! Tests of numbers, types, values, tidy forms and matching, by their public calls alone. Each row is one of
+//! docs/FORMAT.md, or worked out by hand from it. What the rows of a list say behind what they are, stands before the
+//! list: numbers, a value, bytes, and what is due.
 #![tactic(auto)]
 
 #[cfg(test)]
 mod descriptions;
 #[cfg(test)]
 mod lists;
+#[cfg(test)]
+mod matching;
 #[cfg(test)]
 mod memory;
 #[cfg(test)]
@@ -15,6 +17,8 @@ mod numbers;
 mod tables;
 #[cfg(test)]
 mod texts;
+#[cfg(test)]
+mod tidied;
 #[cfg(test)]
 mod values;
 #[cfg(test)]

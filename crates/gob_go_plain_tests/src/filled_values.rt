@@ -1,4 +1,4 @@
-//! The JSON of values that hold others.
+//! The plain JSON of values that hold others.
 
 use gob_go::{GoItem, GoSession};
 use gob_go_plain::filled_text;

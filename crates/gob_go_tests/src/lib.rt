@@ -1,7 +1,9 @@
-//! Tests of gob_go by its public calls: what no proof sees. They stand in a crate of their own, so that gob_go is
-//! proved once and its edits don't wait for them.
+//! Tests of gob_go, gob_counted, gob_go_writer and gob_go_tidy by their public calls: what no proof sees. They stand in
+//! a crate of their own, so that these are proved once and their edits don't wait for them.
 #![tactic(auto)]
 
+#[cfg(test)]
+mod counted;
 #[cfg(test)]
 mod faults;
 #[cfg(test)]

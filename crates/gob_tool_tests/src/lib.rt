@@ -1,5 +1,5 @@
-//! Tests of what the commands do, by the public calls of `gob_tool`. What the program shows of a stream is in
-//! `interop/rows`; here is what no stream shows: devices that fail, other limits, lines without a stream.
+//! Tests of what the commands do, by the public calls of `gob_tool` and `gob_go_tool`. What the program shows of a
+//! stream is in `interop/rows`; here is what no stream shows: devices that fail, other limits, lines without a stream.
 #![tactic(auto)]
 
 #[cfg(test)]
@@ -14,6 +14,8 @@ mod devices;
 mod faults;
 #[cfg(test)]
 mod flushes;
+#[cfg(test)]
+mod go;
 #[cfg(test)]
 mod large;
 #[cfg(test)]

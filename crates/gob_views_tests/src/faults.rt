@@ -1,9 +1,9 @@
 //! Devices that fail in one of their calls.
 
 use crate::devices::{SlowReader, SlowWriter};
+use crate::ending::{Ending, ending_of};
 use gob_stream::{Input, Limits, Output};
 use gob_test_rows::bytes_of;
-use gob_tool::ToolFault;
 use gob_views::{Style, run_types, run_values};
 use std::alloc::{AllocError, Global};
 use std::test::*;
@@ -13,23 +13,6 @@ const STREAM: &str = "03 04 00 06 POINT 07 ff 82 01 2c 01 42 00";
 const VALUES: &[u8] = b"3\n{\"X\":22,\"Y\":33}\n";
 
 const TYPES: &[u8] = b"package types\n\n// type 65\ntype Point struct {\n\tX int\n\tY int\n}\n";
-
-#[derive(Clone, Copy, PartialEq, Eq)]
-enum Ending {
-    Whole,
-    Read,
-    Write,
-    Other,
-}
-
-fn ending_of(ended: Result<(), ToolFault>) -> Ending {
-    match ended {
-        Ok(()) => Ending::Whole,
-        Err(ToolFault::Read) => Ending::Read,
-        Err(ToolFault::Write) => Ending::Write,
-        Err(_) => Ending::Other,
-    }
-}
 
 // How the run over these devices ends, and whether a prefix of what is due was written, of this length where one is
 // given.

@@ -1,0 +1,4 @@
+//! Streams counted as they come.
+
+mod counts;
+mod rows;

@@ -1,0 +1,8 @@
+//! The runs over streams of Go's encoder, by the public calls of `gob_go_tool`.
+
+mod checks;
+mod faults;
+mod memory;
+mod rewrites;
+mod runs;
+mod shows;

@@ -1,0 +1,4 @@
+//! The lines of bodies, and the path of their end.
+
+mod bodies;
+mod rows;

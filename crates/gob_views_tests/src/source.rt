@@ -1,0 +1,4 @@
+//! The Go source of the definitions of streams, and the same where memory may be refused.
+
+mod rows;
+mod sources;
