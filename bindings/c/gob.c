@@ -63,18 +63,28 @@ static bool has_room(gob_reader *reader) {
     return reader->heads != NULL && reader->nodes != NULL && reader->bytes != NULL;
 }
 
-gob_reader *gob_open(const gob_limits *limits, gob_fault *fault) {
+/* What is asked of the archive. */
+static struct raw_asked asked_of(const gob_limits *limits, bool exact) {
+    return (struct raw_asked){limits != NULL ? *limits : standard, exact};
+}
+
+static gob_reader *opened(const gob_limits *limits, bool exact, gob_fault *fault) {
     gob_fault unseen;
     gob_reader *reader = calloc(1, sizeof *reader);
     if (fault == NULL) fault = &unseen;
     ended(GOB_NO_MEMORY, fault);
     if (reader != NULL && has_room(reader)) {
-        gob_raw_open(limits != NULL ? limits : &standard, fault, &reader->raw);
+        struct raw_asked asked = asked_of(limits, exact);
+        gob_raw_open(&asked, fault, &reader->raw);
     }
     if (fault->status == GOB_OK) return reader;
     gob_close(reader);
     return NULL;
 }
+
+gob_reader *gob_open(const gob_limits *limits, gob_fault *fault) { return opened(limits, false, fault); }
+
+gob_reader *gob_open_exact(const gob_limits *limits, gob_fault *fault) { return opened(limits, true, fault); }
 
 gob_status gob_feed(gob_reader *reader, const void *piece, size_t count, gob_fault *fault) {
     gob_fault unseen;
@@ -169,6 +179,8 @@ int gob_next(gob_reader *reader, gob_item *item) {
         .count = head->nodes,
         .bytes = reader->bytes + head->byte,
         .size = head->bytes,
+        .begin = head->begin,
+        .end = head->end,
     };
     return 1;
 }
@@ -233,16 +245,79 @@ const gob_item *gob_type(gob_reader *reader, uint32_t id) {
     return item;
 }
 
+/* ---- a check in pieces */
+
+struct gob_checker {
+    void *raw;
+};
+
+static gob_checker *opened_check(const gob_limits *limits, bool exact, gob_fault *fault) {
+    gob_fault unseen;
+    gob_checker *checker = calloc(1, sizeof *checker);
+    if (fault == NULL) fault = &unseen;
+    ended(GOB_NO_MEMORY, fault);
+    if (checker != NULL) {
+        struct raw_asked asked = asked_of(limits, exact);
+        gob_raw_check_open(&asked, fault, &checker->raw);
+    }
+    if (fault->status == GOB_OK) return checker;
+    gob_check_close(checker);
+    return NULL;
+}
+
+gob_checker *gob_check_open(const gob_limits *limits, gob_fault *fault) { return opened_check(limits, false, fault); }
+
+gob_checker *gob_check_open_exact(const gob_limits *limits, gob_fault *fault) {
+    return opened_check(limits, true, fault);
+}
+
+gob_status gob_check_feed(gob_checker *checker, const void *piece, size_t count, gob_counts *counts,
+                          gob_fault *fault) {
+    gob_fault unseen;
+    gob_counts uncounted;
+    if (fault == NULL) fault = &unseen;
+    if (counts == NULL) counts = &uncounted;
+    if (checker == NULL || (piece == NULL && count != 0)) return ended(GOB_MISUSED, fault);
+    gob_raw_check_feed(&checker->raw, some_bytes(piece, count), count, counts, fault);
+    return fault->status;
+}
+
+gob_status gob_check_finish(gob_checker *checker, gob_counts *counts, gob_fault *fault) {
+    gob_fault unseen;
+    gob_counts uncounted;
+    if (fault == NULL) fault = &unseen;
+    if (counts == NULL) counts = &uncounted;
+    if (checker == NULL) return ended(GOB_MISUSED, fault);
+    gob_raw_check_finish(&checker->raw, counts, fault);
+    return fault->status;
+}
+
+void gob_check_close(gob_checker *checker) {
+    if (checker == NULL) return;
+    if (checker->raw != NULL) gob_raw_check_close(checker->raw);
+    free(checker);
+}
+
 /* ---- the rest */
 
-gob_status gob_check(const void *bytes, size_t count, const gob_limits *limits, gob_counts *counts, gob_fault *fault) {
+static gob_status checked(const void *bytes, size_t count, struct raw_asked asked, gob_counts *counts,
+                          gob_fault *fault) {
     gob_fault unseen;
     gob_counts uncounted;
     if (fault == NULL) fault = &unseen;
     if (counts == NULL) counts = &uncounted;
     if (bytes == NULL && count != 0) return ended(GOB_MISUSED, fault);
-    gob_raw_check(some_bytes(bytes, count), count, limits != NULL ? limits : &standard, counts, fault);
+    gob_raw_check(some_bytes(bytes, count), count, &asked, counts, fault);
     return fault->status;
+}
+
+gob_status gob_check(const void *bytes, size_t count, const gob_limits *limits, gob_counts *counts, gob_fault *fault) {
+    return checked(bytes, count, asked_of(limits, false), counts, fault);
+}
+
+gob_status gob_check_exact(const void *bytes, size_t count, const gob_limits *limits, gob_counts *counts,
+                           gob_fault *fault) {
+    return checked(bytes, count, asked_of(limits, true), counts, fault);
 }
 
 uint32_t gob_abi(void) { return GOB_ABI; }

@@ -15,20 +15,27 @@
  *     if (fault.status == GOB_OK || some < 0) gob_finish(reader, &fault);
  *     gob_close(reader);
  *
- * Behind it fault.status says how that ended: GOB_OK exactly where all of the bytes are a stream, and each item was used.
+ * Behind it fault.status says how that ended: GOB_OK exactly where all of the bytes are a stream and each item was
+ * used.
  *
- * Ownership. The caller owns the reader and lets it go by gob_close, once. The library keeps no pointer that it is
- * given: a piece may be reused as soon as gob_feed returns. What it hands out it owns: see gob_next, gob_take and
- * gob_type for how long that stands. All memory comes from malloc: 1.5 MB for a reader, and more for larger items.
+ * Ownership. The caller owns the reader and lets it go by gob_close, once, and so a check by gob_check_close. The
+ * library keeps no pointer that it is given: a piece may be reused as soon as gob_feed returns. What it hands out it
+ * owns: see gob_next, gob_take and gob_type for how long that stands. All memory comes from malloc.
  *
- * Misuse. NULL for a reader, as gob_close leaves none, and NULL for a piece that has a length are answered: GOB_MISUSED,
- * -1 or NULL. Nothing can tell a reader that was let go, one that another thread is in, a piece that is shorter than its
- * length says, or an item whose time is over.
+ * Memory. A reader takes 1.5 MB, and of an item some 64 bytes for each of its parts while it is handed out; for an
+ * interface that holds a number, all in all 350 bytes. An item of 64 MiB, which is the standard limit, may have as
+ * many parts as bytes, and takes 4 GB then. A server sets gob_limits.item to what it can spare: 1048576 makes that 64
+ * MB.
  *
- * Threads. A reader stays on the thread that opened it. Different readers may be used in different threads at once. No
- * call may be made from a signal handler.
+ * Misuse. NULL for a reader or a check, as gob_close leaves none, and NULL for a piece that has a length are answered:
+ * GOB_MISUSED, -1 or NULL. Nothing can tell a reader that was let go, one that another thread is in, a piece that is
+ * shorter than its length says, or an item whose time is over.
  *
- * Stack. Reading takes less than 32 KB of it however deep a value is, gob_check less than 128 KB.
+ * Threads. A reader stays on the thread that opened it, and so does a check. Different readers may be used in different
+ * threads at once. No call may be made from a signal handler.
+ *
+ * Stack. A call takes less than 32 KB of it however deep a value is. Where interfaces hold others in one another, 999
+ * at the most, it takes up to 1 KB for each of them: 1 MB in all. With a reader of gob_open_exact it never does.
  *
  * x86-64 Linux, from x86-64-v2 on. Link with -lgob, or take flags from pkg-config's gob.
  */
@@ -50,7 +57,7 @@ extern "C" {
 #endif
 
 /* The interface that this header declares. It goes up where a program would have to be compiled anew. */
-#define GOB_ABI 1
+#define GOB_ABI 2
 
 /* GOB_ABI of the library that was found, to be compared with the header's. */
 GOB_API uint32_t gob_abi(void);
@@ -65,19 +72,20 @@ typedef enum gob_status {
     GOB_OK = 0,
     GOB_REFUSED = 1,    /* the bytes are no gob stream: reason, place and seen say why */
     GOB_NO_MEMORY = 2,  /* malloc had none */
-    GOB_FAILED = 3,     /* the reader met a fault in a call before, and reads no more */
+    GOB_FAILED = 3,     /* a fault was met in a call before, and no more is read */
     GOB_BAD_LIMITS = 4, /* the depth is 0 or above 65536, or the stream above 2^63 - 1 */
-    GOB_MISUSED = 5     /* the call was given NULL for a reader, or for bytes that have a length; nothing was done */
+    GOB_MISUSED = 5     /* NULL was given for a reader or a check, or for bytes that have a length; nothing was done */
 } gob_status;
 
-/* How a call ended. Offsets are those of the stream, in bytes from 0, whatever pieces it came in. Each call that takes a
- * gob_fault writes all of it; NULL may stand for it, where the answer is enough. */
+/* How a call ended. Offsets are those of the stream, in bytes from 0, whatever pieces it came in. Each call that takes
+ * a gob_fault writes all of it; NULL may stand for it, where the answer is enough. */
 typedef struct gob_fault {
     uint32_t status; /* a gob_status */
     uint32_t reason; /* where refused: why, GOB_REASON_BAD_HEAD or another; else 0 */
     uint64_t id;     /* the type id that the reason speaks of, where gob_speaks_of_id says so; else 0 */
     uint64_t place;  /* where refused: the first refused byte; else 0 */
     uint64_t seen;   /* where refused: how many bytes of the stream show it; else 0 */
+    uint64_t begin;  /* where refused: where the refused item begins, so that so many bytes are whole items; else 0 */
 } gob_fault;
 
 /* Why bytes are refused. */
@@ -109,8 +117,8 @@ enum {
 /* The name of a reason: "BadHead" for 1, and so on; "" for any other number. It is never freed. */
 GOB_API const char *gob_reason_name(uint32_t reason);
 
-/* What is wrong, in a sentence: "No number begins with this byte." for 1, as `gob why` says it; "" for any other number.
- * It is never freed. */
+/* What is wrong, in a sentence: "No number begins with this byte." for 1, as `gob why` says it; "" for any other
+ * number. It is never freed. */
 GOB_API const char *gob_reason_text(uint32_t reason);
 
 /* Whether a reason speaks of a type id, which may be 0. */
@@ -130,13 +138,14 @@ enum {
     GOB_BYTES = 5,
     GOB_STRING = 6,
     GOB_COMPLEX = 7,
-    GOB_NIL = 8,     /* a nil interface */
+    GOB_NIL = 8,     /* a nil interface; one that holds a value is GOB_HELD */
     GOB_LIST = 9,    /* a slice or an array */
     GOB_MAP = 10,    /* keys and elements, which alternate */
     GOB_STRUCT = 11, /* the fields that are present, in order */
     GOB_OPAQUE = 12, /* what GobEncode, MarshalBinary or MarshalText wrote: only the Go type explains it */
     GOB_ARRAY = 13,  /* in definitions alone */
-    GOB_TYPE = 14    /* in definitions alone: names a type */
+    GOB_TYPE = 14,   /* in definitions alone: names a type */
+    GOB_HELD = 15    /* an interface that holds a value; a reader of gob_open_exact has none */
 };
 
 /* One part of a value. The parts of a part follow it at once, so that a whole value is one array of nodes.
@@ -148,12 +157,17 @@ enum {
  *   bytes string opaque   where they begin in the item        how many there are              gob_bytes_of
  *   nil                   0                                   0
  *   list map struct       how many elements, pairs, fields    how many nodes, its own too     gob_after
+ *   held                  how many nodes further on it stands the type id of what it holds    gob_held
  *
- * A definition has first a node of the type's kind: `first` and `second` are where its name stands and how long it
- * is, and `number` is an array's length, how many fields a struct has, or of an opaque type 1 for GobEncode, 2 for
- * MarshalBinary and 3 for MarshalText. Behind it stands a node of the kind GOB_TYPE for each type that it names,
- * whose `number` is that type's id: of a list or an array the elements', of a map the keys' and then the elements',
- * of a struct each field's, with the field's name. */
+ * What an interface holds stands behind all nodes of the value around it, so that the parts of a part are counted
+ * without it, and gob_after goes past the interface as past a nil. A string stands first, the name under which the
+ * writer registered the type, and behind it the nodes of the value, which may hold others again.
+ *
+ * A definition has first a node of the type's kind: `first` and `second` are where its name stands and how long it is,
+ * and `number` is an array's length, how many fields a struct has, or of an opaque type 1 for GobEncode, 2 for
+ * MarshalBinary and 3 for MarshalText. Behind it stands a node of the kind GOB_TYPE for each type that it names, whose
+ * `number` is that type's id: of a list or an array the elements', of a map the keys' and then the elements', of a
+ * struct each field's, with the field's name. */
 typedef struct gob_node {
     uint64_t number; /* of a field of a struct its number there, from 0; else 0 */
     uint64_t first;
@@ -172,6 +186,8 @@ typedef struct gob_item {
     size_t count;               /* how many nodes there are, 1 at least */
     const unsigned char *bytes; /* the raw bytes of all parts, or the names; they end with no 0 */
     size_t size;                /* how many bytes there are */
+    uint64_t begin;             /* where it begins in the stream, or the value that it stands in, in bytes from 0 */
+    uint64_t end;               /* and where the bytes behind that begin */
 } gob_item;
 
 /* The number of an int. */
@@ -198,6 +214,12 @@ static inline const unsigned char *gob_bytes_of(const gob_item *item, const gob_
 static inline const gob_node *gob_after(const gob_node *node) {
     return node + (node->kind >= GOB_LIST && node->kind <= GOB_STRUCT ? node->second : 1);
 }
+
+/* What an interface holds: the first of its nodes, of the type node->second. The node is of the kind GOB_HELD. */
+static inline const gob_node *gob_held(const gob_node *node) { return node + node->first + 1; }
+
+/* The name under which its type was registered, as a string. */
+static inline const gob_node *gob_held_name(const gob_node *node) { return node + node->first; }
 
 /* The field of this name in a struct, whose type has this definition. NULL where it is absent, as a field that is zero
  * is, and where the node is no struct, or the type has no such field. */
@@ -249,7 +271,7 @@ static inline const char *gob_as_text(const gob_item *item, const gob_node *node
 /* What a stream may have. What goes beyond is refused. */
 typedef struct gob_limits {
     uint64_t item;   /* bytes of an item's body; 67108864 in the standard limits */
-    uint64_t depth;  /* of a value, 1 to 65536; 1000 in the standard limits */
+    uint64_t depth;  /* of a value, 1 to 65536; 1000 in the standard limits, and at most that but in gob_open_exact */
     uint64_t types;  /* definitions; 10000 in the standard limits */
     uint64_t stream; /* bytes of the whole stream, at most 2^63 - 1; 68719476736 in the standard limits */
 } gob_limits;
@@ -257,24 +279,31 @@ typedef struct gob_limits {
 /* A reader of one stream. */
 typedef struct gob_reader gob_reader;
 
-/* A new reader, which has taken no byte. `limits` may be NULL, for the standard ones. NULL where there is no memory, or
- * where these are no limits: `fault` says which. */
+/* A new reader of all that Go's encoder writes, which has taken no byte. Interfaces may hold values, of the kind
+ * GOB_HELD; the definitions that stand in a value are items in front of it. What an interface holds is one deeper than
+ * the interface, and no value may be deeper than 1000. `limits` may be NULL, for the standard ones. NULL where there
+ * is no memory, or where these are no limits: `fault` says which. */
 GOB_API gob_reader *gob_open(const gob_limits *limits, gob_fault *fault);
 
-/* Takes the next `count` bytes of the stream; `piece` may be NULL where they are none. The items that are whole with them
- * can be taken then, also those before a fault. A refusal comes in the call that brings the last of the bytes that show
- * it. After a fault the reader reads no more, and answers GOB_FAILED. Items that aren't taken are kept. The answer is
- * fault->status. */
+/* A new reader of the format that Go documents, and of nothing else: a value in an interface is refused, as
+ * InterfaceValue, and so is a type that Go gives an id of its own, as WrongId. A value may be as deep as the limits
+ * allow. */
+GOB_API gob_reader *gob_open_exact(const gob_limits *limits, gob_fault *fault);
+
+/* Takes the next `count` bytes of the stream; `piece` may be NULL where they are none. The items that are whole with
+ * them can be taken then, also those before a fault. A refusal comes in the call that brings the last of the bytes
+ * that show it. After a fault the reader reads no more, and answers GOB_FAILED. Items that aren't taken are kept. The
+ * answer is fault->status. */
 GOB_API gob_status gob_feed(gob_reader *reader, const void *piece, size_t count, gob_fault *fault);
 
-/* Says that no byte follows. GOB_OK exactly between two items; else refused, with the reason Ended. GOB_NO_MEMORY while
- * an item waits for which gob_next or gob_take had no memory: nothing has changed then, and both can be tried again. The
- * answer is fault->status. */
+/* Says that no byte follows. GOB_OK exactly between two items, and then nothing has changed; else refused, with the
+ * reason Ended. GOB_NO_MEMORY while an item waits for which gob_next or gob_take had no memory: nothing has changed
+ * then either, and both can be tried again. The answer is fault->status. */
 GOB_API gob_status gob_finish(gob_reader *reader, gob_fault *fault);
 
-/* The next item that is whole. 1: it is in `item`, whose pointers stand until the next gob_next, gob_take or gob_close of
- * this reader. 0: there is none until more is fed. -1: there is no memory for it, and it is kept; so it is where NULL was
- * given. */
+/* The next item that is whole. 1: it is in `item`, whose pointers stand until the next gob_next, gob_take or gob_close
+ * of this reader. 0: there is none until more is fed. -1: there is no memory for it, and it is kept; so it is where
+ * NULL was given. */
 GOB_API int gob_next(gob_reader *reader, gob_item *item);
 
 /* The definition of a type that the stream has given so far, or of one of the types 16 to 24 of which descriptions are
@@ -288,7 +317,7 @@ GOB_API void gob_close(gob_reader *reader);
 /* ---- Many items at once, for those who read from another language */
 
 /* Where an item stands in a batch: its type id, the place of its first node and how many it has, the place of its first
- * byte and how many it has, and GOB_DEFINE or GOB_VALUE. */
+ * byte and how many it has, and GOB_DEFINE or GOB_VALUE. `begin` and `end` are those of gob_item. */
 typedef struct gob_head {
     uint64_t id;
     uint64_t node;
@@ -296,6 +325,8 @@ typedef struct gob_head {
     uint64_t byte;
     uint64_t bytes;
     uint64_t kind;
+    uint64_t begin;
+    uint64_t end;
 } gob_head;
 
 /* Items, one behind another. */
@@ -308,24 +339,57 @@ typedef struct gob_batch {
     uint64_t byte_count; /* how many bytes */
 } gob_batch;
 
-/* The next items that are whole, some thousands at the most. 1: they are in `batch`, whose pointers stand until the next
- * gob_next, gob_take or gob_close of this reader. 0: there is none until more is fed. -1: there is no memory for the
- * next one, and it is kept; so it is where NULL was given. */
+/* The next items that are whole, some thousands at the most. 1: they are in `batch`, whose pointers stand until the
+ * next gob_next, gob_take or gob_close of this reader. 0: there is none until more is fed. -1: there is no memory for
+ * the next one, and it is kept; so it is where NULL was given. */
 GOB_API int gob_take(gob_reader *reader, gob_batch *batch);
 
 /* ---- Checking */
 
-/* What there is in a stream. */
+/* What there is in the items of a stream. */
 typedef struct gob_counts {
-    uint64_t items; /* those that define a type too */
-    uint64_t types; /* those that define a type */
+    uint64_t items;  /* definitions and values; a definition that stands in a value is no item here */
+    uint64_t types;  /* the types that are defined, also in values */
+    uint64_t values; /* values: items that define no type */
+    uint64_t bytes;  /* the bytes of these items: where the item behind them begins */
 } gob_counts;
 
-/* Goes through a whole stream that is held in memory, and keeps nothing of it. `bytes` may be NULL where there are none,
- * `limits` for the standard ones, and `counts` where the answer is enough. `counts` is written where that, fault->status,
- * is GOB_OK: exactly where all of the bytes are a stream. */
+/* Goes through a whole stream that is held in memory, of all that Go's encoder writes, and keeps nothing of it.
+ * `bytes` may be NULL where there are none, `limits` for the standard ones, and `counts` where the answer is enough.
+ * The answer is fault->status: GOB_OK exactly where all of the bytes are a stream. `counts` is written there, and
+ * where the bytes are refused, of the items in front of the refused one. */
 GOB_API gob_status gob_check(const void *bytes, size_t count, const gob_limits *limits, gob_counts *counts,
                              gob_fault *fault);
+
+/* So it goes through a stream of the format that Go documents. */
+GOB_API gob_status gob_check_exact(const void *bytes, size_t count, const gob_limits *limits, gob_counts *counts,
+                                   gob_fault *fault);
+
+/* A check of one stream that comes in pieces. Items are counted and not kept: beside the types that are defined it
+ * takes memory for one item at a time, and only where that doesn't stand whole in a piece. */
+typedef struct gob_checker gob_checker;
+
+/* A new check of all that Go's encoder writes, which has taken no byte. `limits` may be NULL, for the standard ones.
+ * NULL where there is no memory, or where these are no limits: `fault` says which. */
+GOB_API gob_checker *gob_check_open(const gob_limits *limits, gob_fault *fault);
+
+/* A new check of the format that Go documents, and of nothing else. */
+GOB_API gob_checker *gob_check_open_exact(const gob_limits *limits, gob_fault *fault);
+
+/* Takes the next `count` bytes of the stream; `piece` may be NULL where they are none. `counts`, which may be NULL, is
+ * written of the items that are whole by then, at each answer but GOB_MISUSED. A refusal comes in the call that brings
+ * the last of the bytes that show it, and the refused item begins at counts->bytes, as at fault->begin. After a fault
+ * the check takes no more, answers GOB_FAILED, and the counts stay. The answer is fault->status. */
+GOB_API gob_status gob_check_feed(gob_checker *checker, const void *piece, size_t count, gob_counts *counts,
+                                  gob_fault *fault);
+
+/* Says that no byte follows. GOB_OK exactly where all of the bytes are a stream, of which `counts` tells then; else
+ * refused, with the reason Ended. `counts`, which may be NULL, is written as by gob_check_feed. Behind GOB_OK nothing
+ * has changed. It takes no memory. The answer is fault->status. */
+GOB_API gob_status gob_check_finish(gob_checker *checker, gob_counts *counts, gob_fault *fault);
+
+/* Lets the check go. NULL is let pass. */
+GOB_API void gob_check_close(gob_checker *checker);
 
 #ifdef __cplusplus
 }

@@ -1,6 +1,6 @@
-/* What the proved archive exports, and what it needs. A call is given the place of the reader's pointer, and leaves there
- * the one that stands for the reader from then on. Not installed. Nothing compares this with crates/gob_c/src/lib.rt but
- * the tests. */
+/* What the proved archive exports, and what it needs. A call is given the place of the reader's pointer, and leaves
+ * there the one that stands for the reader from then on. Not installed. Nothing compares this with
+ * crates/gob_c/src/lib.rt but the tests. */
 #ifndef GOB_RAW_H
 #define GOB_RAW_H
 
@@ -13,16 +13,28 @@ struct raw_handed {
     uint64_t items, nodes, bytes, waiting, next_nodes, next_bytes;
 };
 
-void gob_raw_open(const gob_limits *asked, gob_fault *told, void **reader);
+/* What is asked of a reader: its limits, and whether it reads the documented format alone. */
+struct raw_asked {
+    gob_limits limits;
+    bool exact;
+};
+
+void gob_raw_open(const struct raw_asked *asked, gob_fault *told, void **reader);
 void gob_raw_feed(void **reader, const unsigned char *piece, size_t count, gob_fault *told);
 void gob_raw_finish(void **reader, gob_fault *told);
 void gob_raw_take(void **reader, gob_head *heads, size_t head_room, gob_node *nodes, size_t node_room,
                   unsigned char *bytes, size_t byte_room, struct raw_handed *told);
 void gob_raw_type(void **reader, uint64_t id, gob_node *nodes, size_t node_room, unsigned char *bytes,
                   size_t byte_room, struct raw_handed *told);
-void gob_raw_check(const unsigned char *bytes, size_t count, const gob_limits *asked, gob_counts *counts,
+void gob_raw_check(const unsigned char *bytes, size_t count, const struct raw_asked *asked, gob_counts *counts,
                    gob_fault *told);
 void gob_raw_close(void *reader);
+
+/* A check in pieces. Its counter stands behind a pointer as a reader does. */
+void gob_raw_check_open(const struct raw_asked *asked, gob_fault *told, void **counter);
+void gob_raw_check_feed(void **counter, const unsigned char *piece, size_t count, gob_counts *counts, gob_fault *told);
+void gob_raw_check_finish(void **counter, gob_counts *counts, gob_fault *told);
+void gob_raw_check_close(void *counter);
 
 /* What the archive asks of its caller: memory. A block that isn't had is told by `ok`, and its pointer isn't NULL. */
 struct raw_block {

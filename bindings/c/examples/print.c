@@ -63,6 +63,11 @@ static const gob_node *put(gob_reader *reader, const gob_item *item, const gob_n
     case GOB_FLOAT: printf("%.17g", gob_float_of(node)); break;
     case GOB_COMPLEX: printf("(%.17g%+.17gi)", gob_double(node->first), gob_double(node->second)); break;
     case GOB_NIL: printf("nil"); break;
+    case GOB_HELD:
+        put_bytes(item, gob_held_name(node)), putchar('(');
+        put(reader, item, gob_held(node), (uint32_t)node->second);
+        putchar(')');
+        break;
     case GOB_STRING: putchar('"'), put_bytes(item, node), putchar('"'); break;
     case GOB_BYTES: printf("0x"), put_hex(item, node); break;
     case GOB_OPAQUE: printf("opaque 0x"), put_hex(item, node); break;

@@ -14,6 +14,7 @@ int main(void) {
     MEMBER(gob_fault, id);
     MEMBER(gob_fault, place);
     MEMBER(gob_fault, seen);
+    MEMBER(gob_fault, begin);
     STRUCT(gob_limits);
     MEMBER(gob_limits, item);
     MEMBER(gob_limits, depth);
@@ -32,6 +33,8 @@ int main(void) {
     MEMBER(gob_item, count);
     MEMBER(gob_item, bytes);
     MEMBER(gob_item, size);
+    MEMBER(gob_item, begin);
+    MEMBER(gob_item, end);
     STRUCT(gob_head);
     MEMBER(gob_head, id);
     MEMBER(gob_head, node);
@@ -39,6 +42,8 @@ int main(void) {
     MEMBER(gob_head, byte);
     MEMBER(gob_head, bytes);
     MEMBER(gob_head, kind);
+    MEMBER(gob_head, begin);
+    MEMBER(gob_head, end);
     STRUCT(gob_batch);
     MEMBER(gob_batch, heads);
     MEMBER(gob_batch, nodes);
@@ -49,5 +54,7 @@ int main(void) {
     STRUCT(gob_counts);
     MEMBER(gob_counts, items);
     MEMBER(gob_counts, types);
+    MEMBER(gob_counts, values);
+    MEMBER(gob_counts, bytes);
     return 0;
 }

@@ -1,4 +1,5 @@
-/* What `gob show` prints, by the library: show [PIECE] <STREAM. Pieces have so many bytes. */
+/* What `gob show --go` prints, by the library, or with `exact` what `gob show` does: show [PIECE [exact]] <STREAM.
+ * Pieces have so many bytes. */
 #include "../gob.h"
 
 #include <inttypes.h>
@@ -67,6 +68,13 @@ static const gob_node *put(const gob_item *item, const gob_node *node, uint32_t 
     case GOB_FLOAT: printf("\"%016" PRIx64 "\"", node->first); break;
     case GOB_COMPLEX: printf("[\"%016" PRIx64 "\",\"%016" PRIx64 "\"]", node->first, node->second); break;
     case GOB_NIL: printf("null"); break;
+    case GOB_HELD:
+        printf("{\"interface\":{\"name\":");
+        put_text(gob_bytes_of(item, gob_held_name(node)), gob_held_name(node)->second);
+        printf(",\"type\":%" PRIu64 ",\"value\":", node->second);
+        put(item, gob_held(node), (uint32_t)node->second);
+        printf("}}");
+        break;
     case GOB_STRING: put_text(gob_bytes_of(item, node), node->second); break;
     case GOB_BYTES: putchar('"'); put_hex(gob_bytes_of(item, node), node->second); putchar('"'); break;
     case GOB_OPAQUE: printf("{\"opaque\":\""); put_hex(gob_bytes_of(item, node), node->second); printf("\"}"); break;
@@ -147,7 +155,7 @@ int main(int argc, char **argv) {
     size_t room = argc > 1 ? strtoul(argv[1], NULL, 10) : 65536, count;
     unsigned char *piece = malloc(room);
     gob_fault fault;
-    gob_reader *r = gob_open(NULL, &fault);
+    gob_reader *r = argc > 2 ? gob_open_exact(NULL, &fault) : gob_open(NULL, &fault);
     if (r == NULL || piece == NULL) return fprintf(stderr, "gob: out of memory\n"), free(piece), gob_close(r), 2;
     reader = r;
     int some = 0;

@@ -1,5 +1,6 @@
 /* sizes SEED RUNS <STREAM: feeds the stream in pieces of random sizes, now and then none, each from a block of its own
- * that is let go of at once, and compares the nodes and bytes of all items with those of the whole stream. */
+ * that is let go of at once, and compares the nodes and bytes of all items, and where they stand, with those of the
+ * whole stream. */
 #include "../gob.h"
 
 #include <stdio.h>
@@ -29,6 +30,7 @@ static void items(gob_reader *r, struct all *all, int by_take) {
                 const gob_head *h = &batch.heads[i];
                 uint32_t words[2] = {(uint32_t)h->kind, (uint32_t)h->id};
                 put(all, words, sizeof words);
+                put(all, &h->begin, 16);
                 put(all, batch.nodes + h->node, h->nodes * sizeof(gob_node));
                 put(all, batch.bytes + h->byte, h->bytes);
             }
@@ -36,6 +38,7 @@ static void items(gob_reader *r, struct all *all, int by_take) {
     }
     while (gob_next(r, &item) == 1) {
         put(all, &item, 8);
+        put(all, &item.begin, 16);
         put(all, item.nodes, item.count * sizeof(gob_node));
         put(all, item.bytes, item.size);
     }

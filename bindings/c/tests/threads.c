@@ -1,4 +1,5 @@
-/* threads N <STREAM: the stream by N readers in N threads at once, each in pieces of another size. All find as many items. */
+/* threads N <STREAM: the stream by N readers in N threads at once, each in pieces of another size. All find as many
+ * items. */
 #include "../gob.h"
 
 #include <pthread.h>

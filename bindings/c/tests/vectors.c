@@ -21,7 +21,7 @@ int main(void) {
         gob_limits limits = {number(), number(), number(), number()};
         uint64_t first = number(), other = number(), length = number();
         gob_fault fault;
-        gob_reader *r = gob_open(&limits, &fault);
+        gob_reader *r = gob_open_exact(&limits, &fault);
         if (r == NULL) return 2;
         reader = r;
         for (size_t done = 0, count = first; done < length && fault.status == GOB_OK; done += count, count = other) {

@@ -12,17 +12,17 @@ class Batch {
         this.wides = new BigUint64Array(nodes.buffer, nodes.byteOffset, nodes.length / 8);
         this.reals = new Float64Array(nodes.buffer, nodes.byteOffset, nodes.length / 8);
         this.pool = bytes;
-        this.items = heads.length / 48;
+        this.items = heads.length / 64;
         this.ascii = undefined;
     }
 
     // of an item
-    id(item) { return this.heads[12 * item]; }
-    node(item) { return this.heads[12 * item + 2]; }
-    nodes(item) { return this.heads[12 * item + 4]; }
-    base(item) { return this.heads[12 * item + 6]; }
-    size(item) { return this.heads[12 * item + 8]; }
-    isDefinition(item) { return this.heads[12 * item + 10] === 1; }
+    id(item) { return this.heads[16 * item]; }
+    node(item) { return this.heads[16 * item + 2]; }
+    nodes(item) { return this.heads[16 * item + 4]; }
+    base(item) { return this.heads[16 * item + 6]; }
+    size(item) { return this.heads[16 * item + 8]; }
+    isDefinition(item) { return this.heads[16 * item + 10] === 1; }
 
     // of a node
     kind(node) { return this.words[8 * node + 6]; }
@@ -71,12 +71,12 @@ class Batch {
     /** These items alone, in memory of their own. */
     copy(from, to) {
         const node = this.node(from), base = this.base(from), last = to - 1;
-        const heads = this.heads.slice(12 * from, 12 * to);
+        const heads = this.heads.slice(16 * from, 16 * to);
         const words = this.words.slice(8 * node, 8 * (this.node(last) + this.nodes(last)));
         const pool = this.pool.slice(base, this.base(last) + this.size(last));
         for (let item = 0; item < to - from; item++) {
-            heads[12 * item + 2] -= node;
-            heads[12 * item + 6] -= base;
+            heads[16 * item + 2] -= node;
+            heads[16 * item + 6] -= base;
         }
         return { heads: new Uint8Array(heads.buffer), nodes: new Uint8Array(words.buffer), pool };
     }
@@ -101,7 +101,7 @@ class Reader {
         this.piece = calls.malloc(BigInt(PIECE));
         this.fault = { status: NO_MEMORY };
         if (this.told === 0n || this.piece === 0n) return;
-        this.handle = calls.gob_open(0n, this.told);
+        this.handle = calls.gob_open_exact(0n, this.told);
         this.hear();
     }
 
@@ -138,7 +138,7 @@ class Reader {
         if (took !== 1) return null;
         const told = new Uint32Array(this.calls.memory.buffer, Number(this.told), 12);
         const [heads, , nodes, , bytes, , items, , count, , size] = told;
-        return new Batch(this.at(heads, 48 * items), this.at(nodes, 32 * count), this.at(bytes, size));
+        return new Batch(this.at(heads, 64 * items), this.at(nodes, 32 * count), this.at(bytes, size));
     }
 
     /** Each batch that waits. */

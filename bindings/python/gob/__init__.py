@@ -136,7 +136,7 @@ class Reader:
         self._fault = Fault()
         self._thread, self._is_busy = get_ident(), False
         chosen = None if limits is None else ctypes.byref(_Limits(*limits))
-        self._handle = library.gob_open(chosen, ctypes.byref(self._fault))
+        self._handle = library.gob_open_exact(chosen, ctypes.byref(self._fault))
         if not self._handle:
             _raise(self._fault)
         self._types: dict[int, Type] = {}
@@ -222,7 +222,7 @@ class Reader:
         batch = Batch()
         while (some := library.gob_take(self._handle, ctypes.byref(batch))) == 1:
             nodes = (ctypes.c_ubyte * (32 * batch.node_count)).from_address(batch.nodes)
-            yield (_copied(batch.heads, 48 * batch.items), memoryview(nodes).cast("B"),
+            yield (_copied(batch.heads, 64 * batch.items), memoryview(nodes).cast("B"),
                    _copied(batch.bytes, batch.byte_count))
             self._decoder.leave()
         if some < 0:
@@ -240,20 +240,20 @@ class Reader:
     def _define(self, some: bytes, nodes: memoryview, pool: bytes) -> None:
         """Takes the definitions of a batch."""
         heads, words = memoryview(some).cast("Q"), nodes.cast("Q")
-        kinds = heads[5::6].tolist()
+        kinds = heads[5::8].tolist()
         for at, kind in enumerate(kinds if 1 in kinds else []):
             if kind == 1:
-                id, first, count, begin, size, _ = heads[6 * at:6 * at + 6].tolist()
+                id, first, count, begin, size = heads[8 * at:8 * at + 5].tolist()
                 of_nodes = words[4 * first:4 * (first + count)].tolist()
                 self._types[id] = _type_from(id, of_nodes, pool[begin:begin + size])
                 self._order.append(id)
 
     def _decode(self, heads: memoryview, made: _Made, taken: list[Any]) -> None:
         """Appends the values of the batch that the decoder has."""
-        first, base = heads[1::6].tolist(), heads[3::6].tolist()
+        first, base = heads[1::8].tolist(), heads[3::8].tolist()
         at = 0
         # items of one kind and type that follow one another
-        for (id, kind), run in groupby(zip(heads[0::6].tolist(), heads[5::6].tolist())):
+        for (id, kind), run in groupby(zip(heads[0::8].tolist(), heads[5::8].tolist())):
             end = at + sum(1 for _ in run)
             if kind == 2:
                 values = map(self._decoder.of(id), first[at:end], base[at:end])
@@ -404,7 +404,7 @@ def check(source: Source, *, limits: Limits | None = None) -> Summary:
     data = source if isinstance(source, bytes) else b"".join(_pieces(source, 1 << 20))
     counts, fault = Counts(), Fault()
     chosen = None if limits is None else ctypes.byref(_Limits(*limits))
-    library.gob_check(data, len(data), chosen, ctypes.byref(counts), ctypes.byref(fault))
+    library.gob_check_exact(data, len(data), chosen, ctypes.byref(counts), ctypes.byref(fault))
     try:
         _raise(fault)
     except Refused as refused:

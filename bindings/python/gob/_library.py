@@ -8,14 +8,14 @@ import os
 import pathlib
 from typing import Any, Iterator
 
-ABI = 1  # GOB_ABI of gob.h
+ABI = 2  # GOB_ABI of gob.h
 
 
 class Fault(ctypes.Structure):
     """gob_fault."""
 
     _fields_ = [("status", ctypes.c_uint32), ("reason", ctypes.c_uint32), ("id", ctypes.c_uint64),
-                ("place", ctypes.c_uint64), ("seen", ctypes.c_uint64)]
+                ("place", ctypes.c_uint64), ("seen", ctypes.c_uint64), ("begin", ctypes.c_uint64)]
 
 
 class Limits(ctypes.Structure):
@@ -29,7 +29,8 @@ class Head(ctypes.Structure):
     """gob_head."""
 
     _fields_ = [("id", ctypes.c_uint64), ("node", ctypes.c_uint64), ("nodes", ctypes.c_uint64),
-                ("byte", ctypes.c_uint64), ("bytes", ctypes.c_uint64), ("kind", ctypes.c_uint64)]
+                ("byte", ctypes.c_uint64), ("bytes", ctypes.c_uint64), ("kind", ctypes.c_uint64),
+                ("begin", ctypes.c_uint64), ("end", ctypes.c_uint64)]
 
 
 class Batch(ctypes.Structure):
@@ -42,7 +43,8 @@ class Batch(ctypes.Structure):
 class Counts(ctypes.Structure):
     """gob_counts."""
 
-    _fields_ = [("items", ctypes.c_uint64), ("types", ctypes.c_uint64)]
+    _fields_ = [("items", ctypes.c_uint64), ("types", ctypes.c_uint64), ("values", ctypes.c_uint64),
+                ("bytes", ctypes.c_uint64)]
 
 
 class Node(ctypes.Structure):
@@ -56,7 +58,8 @@ class Item(ctypes.Structure):
     """gob_item."""
 
     _fields_ = [("kind", ctypes.c_uint32), ("id", ctypes.c_uint32), ("nodes", ctypes.POINTER(Node)),
-                ("count", ctypes.c_size_t), ("bytes", ctypes.c_void_p), ("size", ctypes.c_size_t)]
+                ("count", ctypes.c_size_t), ("bytes", ctypes.c_void_p), ("size", ctypes.c_size_t),
+                ("begin", ctypes.c_uint64), ("end", ctypes.c_uint64)]
 
 
 def _candidates() -> Iterator[str]:
@@ -89,14 +92,14 @@ def _load() -> ctypes.CDLL:
 library = _load()
 _reader, _fault = ctypes.c_void_p, ctypes.POINTER(Fault)
 _calls: list[tuple[Any, ...]] = [
-    ("gob_open", _reader, ctypes.POINTER(Limits), _fault),
+    ("gob_open_exact", _reader, ctypes.POINTER(Limits), _fault),
     ("gob_feed", ctypes.c_int, _reader, ctypes.c_void_p, ctypes.c_size_t, _fault),
     ("gob_finish", ctypes.c_int, _reader, _fault),
     ("gob_take", ctypes.c_int, _reader, ctypes.POINTER(Batch)),
     ("gob_type", ctypes.POINTER(Item), _reader, ctypes.c_uint32),
     ("gob_close", None, _reader),
-    ("gob_check", ctypes.c_int, ctypes.c_char_p, ctypes.c_size_t, ctypes.POINTER(Limits), ctypes.POINTER(Counts),
-     _fault),
+    ("gob_check_exact", ctypes.c_int, ctypes.c_char_p, ctypes.c_size_t, ctypes.POINTER(Limits),
+     ctypes.POINTER(Counts), _fault),
     ("gob_reason_name", ctypes.c_char_p, ctypes.c_uint32),
     ("gob_reason_text", ctypes.c_char_p, ctypes.c_uint32),
 ]

@@ -35,7 +35,8 @@ if TYPE_CHECKING:
 
     _Array = np.ndarray[Any, Any]
 
-_HEAD = np.dtype([("id", "<u8"), ("node", "<u8"), ("nodes", "<u8"), ("byte", "<u8"), ("bytes", "<u8"), ("kind", "<u8")])
+_HEAD = np.dtype([("id", "<u8"), ("node", "<u8"), ("nodes", "<u8"), ("byte", "<u8"), ("bytes", "<u8"), ("kind", "<u8"),
+                  ("begin", "<u8"), ("end", "<u8")])
 _NODE = np.dtype([("number", "<u8"), ("first", "<u8"), ("second", "<u8"), ("kind", "<u4"), ("named", "<u4")])
 _DTYPES = {1: np.dtype(bool), 2: np.dtype("<i8"), 3: np.dtype("<u8"), 4: np.dtype("<f8"), 7: np.dtype("<c16")}
 # what Go's time begins with, in either version

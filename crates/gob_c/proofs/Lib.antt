@@ -1,2 +1,4 @@
 pub mod AsBox
+pub mod AsCounterBox
+pub mod CountsLaws
 pub mod HeldLaws

@@ -1,3 +1,5 @@
+pub mod AnyCounter
+pub mod Counting
 pub mod Held
 pub mod Asked
 pub mod Told

@@ -2,25 +2,30 @@
 //! has the memory functions, the room for items and the public header.
 //!
 //! A reader stands behind a pointer that C keeps, its [`Handle`]. Each call is lent the handle, takes the reader out of
-//! it, and leaves there the one that it tells of.
+//! it, and leaves there the one that it tells of. The counter of a check in pieces stands so behind a handle of its
+//! own.
 #![tactic(auto)]
 
 ghost use Rattle.std.specs.Prelude.{◌≡◌, IfSome, IsSome};
 ghost use Rattle.gob_c.specs.Asked.{asked_bounds};
 ghost use Rattle.gob_c.specs.Held.{GoesOn};
-ghost use Rattle.gob_c.specs.Calls.{OpenTold, IsNew, FeedTold, FinishTold, TakeTold, ShapeTold, CheckTold};
+ghost use Rattle.gob_c.specs.Calls.{OpenTold, IsNewReader, FeedTold, FinishTold, TakeTold, ShapeTold, CheckTold};
 
+mod any_counter;
+mod check;
+mod counter_handle;
 mod counts;
 mod handle;
+mod in_pieces;
 mod limits;
 mod parts;
 mod told;
 
+use check::check;
 use counts::Counts;
-use gob_handed::{HandedOut, Head, Reader};
+use gob_handed::{AnyReader, HandedOut, Head};
 use gob_stream::Limits;
 use gob_tape::FlatNode;
-use gob_tool::check_bytes;
 use gob_types::TypeId;
 use handle::Handle;
 use limits::Asked;
@@ -33,13 +38,14 @@ use told::Told;
 /// one was made.
 #[unsafe(no_mangle)]
 pub extern "C" fn gob_raw_open(alloc: Global, asked: &Asked, told: &mut Told, reader: &mut Handle)
-    ensures { OpenTold (asked_bounds asked.now) told.new reader.old.value reader.new.value }
+    ensures { OpenTold (asked_bounds asked.now) (IsNewReader (asked_bounds asked.now) asked.now.exact) told.new
+        reader.old.value reader.new.value }
 {
     let Some(limits) = asked.limits() else {
         *told = Told::plain(4);
         return;
     };
-    match opened(alloc, limits) {
+    match opened(alloc, limits, asked.exact) {
         Some(boxed) => {
             give(boxed, reader);
             *told = Told::plain(0);
@@ -56,7 +62,8 @@ pub extern "C" fn gob_raw_feed(alloc: Global, reader: &mut Handle, piece: &[u8],
     ensures { GoesOn reader.old.value reader.new.value (λ old new. FeedTold old new piece.now told.new) }
 {
     let mut boxed = taken(alloc, reader);
-    *told = Told::of(boxed.feed(alloc, piece));
+    let ended = boxed.feed(alloc, piece);
+    *told = Told::of(ended, boxed.begin());
     give(boxed, reader);
 }
 
@@ -67,7 +74,8 @@ pub extern "C" fn gob_raw_finish(alloc: Global, reader: &mut Handle, told: &mut 
     ensures { GoesOn reader.old.value reader.new.value (λ old new. FinishTold old new told.new) }
 {
     let mut boxed = taken(alloc, reader);
-    *told = Told::of(boxed.finish());
+    let ended = boxed.finish();
+    *told = Told::of(ended, boxed.begin());
     give(boxed, reader);
 }
 
@@ -118,8 +126,8 @@ pub extern "C" fn gob_raw_close(reader: Handle)
     drop(reader.into_parts().into_box());
 }
 
-/// Goes through a stream that is held in memory, and keeps nothing of it. What there is in it is written to `counts`,
-/// where all of it is a stream; how that ended is told.
+/// Goes through a stream that is held in memory, and keeps nothing of it. What there is in its whole items is written
+/// to `counts`, and how that ended is told.
 #[unsafe(no_mangle)]
 pub extern "C" fn gob_raw_check(
     alloc: Global,
@@ -128,34 +136,27 @@ pub extern "C" fn gob_raw_check(
     counts: &mut Counts,
     told: &mut Told,
 )
-    ensures { CheckTold (asked_bounds asked.now) bytes.now counts.new told.new }
+    ensures { CheckTold (asked_bounds asked.now) asked.now.exact bytes.now counts.new told.new }
 {
     let Some(limits) = asked.limits() else {
         *told = Told::plain(4);
         return;
     };
-    match check_bytes(alloc, bytes, limits) {
-        Ok(tally) => {
-            *counts = Counts {
-                items: tally.items,
-                types: tally.types,
-            };
-            *told = Told::plain(0);
-        }
-        Err(fault) => *told = Told::of(Err(fault)),
-    }
+    let checked = check(alloc, bytes, limits, asked.exact);
+    *counts = Counts::of(checked.tally);
+    *told = Told::of(checked.ended, checked.tally.bytes);
 }
 
 // A new reader, on the heap; None for want of memory.
-fn opened(alloc: Global, limits: Limits) -> Option<Box<Reader>>
-    ensures { IfSome result (λ boxed. IsNew boxed.value limits) }
+fn opened(alloc: Global, limits: Limits, exact: bool) -> Option<Box<AnyReader>>
+    ensures { IfSome result (λ boxed. IsNewReader limits exact boxed.value) }
 {
-    let reader = Reader::new(alloc, limits).ok()?;
+    let reader = AnyReader::new(alloc, limits, exact).ok()?;
     Box::new(alloc, reader).ok()
 }
 
 // The reader that the handle holds, which holds none then.
-fn taken(alloc: Global, handle: &mut Handle) -> Box<Reader>
+fn taken(alloc: Global, handle: &mut Handle) -> Box<AnyReader>
     requires { IsSome handle.old.value }
     ensures { handle.old.value ≡ Some result.value }
 {
@@ -165,7 +166,7 @@ fn taken(alloc: Global, handle: &mut Handle) -> Box<Reader>
 }
 
 // Gives the handle a reader.
-fn give(reader: Box<Reader>, handle: &mut Handle)
+fn give(reader: Box<AnyReader>, handle: &mut Handle)
     ensures { handle.new.value ≡ Some reader.value }
 {
     *handle = Handle::of(Parts::of(reader));

@@ -21,12 +21,14 @@ pub struct Told {
     pub place: u64,
     /// How many bytes of the stream show the refusal; else 0.
     pub seen: u64,
+    /// Where the refused item begins in the stream, in bytes from 0; else 0.
+    pub begin: u64,
 }
 
 impl Told {
-    /// What is told of how a call ended.
-    pub(crate) fn of(ended: Result<(), Fault>) -> Told
-        ensures { result ≡ told_of ended }
+    /// What is told of how a call ended, where the item under way begins there.
+    pub(crate) fn of(ended: Result<(), Fault>, begin: u64) -> Told
+        ensures { result ≡ told_of ended begin }
     {
         match ended {
             Ok(()) => Told::plain(0),
@@ -36,6 +38,7 @@ impl Told {
                 id: id_of(refusal.reason),
                 place: refusal.place,
                 seen: refusal.seen,
+                begin,
             },
             Err(Fault::Memory) => Told::plain(2),
             Err(Fault::Read | Fault::Failed) => Told::plain(3),
@@ -52,6 +55,7 @@ impl Told {
             id: 0,
             place: 0,
             seen: 0,
+            begin: 0,
         }
     }
 }

@@ -2,7 +2,7 @@
 use mir.Val.{bool_byte}
 use Rattle.std.proofs.Common.{◌≡◌, ℕ, ◌+◌, ◌-◌, ◌^◌, ◌≤◌, arith, List, [], ◌∷◌, ◌++◌, length, take, drop, min}
 use Rattle.std.proofs.Common.{Bool, Result, Ok, Err, Option, Some, None, ◌∙◌, ap, sym, subst, refl, length-append}
-use Rattle.std.proofs.Common.{append_assoc, append-nil, take-append-drop, IfSome, MatchBool, true, false}
+use Rattle.std.proofs.Common.{append_assoc, append-nil, take-append-drop, IfOk, IfSome, MatchBool, true, false}
 use Rattle.std.specs.Result.{IsErrAnd}
 use Rattle.std.proofs.lemmas.List.{length-take-le}
 use Rattle.gob_types.specs.Base.{base_table}
@@ -457,6 +457,12 @@ module _ {X I Told : Type 0} (d : Stepping X I Told) where
   ends T s' (Err fault.Read) h f = f
   ends T s' (Err fault.Memory) h f = f
   ends T s' (Err fault.Failed) h f = f
+
+  -- nothing changes where the session's end changes nothing
+  pub unchanged : (c : Counter X I) (s' : X) (r : Result (Unit {0}) Fault) → IfOk r (λ _. s' ≡ session_of c)
+      → IfOk r (λ _. record { session = s'; tally = c.tally; taken = c.taken } ≡ c)
+  unchanged c s' (Ok u) same = ap (λ s. record { session = s; tally = c.tally; taken = c.taken }) same
+  unchanged c s' (Err e) same = same
 
   -- ---- bytes that are held in memory
   check_stops : (L : Bounds) (bytes : List ℕ) (tally : Tally) (e : Fault) → Stops d L [] bytes tally e

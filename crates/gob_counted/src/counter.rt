@@ -70,11 +70,13 @@ impl<S: TellsApart> Counter<S> {
     }
 
     /// Says that no byte follows. Ok exactly where all of the bytes are a stream, the tally being that of the whole of
-    /// it; else the refusal `Ended` at the end of the bytes that came. The tally stays. After a fault each call answers
-    /// [`Fault::Failed`], and nothing changes.
+    /// it, and then nothing has changed; else the refusal `Ended` at the end of the bytes that came. The tally stays.
+    /// After a fault each call answers [`Fault::Failed`], and nothing changes.
     pub fn finish(&mut self) -> Result<(), Fault>
         ensures ended { (items : List S.Told) (bytes : List ℕ) → HasCounted S.stepping self.old items bytes
             → EndsCounting S.stepping self.old items bytes result }
+        ensures whole { (items : List S.Told) (bytes : List ℕ) → HasCounted S.stepping self.old items bytes
+            → IfOk result (λ _. self.new ≡ self.old) }
         ensures tally { tally_of self.new ≡ tally_of self.old }
         ensures failed { OnErr result (S.stepping.failed (session_of self.new)) }
         ensures stays { S.stepping.failed (session_of self.old) → (result ≡ Err Fault.Failed) × (self.new ≡ self.old) }

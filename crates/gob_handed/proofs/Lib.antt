@@ -1,1 +1,7 @@
-pub mod PutsLaws
+mod PutsLaws
+mod IdLaws
+mod FillingLaws
+mod EverLaws
+mod ReadingLaws
+mod HandoutLaws
+mod LeadsLaws

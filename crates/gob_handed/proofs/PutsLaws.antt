@@ -6,10 +6,9 @@ use Rattle.std.proofs.lemmas.List.{take-append-drop, drop_more}
 use Rattle.gob_tape.specs.declared.flat.FlatNode.{FlatNode}
 use Rattle.gob_types.specs.declared.kind.Field.{Field}
 use Rattle.gob_types.specs.Table.{Table}
-use Rattle.gob_stream.specs.declared.item.Item.{Item}
-use Rattle.gob_tape.specs.Flat.{Flat}
 use Rattle.gob_handed.specs.declared.head.Head.{Head}
-use Rattle.gob_handed.specs.Handed.{AreHanded, one_more, item_head, item_nodes, item_bytes}
+use Rattle.gob_handed.specs.Handed.{AreHanded, one_more, handout_head, handout_nodes, handout_bytes}
+use Rattle.gob_handed.specs.declared.handout.Handout.{Handout}
 use Rattle.gob_handed.specs.declared.place.Place.{Place}
 use Rattle.gob_handed.specs.Puts.{PutsNodes, PutsBytes}
 use Rattle.gob_handed.specs.Definition.{name_node, field_nodes, field_names}
@@ -151,32 +150,33 @@ names_step fs i f b m lt is before =
     ∙ length-append (field_names (take i fs)) f.name in
     omega (arith, before, long)
 
--- ---- items
--- one more item
-pub hand_step : (T : Table) (items : List (Item Flat)) (i : ℕ) (item : Item Flat) (heads : List Head) (head : Head)
+-- ---- handouts
+-- one more
+pub hand_step : (T : Table) (handouts : List Handout) (i : ℕ) (handout : Handout) (heads : List Head) (head : Head)
     (at to : Place) (nodes nodes' : List FlatNode) (pool pool' : List ℕ)
-    → i < length items → i < length heads → item ≡ get_or items i item
-    → AreHanded T (take i items) (take i heads) (take at.nodes nodes) (take at.bytes pool)
+    → i < length handouts → i < length heads → handout ≡ get_or handouts i handout
+    → AreHanded T (take i handouts) (take i heads) (take at.nodes nodes) (take at.bytes pool)
     × ((at.nodes ≤ length nodes) × (at.bytes ≤ length pool))
-    → PutsNodes at to nodes nodes' (item_nodes T item) → PutsBytes at to pool pool' (item_bytes T item)
-    → head ≡ item_head T item at.nodes at.bytes
-    → AreHanded T (take (i + 1) items) (take (i + 1) (set heads i head)) (take to.nodes nodes') (take to.bytes pool')
+    → PutsNodes at to nodes nodes' (handout_nodes T handout) → PutsBytes at to pool pool' (handout_bytes T handout)
+    → head ≡ handout_head T handout at.nodes at.bytes
+    → AreHanded T (take (i + 1) handouts) (take (i + 1) (set heads i head)) (take to.nodes nodes') (take to.bytes pool')
     × ((to.nodes ≤ length nodes') × (to.bytes ≤ length pool'))
-hand_step T items i item heads head at to nodes nodes' pool pool' lt lt' is before ns bs made =
-    let so : take (i + 1) items ≡ take i items ++ item ∷ [] =
-    take_more items i item lt ∙ ap (λ x. take i items ++ x ∷ []) (sym is) in
+hand_step T handouts i handout heads head at to nodes nodes' pool pool' lt lt' is before ns bs made =
+    let so : take (i + 1) handouts ≡ take i handouts ++ handout ∷ [] =
+    take_more handouts i handout lt ∙ ap (λ x. take i handouts ++ x ∷ []) (sym is) in
     let n : length (take at.nodes nodes) ≡ at.nodes = omega (arith, length-take at.nodes nodes, before.1.0) in
     let b : length (take at.bytes pool) ≡ at.bytes = omega (arith, length-take at.bytes pool, before.1.1) in
-    let now = take i heads ++ item_head T item (length (take at.nodes nodes)) (length (take at.bytes pool)) ∷ [] in
+    let now = take i heads
+    ++ handout_head T handout (length (take at.nodes nodes)) (length (take at.bytes pool)) ∷ [] in
     let hs : take (i + 1) (set heads i head) ≡ now =
     take_more_set heads i head lt'
-    ∙ ap (λ h. take i heads ++ h ∷ []) (made ∙ ap₂ (λ x y. item_head T item x y) (sym n) (sym b)) in
-    let is' = take i items ++ item ∷ [] in
-    let ns' = take at.nodes nodes ++ item_nodes T item in (
+    ∙ ap (λ h. take i heads ++ h ∷ []) (made ∙ ap₂ (λ x y. handout_head T handout x y) (sym n) (sym b)) in
+    let is' = take i handouts ++ handout ∷ [] in
+    let ns' = take at.nodes nodes ++ handout_nodes T handout in (
       subst (λ l. AreHanded T l (take (i + 1) (set heads i head)) (take to.nodes nodes') (take to.bytes pool')) (sym so)
           (subst (λ l. AreHanded T is' l (take to.nodes nodes') (take to.bytes pool')) (sym hs)
           (subst (λ l. AreHanded T is' now l (take to.bytes pool')) (sym ns.prefix)
-          (subst (λ l. AreHanded T is' now ns' l) (sym bs.prefix) (one_more item before.0)))),
+          (subst (λ l. AreHanded T is' now ns' l) (sym bs.prefix) (one_more handout before.0)))),
       (ns.room, bs.room),
     )
 

@@ -1,4 +1,11 @@
 pub mod Puts
 pub mod Definition
 pub mod Handed
+pub mod Ids
+pub mod ValueNodes
+pub mod Unfolded
 pub mod Waiting
+pub mod Reading
+pub mod Answers
+pub mod AnyReader
+pub mod Machine

@@ -36,6 +36,25 @@ impl Place {
         })
     }
 
+    /// The place behind nodes that are put here; None where there is no room for them.
+    pub(crate) fn nodes(self, out: &mut [FlatNode], nodes: &[FlatNode]) -> Option<Place>
+        ensures put { IfSome result (λ to. PutsNodes self to out.old out.new nodes.now) }
+        ensures bytes { IfSome result (λ to. to.bytes ≡ self.bytes) }
+        ensures room { self.nodes + length nodes.now ≤ length out.old → IsSome result }
+        ensures kept { take self.nodes out.new ≡ take self.nodes out.old }
+        ensures length { length out.new ≡ length out.old }
+    {
+        if self.nodes > out.len() || nodes.len() > out.len() - self.nodes {
+            return None;
+        }
+        let end = self.nodes + nodes.len();
+        out[self.nodes..end].copy_from_slice(nodes);
+        Some(Place {
+            nodes: end,
+            bytes: self.bytes,
+        })
+    }
+
     /// The place behind bytes that are put here; None where there is no room for them.
     pub(crate) fn bytes(self, pool: &mut [u8], bytes: &[u8]) -> Option<Place>
         ensures put { IfSome result (λ to. PutsBytes self to pool.old pool.new bytes.now) }

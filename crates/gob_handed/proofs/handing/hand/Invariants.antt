@@ -3,8 +3,8 @@ use Rattle.gob_types.specs.Defined.{types}
 use Rattle.gob_handed.specs.Handed.{AreHanded}
 use Rattle.gob_handed.proofs.handing.hand.Given as goal
 
-abbrev pub invariant-items : goal.invariant-items
-invariant-items l =
-    AreHanded (types l.table) (take l.index l.items) (take l.index l.heads)
+abbrev pub invariant-handouts : goal.invariant-handouts
+invariant-handouts l =
+    AreHanded (types l.table) (take l.index l.handouts) (take l.index l.heads)
     (take l.at.nodes l.nodes) (take l.at.bytes l.pool)
     × ((l.at.nodes ≤ length l.nodes) × (l.at.bytes ≤ length l.pool))

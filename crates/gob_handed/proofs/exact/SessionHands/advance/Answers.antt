@@ -1,0 +1,21 @@
+use Rattle.gob_stream.proofs.Reader.SessionAnswers.{stands, step_shows, steps}
+use Rattle.gob_handed.proofs.LeadsLaws.{step_leads}
+use Rattle.gob_handed.proofs.exact.SessionHands.advance.Goals as goal
+
+pub returns-clause-stepped : goal.returns-clause-stepped
+returns-clause-stepped g c = λ items bytes h.
+    steps g.B.Builder.building c.args.self.now c.step.new.self items bytes c.args.piece.now c.step.result h
+    (c.step.ensures.advances items bytes h)
+
+pub returns-clause-leads : goal.returns-clause-leads
+returns-clause-leads g c = λ items bytes h.
+    step_leads g.B.Builder.building c.args.self.now c.step.new.self items bytes c.args.piece.now c.step.result
+    c.step.ensures.types h
+
+pub returns-clause-shown : goal.returns-clause-shown
+returns-clause-shown g c = λ items bytes h.
+    step_shows g.B.Builder.building c.args.self.now c.step.new.self items bytes c.args.piece.now c.step.result
+    (c.step.ensures.advances items bytes h)
+
+pub returns-clause-stands : goal.returns-clause-stands
+returns-clause-stands g c = stands g.B.Builder.building c.step.new.self

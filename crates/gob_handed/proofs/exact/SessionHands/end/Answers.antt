@@ -1,0 +1,23 @@
+use Rattle.gob_stream.proofs.Reader.SessionAnswers.{end_stays, finishes}
+use Rattle.gob_handed.proofs.LeadsLaws.{end_leads, end_reason}
+use Rattle.gob_handed.proofs.exact.SessionHands.end.Goals as goal
+
+pub returns-clause-finished : goal.returns-clause-finished
+returns-clause-finished g c = λ items bytes h.
+    finishes g.B.Builder.building c.args.self.now c.finish.new.self items bytes c.finish.result h
+    (c.finish.ensures.finishes items bytes h)
+
+pub returns-clause-whole : goal.returns-clause-whole
+returns-clause-whole g c = λ items bytes h.
+    end_stays g.B.Builder.building c.args.self.now c.finish.new.self items bytes c.finish.result
+    (c.finish.ensures.finishes items bytes h)
+
+pub returns-clause-ended : goal.returns-clause-ended
+returns-clause-ended g c = λ items bytes h.
+    end_reason g.B.Builder.building c.args.self.now c.finish.new.self items bytes c.finish.result
+    (c.finish.ensures.finishes items bytes h)
+
+pub returns-clause-leads : goal.returns-clause-leads
+returns-clause-leads g c = λ items bytes h.
+    end_leads g.B.Builder.building c.args.self.now c.finish.new.self items bytes c.finish.result
+    c.finish.ensures.types h

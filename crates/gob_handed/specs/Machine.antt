@@ -1,0 +1,2 @@
+-- How nodes are put. No clause of a public call names these.
+pub mod Putting

@@ -1,0 +1,230 @@
+//! The nodes and the bytes of a value that may hold others.
+
+ghost use Rattle.std.specs.Prelude.{◌≡◌, ◌++◌, ◌∷◌, ℕ, List, [], IfOk, OnOk, length, map, set};
+ghost use Rattle.gob_types.specs.Defined.{types};
+ghost use Rattle.gob_types.specs.declared.id.TypeId.{TypeId};
+ghost use Rattle.gob_tape.specs.FlatNodes.{flat};
+ghost use Rattle.gob_filled.specs.Filled as spelled;
+ghost use Rattle.gob_go.specs.Meaning.{AreFillings, IsFilled};
+ghost use Rattle.gob_go.specs.declared.filled.Filling.{out-Filling};
+ghost use Rattle.gob_go_json.specs.Gaps.{AreGaps};
+ghost use Rattle.gob_handed.specs.ValueNodes.{PutsValue, PutsFillings, PutsHeld, behind, begun, text_node};
+ghost use Rattle.gob_handed.specs.Machine.Putting.{HoldsNil};
+
+use gob_go::{Filled, Filling};
+use gob_go_json::{gaps_of, tape_of};
+use gob_num::Memory;
+use gob_tape::{FlatNode, Tape};
+use gob_types::{Table, TypeId};
+use std::alloc::Global;
+
+// The kinds of the nodes that are made here, or looked at. No part of a skeleton is an interface that holds a value.
+const BYTES: u32 = 5;
+
+const TEXT: u32 = 6;
+
+const NIL: u32 = 8;
+
+const OPAQUE: u32 = 12;
+
+const HELD: u32 = 15;
+
+const NO_NODE: FlatNode = FlatNode {
+    number: 0,
+    first: 0,
+    second: 0,
+    kind: 0,
+    named: 0,
+};
+
+/// Nodes and bytes.
+#[derive(Drop)]
+pub struct FlatValue {
+    pub(crate) nodes: Vec<FlatNode>,
+    pub(crate) pool: Vec<u8>,
+}
+
+impl FlatValue {
+    /// None.
+    pub(crate) fn new(alloc: Global) -> FlatValue
+        ensures nodes { result.nodes.items ≡ [] }
+        ensures pool { result.pool.items ≡ [] }
+    {
+        FlatValue {
+            nodes: Vec::new(alloc),
+            pool: Vec::new(alloc),
+        }
+    }
+}
+
+/// Appends the nodes and the bytes of a value of the type. Recursion is as deep as values hold one another. `Memory`
+/// also where it is no value of the type.
+#[cycle(flat)]
+pub(crate) fn push_value(
+    alloc: Global,
+    table: &Table,
+    id: TypeId,
+    value: &Filled,
+    out: &mut FlatValue,
+) -> Result<(), Memory>
+    ensures { OnOk result ((w : spelled.Filled) → IsFilled (types table.now) id value.now w
+        → PutsValue (types table.now) id w out.old.nodes.items out.old.pool.items out.new.nodes.items
+        out.new.pool.items) }
+{
+    if !table.kept(id) {
+        return Err(Memory);
+    }
+    let tape = tape_of(alloc, table, id, &value.skeleton)?;
+    let gaps = gaps_of(alloc, table, id, &value.skeleton, &value.fillings)?;
+    let first = out.nodes.len();
+    push_tape(alloc, &tape, out)?;
+    push_fillings(alloc, table, first, &value.fillings, &gaps, out)
+}
+
+/// Appends what fills nils of a value whose nodes begin at this place: each stands so many nodes behind the one before.
+#[cycle(flat)]
+fn push_fillings(
+    alloc: Global,
+    table: &Table,
+    first: usize,
+    fillings: &[Filling],
+    gaps: &[u64],
+    out: &mut FlatValue,
+) -> Result<(), Memory>
+    ensures { OnOk result ((t : TypeId) (b : List ℕ) (fs : spelled.Fillings)
+        → AreGaps (types table.now) t b 0 fillings.now gaps.now → AreFillings (types table.now) fillings.now fs
+        → PutsFillings (types table.now) t b first fs out.old.nodes.items out.old.pool.items out.new.nodes.items
+        out.new.pool.items) }
+{
+    let mut next = first;
+    'fillings: for place in 0..fillings.len() {
+        let filling = &fillings[place];
+        if place >= gaps.len() {
+            return Err(Memory);
+        }
+        let Some(nil) = (next as u64).checked_add(gaps[place]) else {
+            return Err(Memory);
+        };
+        let Some(onward) = nil.checked_add(1) else {
+            return Err(Memory);
+        };
+        push_filling(alloc, table, nil as usize, filling, out)?;
+        next = onward as usize;
+    }
+    Ok(())
+}
+
+/// Appends what fills the nil whose node stands at this place.
+#[cycle(flat)]
+fn push_filling(
+    alloc: Global,
+    table: &Table,
+    nil: usize,
+    filling: &Filling,
+    out: &mut FlatValue,
+) -> Result<(), Memory>
+    ensures { OnOk result ((w : spelled.Filled)
+        → IsFilled (types table.now) (out-Filling filling.now).id (out-Filling filling.now).value w
+        → PutsHeld (types table.now) nil (out-Filling filling.now).name.items (out-Filling filling.now).id w
+        out.old.nodes.items out.old.pool.items out.new.nodes.items out.new.pool.items) }
+{
+    hold(nil, filling.id, out)?;
+    push_name(&filling.name, out)?;
+    push_value(alloc, table, filling.id, &filling.value, out)
+}
+
+/// Makes the nil at this place an interface that holds a value of the type, which is put behind all nodes.
+fn hold(nil: usize, id: TypeId, out: &mut FlatValue) -> Result<(), Memory>
+    ensures nodes { OnOk result (HoldsNil nil id out.old.nodes.items out.new.nodes.items) }
+    ensures pool { OnOk result (out.new.pool.items ≡ out.old.pool.items) }
+{
+    let count = out.nodes.len();
+    if nil >= count {
+        return Err(Memory);
+    }
+    let old = out.nodes[nil];
+    if old.kind != NIL {
+        return Err(Memory);
+    }
+    out.nodes[nil] = FlatNode {
+        number: old.number,
+        first: (count - nil) as u64,
+        second: id.0,
+        kind: HELD,
+        named: old.named,
+    };
+    Ok(())
+}
+
+/// Appends a node of the name.
+fn push_name(name: &[u8], out: &mut FlatValue) -> Result<(), Memory>
+    ensures nodes { OnOk result (out.new.nodes.items
+        ≡ out.old.nodes.items ++ text_node (length out.old.pool.items) name.now ∷ []) }
+    ensures pool { OnOk result (out.new.pool.items ≡ out.old.pool.items ++ name.now) }
+{
+    out.nodes.push(FlatNode {
+        number: 0,
+        first: out.pool.len() as u64,
+        second: name.len() as u64,
+        kind: TEXT,
+        named: 0,
+    })?;
+    Ok(out.pool.extend_from_slice(name)?)
+}
+
+/// Appends the nodes and the bytes of a tape.
+fn push_tape(alloc: Global, tape: &Tape, out: &mut FlatValue) -> Result<(), Memory>
+    ensures nodes { OnOk result (out.new.nodes.items
+        ≡ out.old.nodes.items ++ map (behind (length out.old.pool.items)) (map flat tape.now.nodes)) }
+    ensures pool { OnOk result (out.new.pool.items ≡ out.old.pool.items ++ tape.now.pool) }
+{
+    let words = words_of(alloc, tape)?;
+    push_behind(out.pool.len() as u64, &words, &mut out.nodes)?;
+    Ok(out.pool.extend_from_slice(tape.pool())?)
+}
+
+/// The words of the nodes of a tape.
+fn words_of(alloc: Global, tape: &Tape) -> Result<Vec<FlatNode>, Memory>
+    ensures { IfOk result (λ words. words.items ≡ map flat tape.now.nodes) }
+{
+    let mut words = vec![in alloc; NO_NODE; tape.node_count()]?;
+    if !tape.write_flat(&mut words) {
+        return Err(Memory);
+    }
+    Ok(words)
+}
+
+/// Appends the nodes, whose bytes stand behind so many others.
+fn push_behind(more: u64, nodes: &[FlatNode], out: &mut Vec<FlatNode>) -> Result<(), Memory>
+    ensures { OnOk result (out.new.items ≡ out.old.items ++ map (behind more) nodes.now) }
+{
+    'nodes: for place in 0..nodes.len() {
+        let node = behind(more, nodes[place])?;
+        out.push(node)?;
+    }
+    Ok(())
+}
+
+/// The node, whose bytes stand behind so many others.
+fn behind(more: u64, node: FlatNode) -> Result<FlatNode, Memory>
+    ensures { IfOk result (λ n. n ≡ behind more node) }
+{
+    let first = begun(more, node.kind, node.first)?;
+    Ok(FlatNode {
+        number: node.number,
+        first,
+        second: node.second,
+        kind: node.kind,
+        named: node.named,
+    })
+}
+
+/// Where the bytes begin of a node of this kind, behind so many others.
+fn begun(more: u64, kind: u32, first: u64) -> Result<u64, Memory>
+    ensures { IfOk result (λ n. n ≡ begun more kind first) }
+{
+    if kind == BYTES || kind == TEXT || kind == OPAQUE {
+        return more.checked_add(first).ok_or(Memory);
+    }
+    Ok(first)
+}
