@@ -1,27 +1,8 @@
-/* The layer of C over the proved archive: its memory, the room that items are handed out into, and the definitions that
- * were asked for. Nothing here is proved. */
+/* The layer of C over the proved archive: the room that items are handed out into, and the definitions that were asked
+ * for. Nothing here is proved. */
 #include "raw.h"
 
 #include <stdlib.h>
-
-_Static_assert(sizeof(void *) == 8 && sizeof(size_t) == 8, "the archive is of a machine of 64 bits");
-
-/* ---- memory */
-
-static unsigned char nowhere;
-
-static struct raw_block block(void *at) {
-    return (struct raw_block){at != NULL, at != NULL ? at : &nowhere};
-}
-
-struct raw_block rattle_alloc(size_t size, size_t align) { return block(malloc(size != 0 ? size : align)); }
-
-struct raw_block rattle_realloc(unsigned char *at, size_t kept, size_t size, size_t align) {
-    (void)kept;
-    return block(realloc(at, size != 0 ? size : align));
-}
-
-void rattle_dealloc(unsigned char *at) { free(at); }
 
 /* ---- readers */
 
@@ -42,6 +23,8 @@ struct gob_reader {
 };
 
 static const gob_limits standard = {67108864, 1000, 10000, 68719476736};
+
+static unsigned char nowhere;
 
 /* The archive takes no NULL for bytes, also where there are none. */
 static const unsigned char *some_bytes(const void *bytes, size_t count) {

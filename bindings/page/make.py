@@ -2,11 +2,6 @@
 """Puts the page together: its text, its style, its scripts, the translated library and the examples, in one file.
 
     make.py MODULE.wasm PAGE.html
-
-    make.py --without-table MODULE.wasm OUT.wasm
-
-The second drops the section of tables, which wasm-opt would leave with numbers of 64 bits. No function is called
-through a table.
 """
 import base64
 import hashlib
@@ -17,7 +12,7 @@ import sys
 HERE = pathlib.Path(__file__).resolve().parent
 ROOT = HERE.parents[1]
 # what the page and its worker both have, and what the page alone has
-SHARED = ["texts.js", "types.js", "opaque.js", "source.js", "lines.js", "library.js", "walk.js", "reasons.js",
+SHARED = ["texts.js", "types.js", "opaque.js", "source.js", "lines.js", "library.js", "walk.js", "advice.js",
           "find.js", "stream.js"]
 PAGE = ["tree.js", "bytes.js", "files.js", "search.js", "keys.js", "page.js"]
 EXAMPLES = {
@@ -65,36 +60,7 @@ def page(module):
     return re.sub("@([A-Z]+)@", lambda found: parts[found[1]], (HERE / "src/page.html").read_text(encoding="utf-8"))
 
 
-def number(data, at):
-    """The number that stands at the place, and where it ends."""
-    value = shift = 0
-    while True:
-        byte = data[at]
-        at += 1
-        value |= (byte & 127) << shift
-        shift += 7
-        if byte < 128:
-            return value, at
-
-
-def without_table(data):
-    out, at = data[:8], 8
-    while at < len(data):
-        size, start = number(data, at + 1)
-        if data[at] != 4:
-            out += data[at:start + size]
-        at = start + size
-    return out
-
-
-def main(words):
-    if words[:1] == ["--without-table"]:
-        pathlib.Path(words[2]).write_bytes(without_table(pathlib.Path(words[1]).read_bytes()))
-    elif len(words) == 2:
-        pathlib.Path(words[1]).write_text(page(pathlib.Path(words[0]).read_bytes()), encoding="utf-8")
-    else:
-        sys.exit(__doc__)
-
-
 if __name__ == "__main__":
-    main(sys.argv[1:])
+    if len(sys.argv) != 3:
+        sys.exit(__doc__)
+    pathlib.Path(sys.argv[2]).write_text(page(pathlib.Path(sys.argv[1]).read_bytes()), encoding="utf-8")

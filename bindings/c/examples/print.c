@@ -1,5 +1,5 @@
-/* Prints the values of a gob stream, as Go would write them: print <STREAM. The status is 0 exactly where all of the bytes
- * are a stream, and each of its values was printed.
+/* Prints the values of a gob stream, as Go would write them: print <STREAM. The status is 0 exactly where all of the
+ * bytes are a stream, and each of its values was printed.
  *
  *     cc print.c $(pkg-config --cflags --libs gob) -o print
  */

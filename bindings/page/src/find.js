@@ -43,12 +43,18 @@ class Finder {
         case LIST: return this.pathOfElement(node, type.elem, path);
         case MAP: return this.pathOfPair(node, type, path);
         case STRUCT: return this.pathOfField(node, type.fields, path);
+        case HELD: return this.pathOfHeld(node, path);
         default: return null;
         }
     }
 
     opaque(type, bytes) {
         return knownNumber(type, bytes) ?? knownText(type, bytes);
+    }
+
+    pathOfHeld(node, path) {
+        const { batch } = this, name = batch.nameOfHeld(node);
+        return this.pathOf(name, 6, path) ?? this.pathOf(name + 1, batch.length(node), path);
     }
 
     pathOfElement(node, elem, path) {

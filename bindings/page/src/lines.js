@@ -1,4 +1,4 @@
-// Items as lines of text: those of `gob show` and those of `gob values`, byte for byte.
+// Items as lines of text: those of `gob show --go` and those of `gob values`, byte for byte.
 
 const jsonName = (name) => name.text === null ? `{"hex":"${name.hex}"}` : JSON.stringify(name.text);
 const pattern = (bits) => `"${bits.toString(16).padStart(16, "0")}"`;
@@ -33,6 +33,7 @@ class Lines {
         case LIST: return this.list(node, this.types.get(id).elem);
         case MAP: return this.map(node, this.types.get(id));
         case STRUCT: return this.struct(node, this.types.get(id).fields);
+        case HELD: return this.held(node);
         default: return this.opaque(batch.bytesAt(node, this.base), this.types.get(id));
         }
     }
@@ -61,7 +62,7 @@ class Lines {
     }
 }
 
-/** The lines of `gob show`. */
+/** The lines of `gob show --go`. */
 class ShowLines extends Lines {
     defined(type) {
         const kind = type.kind === "opaque" ? type.marshal : type.kind;
@@ -77,6 +78,11 @@ class ShowLines extends Lines {
 
     valued(id, node) {
         return `{"type":${id},"value":${this.part(node, id)}}\n`;
+    }
+
+    held(node) {
+        const name = this.batch.nameOfHeld(node), type = this.batch.length(node);
+        return `{"interface":{"name":${this.text(name)},"type":${type},"value":${this.part(name + 1, type)}}}`;
     }
 
     float(node, which) {
@@ -120,6 +126,10 @@ class PlainLines extends Lines {
         const real = this.batch.real(node, which);
         if (Number.isFinite(real)) return decimalOf(real);
         return Number.isNaN(real) ? '"NaN"' : real < 0 ? '"-Infinity"' : '"Infinity"';
+    }
+
+    held(node) {
+        return this.part(this.batch.nameOfHeld(node) + 1, this.batch.length(node));
     }
 
     bytes(bytes) {

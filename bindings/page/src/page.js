@@ -62,7 +62,7 @@ class Readings {
 
 const readings = new Readings();
 const ready = readings.start();
-let shown = { name: "", told: null };
+let shown = { file: null, told: null };
 let turn = 0;
 
 const setState = (state) => void (document.body.dataset.state = state);
@@ -75,7 +75,7 @@ async function show(file) {
     try {
         await ready;
         const told = await working(`Reading ${unquoted(file.name)}`, file.size, "read", file);
-        if (mine === turn) showTold(file.name, told);
+        if (mine === turn) showTold(file, told);
     } catch (error) {
         if (mine === turn) showFailure(error);
     }
@@ -108,10 +108,10 @@ function clear() {
     for (const id of ["said", "why", "source", "saved", "found", "tree"]) $(id).replaceChildren();
 }
 
-function showTold(name, told) {
-    shown = { name, told };
-    document.title = `${unquoted(name)} - what is in it`;
-    showOutcome(name, told);
+function showTold(file, told) {
+    shown = { file, told };
+    document.title = `${unquoted(file.name)} - what is in it`;
+    showOutcome(file.name, told);
     if (told.status === REFUSED) showRefusal(told.refusal);
     if (told.types.size > 0) showTypes(told);
     if (told.items > 0) showValues(told);
@@ -142,25 +142,25 @@ function showFailure(error) {
 
 /** Why the bytes are refused: where, what is due there, and what to do. */
 function showRefusal(refusal) {
-    const { start, place, due, todo, line } = refusal;
+    const { begin, place, due, todo, line } = refusal;
     const rows = [
         ["Where", `byte ${place}${placeText(refusal)}`],
-        ["In", `${refusal.item || "an item"}, which begins at byte ${start}`],
+        ["In", `${refusal.item || "an item"}, which begins at byte ${begin}`],
         ["Expected", due],
         ["What to do", todo],
         ["The program says", make("code", "", line)],
     ];
     const list = make("dl");
     for (const [term, text] of rows) {
-        if (term !== "In" || place > start) list.append(make("dt", "", term), make("dd", "", text));
+        if (term !== "In" || place > begin) list.append(make("dt", "", term), make("dd", "", text));
     }
     $("why").append(list, byteRows(refusal), make("p", "note", marksText(refusal)));
     $("refusal").hidden = false;
 }
 
 /** Where in an item a refused byte stands. */
-function placeText({ path, behind, item, place, start }) {
-    if (item === "") return place === start ? ", at the start of an item" : ", before the value of an item";
+function placeText({ path, behind, item, place, begin }) {
+    if (item === "") return place === begin ? ", at the start of an item" : ", before the value of an item";
     return (path && `, at ${path}`) + (behind && `, behind field ${behind}`);
 }
 
@@ -192,7 +192,7 @@ function showValues(told) {
 
 /** A value that was read, as an entry of a list; `path` says where in it something was found. */
 function valueEntry({ value, id, heads, nodes, pool, path = "" }, types) {
-    const part = new Part(new Batch(heads, nodes, pool), 0, id, types);
+    const part = partAt(new Batch(heads, nodes, pool), 0, id, types);
     return partEntry(`#${grouped.format(value)}${path && ` at ${path}`}`, part);
 }
 
@@ -202,7 +202,7 @@ function showTree(list) {
     if (list.children.length <= 5) list.querySelector("details")?.setAttribute("open", "");
 }
 
-/** The lines of all items, as `gob show` or `gob values` prints them. */
+/** The lines of all items, as `gob show --go` or `gob values` prints them. */
 async function linesOf(kind) {
     return working("Writing lines", shown.told.end, "lines", kind);
 }
@@ -212,11 +212,14 @@ const SAVED = {
     values: ["the values, as plain JSON", ".values.jsonl"],
     show: ["all items, as exact JSON lines", ".jsonl"],
     types: ["the types, as Go source", ".go"],
+    before: ["the whole items before the refused one, as a gob file", ".before.gob"],
+    rest: ["the rest, from the refused item on", ".rest.gob"],
 };
 
 /** Offers to save what there is. */
-function offerSaving({ values, items, types }) {
-    const has = { values: values > 0, show: items > 0, types: types.size > 0 };
+function offerSaving({ values, items, types, refusal }) {
+    const isCut = refusal?.begin > 0;
+    const has = { values: values > 0, show: items > 0, types: types.size > 0, before: isCut, rest: isCut };
     const kinds = Object.keys(SAVED).filter((kind) => has[kind]);
     $("kind").replaceChildren(...kinds.map((kind) => new Option(SAVED[kind][0], kind)));
     $("saving").hidden = kinds.length === 0;
@@ -225,10 +228,20 @@ function offerSaving({ values, items, types }) {
 async function save(kind) {
     $("saved").textContent = "";
     try {
-        const blob = kind === "types" ? new Blob([shown.told.source]) : await linesOf(kind);
-        download(blob, shown.name + SAVED[kind][1]);
+        const { name } = shown.file;
+        download(await blobOf(kind), name + SAVED[kind][1]);
     } catch (error) {
         $("saved").textContent = `Not saved: ${error.message}`;
+    }
+}
+
+async function blobOf(kind) {
+    const { file, told } = shown;
+    switch (kind) {
+    case "types": return new Blob([told.source]);
+    case "before": return file.slice(0, told.refusal.begin);
+    case "rest": return file.slice(told.refusal.begin);
+    default: return linesOf(kind);
     }
 }
 

@@ -1,32 +1,6 @@
 // A file that is read: what is in it, any of its values, and its lines. Little is kept besides the types: a file is
 // read in pieces, and each value that is asked for is read again from the last mark before it.
 
-/** Where items begin: their counts are passed over, piece by piece, while the reader reads the same bytes. */
-class Starts {
-    constructor(offset = 0) {
-        this.waiting = [];
-        this.next = offset;
-        this.offset = offset;
-        this.count = [];
-    }
-
-    pass(piece) {
-        const end = this.offset + piece.length;
-        while (this.next < end) {
-            const byte = piece[this.next - this.offset];
-            if (this.count.length === 0) this.waiting.push(this.next);
-            this.count.push(byte);
-            const size = this.count[0] < 128 ? 1 : 257 - this.count[0];
-            this.next++;
-            if (size > 9) this.next = Infinity; // no count: the reader refuses it
-            if (this.count.length < size) continue;
-            this.next += size === 1 ? this.count[0] : this.count.slice(1).reduce((sum, digit) => 256 * sum + digit, 0);
-            this.count = [];
-        }
-        this.offset = end;
-    }
-}
-
 const STOPPED = "stopped";
 const MOST_FOUND = 100; // so many values are found at once
 
@@ -47,7 +21,8 @@ class Stream {
         this.items = 0;
         this.values = 0;
         this.marks = [];
-        this.definitions = [];
+        this.definitions = []; // the items that have some
+        this.begin = { item: -1, definition: -1 }; // of the last of each
         this.end = file.size;
         this.stops = 0;
     }
@@ -61,13 +36,13 @@ class Stream {
         return new Uint8Array(await this.file.slice(from, to).arrayBuffer());
     }
 
-    /** Feeds the file from an offset on, and gives each batch of items; `step` is called with each piece. */
-    async *batches(reader, from, step) {
+    /** Feeds the file from an offset on, and gives each batch of items; `progress` is called at each piece. */
+    async *batches(reader, from, progress) {
         const { stops } = this;
         for (let at = from; at < this.end && reader.fault.status === OK; at += PIECE) {
             const piece = await this.bytes(at, Math.min(at + PIECE, this.end));
             if (this.stops !== stops) throw new Stopped(at);
-            step(piece, at);
+            progress(at);
             reader.feed(piece);
             yield* reader.batches();
         }
@@ -77,19 +52,14 @@ class Stream {
     /** Reads all of the file, and tells what is in it. */
     async read(progress) {
         const reader = await Reader.open(this.module);
-        const starts = new Starts();
         if (reader.fault.status === OK) this.knowBase(reader);
-        const step = (piece, at) => {
-            starts.pass(piece);
-            progress(at);
-        };
         try {
-            for await (const batch of this.batches(reader, 0, step)) this.keep(batch, starts);
+            for await (const batch of this.batches(reader, 0, progress)) this.keep(batch);
             this.fault = reader.fault;
         } catch (error) {
             this.stopAt(error);
         }
-        return this.told(starts);
+        return this.told();
     }
 
     // what was read up to here stands
@@ -104,59 +74,65 @@ class Stream {
     }
 
     // what of these items is kept: types, how many values there are, and now and then where one begins
-    keep(batch, starts) {
-        const [start] = starts.waiting;
-        const isMark = this.marks.length === 0 || start >= this.marks.at(-1).start + PIECE;
-        if (isMark) this.marks.push({ start, values: this.values, definitions: this.definitions.length });
+    keep(batch) {
+        this.mark(batch.begin(0));
         for (let item = 0; item < batch.items; item++) {
-            if (!batch.isDefinition(item)) {
-                this.values++;
-                continue;
-            }
-            const id = batch.id(item);
-            this.types.set(id, typeOf(id, batch, batch.node(item), batch.nodes(item), batch.base(item)));
-            const end = starts.waiting[item + 1] ?? starts.next;
-            this.definitions.push(this.file.slice(starts.waiting[item], end));
+            const begin = batch.begin(item);
+            // (the definitions in a value are handed out in front of it, and are no items)
+            if (begin !== this.begin.item) this.items++;
+            this.begin.item = begin;
+            if (batch.isDefinition(item)) this.keepDefinition(batch, item);
+            else this.values++;
         }
-        this.items += batch.items;
-        starts.waiting.splice(0, batch.items);
     }
 
-    async told(starts) {
+    mark(start) {
+        const isFar = this.marks.length === 0 || start >= this.marks.at(-1).start + PIECE;
+        if (!isFar || start === this.begin.item) return;
+        this.marks.push({ start, items: this.items, values: this.values, definitions: this.definitions.length });
+    }
+
+    keepDefinition(batch, item) {
+        const id = batch.id(item), begin = batch.begin(item);
+        this.types.set(id, typeOf(id, batch, batch.node(item), batch.nodes(item), batch.base(item)));
+        if (begin !== this.begin.definition) this.definitions.push(this.file.slice(begin, batch.end(item)));
+        this.begin.definition = begin;
+    }
+
+    async told() {
         const { fault, file, items, values, types, base } = this;
         const all = new Map([...base, ...types]);
         const told = { status: fault.status, size: file.size, end: this.end, items, values, types, all };
         told.source = new Source(types, base).text();
-        if (fault.status === REFUSED) told.refusal = await this.refusal(fault, starts.waiting[0] ?? fault.place, all);
+        if (fault.status === REFUSED) told.refusal = await this.refusal(fault, all);
         return told;
     }
 
     /** A refusal for people: its line, its reason, where in the item it stands, and the bytes around it. */
-    async refusal(fault, start, all) {
+    async refusal(fault, all) {
         const from = Math.max(0, fault.place - (fault.place & 15) - 32);
-        const [, what, todo] = REASONS[fault.reason];
-        const item = await this.bytes(start, fault.seen);
+        const item = await this.bytes(fault.begin, fault.seen);
         const other = this.items === 0 ? otherFile(await this.bytes(0, 8)) : "";
+        const walk = new Walk(item, fault.place - fault.begin, all, await Reader.open(this.module));
         return {
-            ...fault, line: lineOfFault(fault), what, todo: other || todo, start,
+            ...fault, line: lineOfFault(fault), todo: other || adviceOf(fault.reason),
             from, bytes: await this.bytes(from, Math.max(fault.place, fault.seen) + 40),
-            ...this.walked(fault, item, fault.place - start, all),
+            ...this.walked(fault, walk.found()),
         };
     }
 
-    walked(fault, item, place, all) {
-        const walk = new Walk(item, place, all).found();
+    walked({ reason }, found) {
         // these are judged of a whole description, at its start
-        if (fault.reason >= 18 && fault.reason <= 21) walk.due = "the description of one type, with its own number";
-        return walk;
+        if (reason >= 18 && reason <= 21) found.due = "the description of one type, with its own number";
+        return found;
     }
 
     /** Each batch behind a mark, with its values: their numbers in the stream and in the batch. */
-    async *numbered(mark, step) {
+    async *numbered(mark, progress) {
         const reader = await Reader.open(this.module);
-        await this.define(reader, mark.definitions);
+        reader.shift = mark.start - await this.define(reader, mark.definitions);
         let value = mark.values;
-        for await (const batch of this.batches(reader, mark.start, step)) {
+        for await (const batch of this.batches(reader, mark.start, progress)) {
             const values = [];
             for (let item = 0; item < batch.items; item++) {
                 if (!batch.isDefinition(item)) values.push([value++, item]);
@@ -187,7 +163,7 @@ class Stream {
         const finder = new Finder(this.all(), text), found = [];
         let next = first;
         try {
-            for await (const [batch, values] of this.numbered(this.markOf(first), (piece, at) => progress(at))) {
+            for await (const [batch, values] of this.numbered(this.markOf(first), progress)) {
                 for (const [value, item] of values) {
                     if (value < next) continue;
                     next = value + 1;
@@ -205,45 +181,51 @@ class Stream {
 
     /** The item of a number, or the item around a byte; null where none was read there. */
     async item(unit, wanted) {
-        const numbered = (mark) => unit === "byte" ? mark.start : mark.values + mark.definitions;
+        const numbered = (mark) => unit === "byte" ? mark.start : mark.items;
         const mark = this.marks.findLast((some) => numbered(some) <= wanted) ?? this.marks[0];
-        const starts = new Starts(mark.start);
-        let before = mark.values + mark.definitions;
-        for await (const [batch, values] of this.numbered(mark, (piece) => starts.pass(piece))) {
-            const begins = starts.waiting.slice(0, batch.items);
-            const item = unit === "byte" ? begins.findLastIndex((begin) => begin <= wanted) : wanted - before;
-            const begin = begins[item], end = starts.waiting[item + 1] ?? starts.next;
-            const isHere = unit === "byte" ? wanted < end : item < batch.items;
-            const place = unit === "byte" ? wanted : begin;
-            if (isHere) return this.itemAt({ place, item: before + item, begin, end }, batch, item, values);
-            before += batch.items;
-            starts.waiting.splice(0, batch.items);
+        let number = mark.items - 1, last = -1, found = null;
+        for await (const [batch, values] of this.numbered(mark, () => {})) {
+            for (let item = 0; item < batch.items; item++) {
+                const begin = batch.begin(item);
+                if (begin !== last && found !== null) return this.withBytes(found);
+                if (begin !== last) number++;
+                last = begin;
+                const isHere = unit === "byte" ? begin <= wanted && wanted < batch.end(item) : number === wanted;
+                // (a value behind the definitions in it takes their place)
+                if (isHere) found = this.itemAt(batch, item, number, values, unit === "byte" ? wanted : begin);
+            }
         }
-        return null;
+        return found === null ? null : this.withBytes(found);
     }
 
-    async itemAt(where, batch, item, values) {
+    itemAt(batch, item, number, values, place) {
         const value = values.find(([, other]) => other === item)?.[0];
         const held = value === undefined ? { defined: batch.id(item) } : { value, ...batch.copied(item) };
-        const from = Math.max(0, where.place - (where.place & 15) - 32);
-        return { ...where, ...held, from, bytes: await this.bytes(from, where.place + 40) };
+        return { item: number, begin: batch.begin(item), end: batch.end(item), place, ...held };
     }
 
-    /** Gives a reader the first definitions of the file. */
+    /** An item with the bytes around a place of it. */
+    async withBytes(item) {
+        const from = Math.max(0, item.place - (item.place & 15) - 32);
+        return { ...item, from, bytes: await this.bytes(from, item.place + 40) };
+    }
+
+    /** Gives a reader the first items of the file that have definitions. The answer is how many bytes they are. */
     async define(reader, count) {
-        const bytes = new Uint8Array(await new Blob(this.definitions.slice(0, count)).arrayBuffer());
-        for (let at = 0; at < bytes.length; at += PIECE) {
-            reader.feed(bytes.subarray(at, at + PIECE));
+        const items = new Blob(this.definitions.slice(0, count));
+        for (let at = 0; at < items.size; at += PIECE) {
+            reader.feed(new Uint8Array(await items.slice(at, at + PIECE).arrayBuffer()));
             for (const batch of reader.batches()) void batch;
         }
+        return items.size;
     }
 
-    /** The lines of `gob show` or of `gob values`, as a file. */
+    /** The lines of `gob show --go` or of `gob values`, as a file. */
     async lines(kind, progress) {
         const lines = kind === "show" ? new ShowLines(this.all()) : new PlainLines(this.all());
         const reader = await Reader.open(this.module);
         const parts = [], encoder = new TextEncoder();
-        for await (const batch of this.batches(reader, 0, (piece, at) => progress(at))) {
+        for await (const batch of this.batches(reader, 0, progress)) {
             let text = "";
             for (let item = 0; item < batch.items; item++) {
                 text += lines.line(batch, item);

@@ -85,6 +85,12 @@ function signedOf(number) {
     return BigInt.asIntN(64, number & 1n ? ~(number >> 1n) : number >> 1n);
 }
 
+/** A whole number: a number where that has all its digits, else a bigint. */
+function wholeOf(wide) {
+    const number = Number(wide);
+    return Number.isSafeInteger(number) ? number : wide;
+}
+
 const grouped = new Intl.NumberFormat("en-US");
 
 /** A count with its noun: 1,234 bytes. */

@@ -34,7 +34,7 @@ class Part {
     }
 
     at(node, id) {
-        return new Part(this.batch, node, id, this.types);
+        return partAt(this.batch, node, id, this.types);
     }
 
     /** Where the parts begin, at each of these steps: keys and elements of maps go together. */
@@ -102,6 +102,12 @@ class Part {
         }
         return out + (this.count > SOME ? `${comma}..` : "") + close;
     }
+}
+
+/** The part at a node: an interface is shown as what it holds, with the type of that. */
+function partAt(batch, node, id, types) {
+    while (batch.kind(node) === HELD) [node, id] = [batch.nameOfHeld(node) + 1, batch.length(node)];
+    return new Part(batch, node, id, types);
 }
 
 function cut(text, room) {

@@ -6,12 +6,22 @@ class Reached extends Error {}
 
 const LOST = "the page lost its way";
 
+/** How many bytes there are, as a stream spells it before them. */
+function spelledCount({ length }) {
+    if (length < 128) return Uint8Array.of(length);
+    const size = 4 - (Math.clz32(length) >> 3);
+    const digits = Array.from({ length: size }, (_, place) => length >>> 8 * (size - 1 - place));
+    return Uint8Array.of(256 - size, ...digits);
+}
+
 class Walk {
-    /** Goes over an item from its count on, up to the place, which is counted from there. */
-    constructor(bytes, place, types) {
+    /** Goes over an item from its count on, up to the place, which is counted from there. `reader` has read nothing:
+     * it is asked what the definitions in the item say. */
+    constructor(bytes, place, types, reader) {
         this.bytes = bytes;
         this.place = place;
-        this.types = types;
+        this.types = new Map(types);
+        this.reader = reader;
         this.at = 0;
         this.path = [];
         this.behind = "";
@@ -63,7 +73,7 @@ class Walk {
 
     part(id, depth) {
         if (depth > 1000) this.reach("nothing: parts lie in one another 1000 deep here");
-        if (id <= 8) return this.basic(id);
+        if (id <= 8) return this.basic(id, depth);
         const type = this.types.get(id);
         switch (type?.kind) {
         case "opaque": return this.raw(`what a ${goName(id, this.types)} wrote of itself`);
@@ -75,7 +85,7 @@ class Walk {
         }
     }
 
-    basic(id) {
+    basic(id, depth) {
         switch (id) {
         case 1: return this.number("a bool: 0 or 1");
         case 2: return this.number("a whole number");
@@ -84,16 +94,46 @@ class Walk {
         case 5: return this.raw("bytes");
         case 6: return this.raw("a text");
         case 7: return this.number("the real part of a number"), this.number("the imaginary part of a number");
-        default: return this.number("the byte 0, for an interface that holds nothing");
+        default: return this.interface(depth);
         }
     }
 
-    raw(what) {
-        const count = this.number(`how many bytes follow: ${what}`);
+    /** An interface: nothing, or a name, definitions, and what it holds. */
+    interface(depth) {
+        const what = "the name of the type of what an interface holds";
+        if (!this.raw(what, "0 for an interface that holds nothing, or how many bytes a name has")) return;
+        for (;;) {
+            const start = this.at;
+            const id = signedOf(this.number("the type of what is held, or below 0 one that is defined here"));
+            if (id >= 0n) return this.held(Number(id), depth);
+            this.part(16, 1);
+            this.define(this.bytes.subarray(start, this.at));
+            this.number("how many bytes follow in the value around, up to the next definition in it or to its end");
+        }
+    }
+
+    /** Takes a definition that stands in the value: as the body of an item it says the same. */
+    define(body) {
+        this.reader.feed(spelledCount(body));
+        this.reader.feed(body);
+        const batch = this.reader.take(), id = batch?.id(0);
+        if (batch !== null) this.types.set(id, typeOf(id, batch, batch.node(0), batch.nodes(0), batch.base(0)));
+    }
+
+    held(id, depth) {
+        this.number("how many bytes follow in what is held, up to a definition in it or to its end");
+        if (this.types.get(id)?.kind !== "struct") this.number("the byte 0, as before each value that is no struct");
+        this.within("", id, depth);
+    }
+
+    /** Bytes behind their count, which is given. */
+    raw(what, due = `how many bytes follow: ${what}`) {
+        const count = this.number(due);
         if (BigInt(this.at) + count > BigInt(this.place)) {
             this.reach(`${counted(count, "byte")} in all: ${what}. ${counted(this.place - this.at, "byte")} came`);
         }
         this.at += Number(count);
+        return count;
     }
 
     /** Goes over a part, which the path names while it lasts: an element of a list by its number. */

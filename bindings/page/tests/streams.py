@@ -48,6 +48,11 @@ def value(id, spelling, is_struct=False):
     return item(sint(id) + (b"" if is_struct else b"\0") + spelling)
 
 
+def filling(name, id, spelling, is_struct=False):
+    """What an interface holds, in a value that needs no definition for it."""
+    return raw(name) + sint(id) + item((b"" if is_struct else b"\0") + spelling)
+
+
 def pattern(number):
     return struct.unpack(">Q", struct.pack(">d", number))[0]
 
@@ -80,6 +85,10 @@ def hostile():
     own += map_type(67, b"constructor", 66, 6)
     yield "types", own + value(66, b"\1\1\1\0\0\0", True) + value(67, b"\1\0" + raw(MARKUP))
     yield "opaque", opaque_type(65, MARKUP) + b"".join(value(65, raw(text)) for text in TEXTS)
+    named = b"".join(filling(text or b"none", 6, raw(text)) for text in TEXTS)
+    yield "names in interfaces", slice_type(65, b"", 8) + value(65, uint(len(TEXTS)) + named)
+    in_own = filling(b"__proto__", 66, b"\1\1\0\0", True)
+    yield "types in interfaces", own + value(8, in_own) + value(8, filling(TURNS, 8, in_own))
     refused = map_type(65, MARKUP, 6, 66) + struct_type(66, TURNS, [(MARKUP, 1), (TURNS, 1)])
     yield "a refused key", refused + value(65, b"\1" + raw(MARKUP) + b"\1\2\0")
     yield "a refused field", refused + value(66, b"\1\1\1\2\0", True)
@@ -94,17 +103,38 @@ def explained():
     yield bad, ['at ["k"].List[1]', "a value of type map[string]S", "0 or 1"]
     yield outer + value(65, b"\1" + raw(b"k") + b"\1\1\2\0"), ['at ["k"], behind field Ok', "0 for none, 1 for List"]
     yield outer + value(65, b"\1\5ab"), ["at {key 0}", "5 bytes in all: a text. 2 bytes came"]
-    yield outer + b"\x7f\xff\x82", ["the byte 0, as before each value", "cut off", "the file ends here"]
+    yield outer + b"\x7f\xff\x82", ["the byte 0, as before each value", "cut off", "the file ends here",
+                                     "What stands before this item is whole"]
+    held = filling(b"main.S", 66, b"\2\2\1\2\0", True)
+    yield outer + value(8, held), ["at .List[1]", "a value of type interface{}", "0 or 1"]
+    yield outer + value(8, raw(b"main.S")), ["the type of what is held"]
+    defined = struct_type(66, b"S", [(b"Ok", 1)])[1:]  # (behind its count, which is a byte)
+    first = item(sint(8) + b"\0" + raw(b"main.S") + defined)
+    yield first + item(sint(66) + raw(b"\1\2\0")), ["at .Ok", "a value of type interface{}", "0 or 1"]
+    yield first + item(sint(66) + raw(b"\1\1\1\1\0")), ["behind field Ok", "0 for none"]
     yield outer + value(65, b"\0\0"), ["the end of the item, since what it holds is complete"]
     yield value(66, b"\0"), ["the id of a defined one", "The beginning of the stream may be missing"]
     yield inner + inner, ["Two streams may stand one behind the other"]
     yield named(2, 65, b"", b""), ["the definition of type 65", "the description of one type"]
-    yield b"\x1f\x8b\x08\0", ["gzip", "gunzip"]
+    yield b"\x1f\x8b\x08\0", ["gzip", "unpacked first"]
 
 
 def deep(count):
     """So many lists, one in the other."""
     return slice_type(65, b"", 65) + value(65, b"\1" * (count - 1) + b"\0")
+
+
+def holding(count):
+    """Structs whose interfaces hold a value: so many behind each of two that define the type of that in themselves."""
+    out = [struct_type(65, b"Row", [(b"N", 2), (b"Any", 8)])]
+    point, texts = struct_type(66, b"Point", [(b"X", 2)]), slice_type(67, b"", 6)
+    for definition, id, held in ((point, 66, b"\1\x2c\0"), (texts, 67, uint(1) + raw(b"midway"))):
+        # (a definition is told of behind its count, which is a byte)
+        out.append(item(sint(65) + b"\2" + raw(b"Held") + definition[1:]))
+        out.append(item(sint(id) + raw((b"" if id == 66 else b"\0") + held) + b"\0"))
+        row = b"\2" + filling(b"Held", id, held, id == 66) + b"\0"
+        out.append(value(65, row, True) * count)
+    return b"".join(out)
 
 
 def numbers(count):

@@ -27,8 +27,6 @@ import streams  # noqa: E402
 from chromium import Page  # noqa: E402
 
 SEED, MUTANTS = 52, 300
-# InterfaceValue and WrongId, the refusals of what Go's encoder writes beyond the format
-PROFILE_TAKES = (16, 19)
 ANSWERS = """(async () => {
     const text = async (kind) => (await linesOf(kind)).text();
     const { told } = shown, { refusal } = told;
@@ -68,7 +66,8 @@ class Tests:
 
     def printed(self, command, path):
         """What a command of the program prints of a file, and its line of a fault."""
-        ran = subprocess.run([self.gob, command, path], capture_output=True)
+        option = ["--go"] if command == "show" else []
+        ran = subprocess.run([self.gob, command, *option, path], capture_output=True)
         return ran.stdout.decode(), ran.stderr.decode().rstrip("\n")
 
     # ---- what is read
@@ -79,7 +78,8 @@ class Tests:
         for number, row in enumerate(rows.rows()):
             if row.limits is None:
                 yield f"row {number}: {row.name}", row.stream
-        dice, whole = random.Random(SEED), damage.streams(ROOT / "interop/streams")
+        dice, whole = random.Random(SEED), [*damage.streams(ROOT / "interop/streams"),
+                                            *damage.streams(ROOT / "interop/filled/streams")]
         for number in range(MUTANTS):
             yield f"mutant {number}", damage.damaged(dice, dice.choice(whole))
         yield "floats", streams.floats(dice, 2000)
@@ -94,20 +94,13 @@ class Tests:
                 self.compare(name, page.evaluate(ANSWERS), path, data)
             self.due("no complaint of the page", not page.complaints(), page.complaints())
 
-    def before(self, lines, data):
-        """Where the items stand that show has printed, whose values and types the program prints as the page does: of what
-        comes behind them in a stream of Go's encoder the program's views read more than the page."""
-        ends = [0, *rows.ends(data)]
-        return self.path("before.gob", data[: ends[lines.count("\n")]])
-
     def compare(self, name, answer, path, data):
         lines, line = self.printed("show", path)
         found = re.match(r"gob: refused (\d+) \w+(?:\(\d+\))? at (\d+) seen (\d+)$", line)
         fault = [1, *map(int, found.groups())] if found else [0]
-        viewed = self.before(lines, data) if found and int(found[1]) in PROFILE_TAKES else path
         due = {
             "state": "refused" if found else "whole", "line": line, "fault": fault, "show": lines,
-            "values": self.printed("values", viewed)[0], "types": self.printed("types", viewed)[0],
+            "values": self.printed("values", path)[0], "types": self.printed("types", path)[0],
         }
         differing = [part for part in due if answer[part] != due[part]]
         self.due(f"{name} is read as by the program", not differing, data.hex(), differing,
@@ -160,23 +153,35 @@ class Tests:
                 page.wait("document.querySelector('#tree').children.length === 1")
                 self.picture(page, ["whole", "lists", "damaged"][number])
 
+    def saved(self, page, folder, kind, name):
+        """What is saved under a name in the folder; None where nothing is."""
+        page.evaluate(f"$('kind').value = '{kind}'; $('save').click()")
+        path = pathlib.Path(folder) / name
+        for _ in range(200):
+            if path.exists():
+                return path.read_bytes()
+            time.sleep(0.05)
+        return None
+
     def saves(self):
         with Page(self.address) as page, tempfile.TemporaryDirectory() as to:
             page.call("Browser.setDownloadBehavior", behavior="allow", downloadPath=to)
             path = ROOT / "examples/logins.gob"
             page.drop(path)
             for ending, command in ((".jsonl", "show"), (".values.jsonl", "values"), (".go", "types")):
-                page.evaluate(f"$('kind').value = '{command}'; $('save').click()")
-                saved = pathlib.Path(to) / f"logins.gob{ending}"
-                for _ in range(200):
-                    if saved.exists():
-                        break
-                    time.sleep(0.05)
+                data = self.saved(page, to, command, f"logins.gob{ending}")
                 self.due(f"what is saved as {ending} is what gob {command} prints",
-                         saved.exists() and saved.read_text(encoding="utf-8") == self.printed(command, path)[0])
+                         data == self.printed(command, path)[0].encode(), data)
+            cut = self.path("cut.gob", path.read_bytes()[:170])
+            page.drop(cut)
+            for kind, due in (("before", slice(0, 159)), ("rest", slice(159, 170))):
+                data = self.saved(page, to, kind, f"cut.gob.{kind}.gob")
+                self.due(f"what is saved as {kind} is that part of the file", data == cut.read_bytes()[due], data)
             kinds = "[$('saving').hidden, ...[...$('kind').options].map((it) => it.value)]"
             for data, due in ((b"", [True]), (streams.value(2, b"\2"), [False, "values", "show"]),
-                              (streams.slice_type(65, b"", 2), [False, "show", "types"])):
+                              (streams.slice_type(65, b"", 2), [False, "show", "types"]),
+                              (streams.value(2, b"\2") + b"\1", [False, "values", "show", "before", "rest"]),
+                              (b"\x80", [True])):
                 page.drop(self.path("some.gob", data))
                 self.due(f"what there is of {data.hex()} can be saved", page.evaluate(kinds) == due)
 
@@ -197,6 +202,36 @@ class Tests:
                      and notes[1].endswith(", refused") and notes[2] == "0 bytes", notes)
             page.drop(paths[0])
             self.due("one file makes no list", page.evaluate("$('files').hidden"))
+
+    def shows_what_interfaces_hold(self):
+        with Page(self.address) as page:
+            page.drop(ROOT / "interop/filled/streams/go-cache.gob")
+            page.wait("document.querySelectorAll('#tree li li').length > 0")
+            page.evaluate("document.querySelectorAll('#tree details').forEach((it) => { it.open = true; })")
+            page.wait("document.querySelectorAll('#tree li li li').length >= 5")
+            lines = "document.querySelectorAll('#tree .leaf, #tree summary')"
+            told = page.evaluate(f"[...{lines}].map((it) => it.textContent)")
+            for due in ("Object 42 int", 'Object []string, 2 elements ["a", "b"]',
+                        'Object User, 1 of 2 fields {Name: "ann"}'):
+                self.due(f"{due} is shown", due in told, told)
+            self.picture(page, "held", False)
+            for text, due in (("ANN", "{element 2}.Object.Name"), ("main.user", "{element 2}.Object")):
+                told = self.found(page, "finder", text=text)
+                self.due(f"{text} is found", told.startswith(f'1 value with "{text}".#0 at {due}'), told)
+            size = (ROOT / "interop/filled/streams/go-cache.gob").stat().st_size
+            for unit, place in (("item", 2), ("byte", size - 1)):
+                told = self.found(page, "jumper", unit=unit, place=str(place))
+                due = told.startswith("Item 2 has the bytes ") and f" to {size - 1}: a value." in told
+                self.due(f"{unit} {place} is gone to", due, told)
+            # the file is read again from places behind the values that define types
+            path = self.path("many.gob", streams.holding(20_000))
+            page.drop(path)
+            lines = page.evaluate("linesOf('values').then((it) => it.text())")
+            self.due("the lines of many are the program's", lines == self.printed("values", path)[0])
+            for number, due in ((19_999, "{X: 22}"), (20_001, '["midway"]'), (40_001, '["midway"]')):
+                for unit, place in (("value", number), ("item", number + 1)):
+                    told = self.found(page, "jumper", unit=unit, place=str(place))
+                    self.due(f"{unit} {place} is gone to", f"#{number:,}" in told and due in told, told)
 
     def found(self, page, form, **words):
         """What is found, as text."""
@@ -379,8 +414,8 @@ class Tests:
 
     def run(self):
         for part in (self.reads_streams, self.explains, self.opens_anywhere, self.has_examples, self.saves,
-                     self.lists_files, self.finds, self.shows_text_as_text, self.serves_keyboards, self.fits_phones,
-                     self.opens_large_values, self.stays_alive):
+                     self.lists_files, self.finds, self.shows_what_interfaces_hold, self.shows_text_as_text,
+                     self.serves_keyboards, self.fits_phones, self.opens_large_values, self.stays_alive):
             try:
                 part()
             except (TimeoutError, RuntimeError, OSError) as error:

@@ -9,9 +9,9 @@
     gob.check("points.gob")                   # Summary(values=1, types=1, bytes=40), or Refused
 
 Structs are dicts by field name (or namedtuples), maps are dicts, floats are floats, `[]byte` is bytes, strings are str
-(bytes that aren't UTF-8 as surrogates, which `s.encode("utf-8", "surrogateescape")` gives back), a nil interface is
-None, and what a Go type encoded itself is an `Opaque`. A field that the stream doesn't have is absent; with `zeros` it
-has its zero value, as Go's decoder would leave it.
+(bytes that aren't UTF-8 as surrogates, which `s.encode("utf-8", "surrogateescape")` gives back), an interface is what
+it holds, or None, and what a Go type encoded itself is an `Opaque`. A field that the stream doesn't have is absent;
+with `zeros` it has its zero value, as Go's decoder would leave it.
 
 The bytes are read by a library whose reader is proved; this package and what explains opaque values are not. Values are
 made by recursion: one deeper than Python's recursion limit allows raises RecursionError.
@@ -26,17 +26,20 @@ from itertools import groupby, repeat
 from threading import get_ident
 from typing import Any, BinaryIO, Callable, Iterable, Iterator, Mapping, NamedTuple, Union
 
-from ._decode import Decoder, Opaque, Options, Pairs
-from ._library import Batch, Counts, Fault, Limits as _Limits, library
+from ._decode import Decoder, Held, Opaque, Options, Pairs
+from ._library import Batch, Counts, Fault, Head, Limits as _Limits, Node, library
 from ._source import Source as _Declared
 from ._types import Field, Type, type_of
 from . import go
 
-__all__ = ["Field", "Limits", "Opaque", "Pairs", "Reader", "Reason", "Refused", "Summary", "Type", "check", "go",
-           "iter_items", "iter_values", "load", "loads", "source", "types"]
+__all__ = ["Field", "Held", "Item", "Limits", "Opaque", "Pairs", "Reader", "Reason", "Refused", "Summary", "Type",
+           "check", "go", "iter_items", "iter_values", "load", "loads", "source", "types"]
 
 Source = Union[str, "os.PathLike[str]", bytes, bytearray, memoryview, BinaryIO, Iterable[bytes]]
-_Made = Callable[[Type, Iterator[Any]], Iterable[Any]]
+# makes of values of one type, and of where their items begin and end, what is given of them
+_Made = Callable[[Type, Iterator[Any], Iterable[int], Iterable[int]], Iterable[Any]]
+_HEAD, _NODE = ctypes.sizeof(Head), ctypes.sizeof(Node)
+_HEAD_WORDS = _HEAD // 8
 
 
 class Reason(IntEnum):
@@ -70,7 +73,10 @@ _SPEAK_OF_A_TYPE = (Reason.ReservedType, Reason.DefinedTwice, Reason.UndefinedTy
 
 
 class Limits(NamedTuple):
-    """What a stream may have: bytes of an item, depth of a value, definitions, bytes of the stream."""
+    """What a stream may have: bytes of an item, depth of a value, definitions, bytes of the stream.
+
+    A depth above 1000 is that of a reader with `exact`; for any other it is 1000.
+    """
 
     item: int = 64 << 20
     depth: int = 1000
@@ -82,15 +88,16 @@ class Refused(ValueError):
     """The bytes are no gob stream.
 
     `reason` says why, `what` the same in a sentence, `place` is the offset of the first refused byte, and `seen` how
-    many bytes of the stream show it. `type` is the id that the reason speaks of, or None, and `path` that of the file,
-    where one was read. `values` has what was read before: where `load` raised it all values of the stream, where
-    `Reader.feed` did those of the piece.
+    many bytes of the stream show it. `begin` is the offset at which the refused item begins: the bytes in front of it
+    are a whole stream. `type` is the id that the reason speaks of, or None, and `path` that of the file, where one was
+    read. `values` has what was read before: where `load` raised it all values of the stream, where `Reader.feed` did
+    those of the piece.
     """
 
-    def __init__(self, reason: Reason, place: int, seen: int, type: int | None = None):
+    def __init__(self, reason: Reason, place: int, seen: int, type: int | None = None, begin: int = 0):
         of = "" if type is None else f"({type})"
         super().__init__(f"refused {int(reason)} {reason.name}{of} at {place} seen {seen}")
-        self.reason, self.place, self.seen, self.type = reason, place, seen, type
+        self.reason, self.place, self.seen, self.type, self.begin = reason, place, seen, type, begin
         self.path: str | None = None
         self.values: list[Any] = []
 
@@ -100,7 +107,8 @@ class Refused(ValueError):
         return text.decode()
 
     def __reduce__(self) -> tuple[Any, ...]:
-        return Refused, (self.reason, self.place, self.seen, self.type), {"path": self.path, "values": self.values}
+        words = self.reason, self.place, self.seen, self.type, self.begin
+        return Refused, words, {"path": self.path, "values": self.values}
 
 
 class Summary(NamedTuple):
@@ -109,6 +117,36 @@ class Summary(NamedTuple):
     values: int
     types: int
     bytes: int
+
+
+class Item(tuple[Type, Any]):
+    """A value behind its type, as `for type, value in iter_items(..)` takes them.
+
+    The bytes of its item are those of the stream from the offset `begin` up to `end`, from 0. The definitions that
+    stand in a value are among them.
+    """
+
+    begin: int
+    end: int
+
+    def __new__(cls, type: Type, value: Any, begin: int, end: int) -> Item:
+        made = tuple.__new__(cls, (type, value))
+        made.begin, made.end = begin, end
+        return made
+
+    @property
+    def type(self) -> Type:
+        return self[0]
+
+    @property
+    def value(self) -> Any:
+        return self[1]
+
+    def __getnewargs__(self) -> tuple[Any, ...]:
+        return *self, self.begin, self.end
+
+    def __repr__(self) -> str:
+        return f"Item(type={self.type!r}, value={self.value!r}, begin={self.begin}, end={self.end})"
 
 
 class Values(list[Any]):
@@ -122,7 +160,9 @@ class Reader:
 
     `structs` is "dict" or "namedtuple". With `zeros` an absent field has its zero value. With `tagged` a dict has the
     name of its struct's type under that key, first. `opaque` is called with each `Opaque`, and gives what stands for
-    it.
+    it. What an interface holds stands for the interface, or what `held` gives, which is called with the name of its
+    type and its value, as `held=gob.Held`. With `exact` only the format that Go documents is read, up to a depth of
+    65536: no interface holds a value, and no type is first met through a pointer where it encodes itself.
 
     A reader stays on the thread that made it, and is let go of there: by `close`, as a context manager, or with its
     last reference. A call from another thread raises RuntimeError, as does one by what a call calls itself. Readers in
@@ -132,16 +172,18 @@ class Reader:
     _handle: int | None = None
 
     def __init__(self, *, limits: Limits | None = None, structs: str = "dict", zeros: bool = False,
-                 tagged: str | None = None, opaque: Callable[[Opaque], Any] | None = None):
+                 tagged: str | None = None, opaque: Callable[[Opaque], Any] | None = None,
+                 held: Callable[[str, Any], Any] | None = None, exact: bool = False):
         self._fault = Fault()
         self._thread, self._is_busy = get_ident(), False
         chosen = None if limits is None else ctypes.byref(_Limits(*limits))
-        self._handle = library.gob_open_exact(chosen, ctypes.byref(self._fault))
+        opened = library.gob_open_exact if exact else library.gob_open
+        self._handle = opened(chosen, ctypes.byref(self._fault))
         if not self._handle:
             _raise(self._fault)
         self._types: dict[int, Type] = {}
         self._order: list[int] = []
-        self._decoder = Decoder(self._type, Options(structs, zeros, tagged, opaque))
+        self._decoder = Decoder(self._type, Options(structs, zeros, tagged, opaque, held))
 
     def close(self) -> None:
         """Lets the reader go. It can be called again."""
@@ -180,7 +222,7 @@ class Reader:
         """The types that the stream has defined so far, in their order."""
         return {id: self._types[id] for id in self._order}
 
-    def feed(self, piece: bytes | bytearray | memoryview) -> list[tuple[Type, Any]]:
+    def feed(self, piece: bytes | bytearray | memoryview) -> list[Item]:
         """Takes the next piece, and gives the values that are whole with it, each behind its type.
 
         Where the bytes are refused, `Refused` has those before the fault as its `values`. After a fault, of whatever
@@ -189,8 +231,7 @@ class Reader:
         return self._fed(piece, _typed)
 
     def _fed(self, piece: bytes | bytearray | memoryview, made: _Made | None) -> list[Any]:
-        # by ctypes no other read-only buffer goes
-        data = piece if isinstance(piece, bytes) else memoryview(piece).tobytes()
+        data = _read_only(piece)
         with self._alone():
             library.gob_feed(self._open(), data, len(data), ctypes.byref(self._fault))
             try:
@@ -221,8 +262,8 @@ class Reader:
         """The heads, nodes and bytes of the items that are whole. The nodes stand until the next is asked for."""
         batch = Batch()
         while (some := library.gob_take(self._handle, ctypes.byref(batch))) == 1:
-            nodes = (ctypes.c_ubyte * (32 * batch.node_count)).from_address(batch.nodes)
-            yield (_copied(batch.heads, 64 * batch.items), memoryview(nodes).cast("B"),
+            nodes = (ctypes.c_ubyte * (_NODE * batch.node_count)).from_address(batch.nodes)
+            yield (_copied(batch.heads, _HEAD * batch.items), memoryview(nodes).cast("B"),
                    _copied(batch.bytes, batch.byte_count))
             self._decoder.leave()
         if some < 0:
@@ -240,24 +281,24 @@ class Reader:
     def _define(self, some: bytes, nodes: memoryview, pool: bytes) -> None:
         """Takes the definitions of a batch."""
         heads, words = memoryview(some).cast("Q"), nodes.cast("Q")
-        kinds = heads[5::8].tolist()
+        kinds = heads[5::_HEAD_WORDS].tolist()
         for at, kind in enumerate(kinds if 1 in kinds else []):
             if kind == 1:
-                id, first, count, begin, size = heads[8 * at:8 * at + 5].tolist()
+                id, first, count, begin, size = heads[_HEAD_WORDS * at:][:5].tolist()
                 of_nodes = words[4 * first:4 * (first + count)].tolist()
                 self._types[id] = _type_from(id, of_nodes, pool[begin:begin + size])
                 self._order.append(id)
 
     def _decode(self, heads: memoryview, made: _Made, taken: list[Any]) -> None:
         """Appends the values of the batch that the decoder has."""
-        first, base = heads[1::8].tolist(), heads[3::8].tolist()
+        ids, first, _, base, _, kinds, begins, ends = (heads[word::_HEAD_WORDS] for word in range(_HEAD_WORDS))
         at = 0
         # items of one kind and type that follow one another
-        for (id, kind), run in groupby(zip(heads[0::8].tolist(), heads[5::8].tolist())):
+        for (id, kind), run in groupby(zip(ids.tolist(), kinds.tolist())):
             end = at + sum(1 for _ in run)
             if kind == 2:
                 values = map(self._decoder.of(id), first[at:end], base[at:end])
-                taken.extend(made(self._type(id), values))
+                taken.extend(made(self._type(id), values, begins[at:end], ends[at:end]))
             at = end
 
     def _type(self, id: int) -> Type:
@@ -267,7 +308,7 @@ class Reader:
             if not found:
                 raise KeyError(id)
             item = found.contents
-            words = memoryview(_copied(ctypes.cast(item.nodes, ctypes.c_void_p).value, 32 * item.count)).cast("Q")
+            words = memoryview(_copied(ctypes.cast(item.nodes, ctypes.c_void_p).value, _NODE * item.count)).cast("Q")
             known = self._types[id] = _type_from(id, words.tolist(), _copied(item.bytes, item.size))
         return known
 
@@ -275,7 +316,8 @@ class Reader:
 def _raise(fault: Fault) -> None:
     if fault.status == 1:
         reason = Reason(fault.reason)
-        raise Refused(reason, fault.place, fault.seen, fault.id if reason in _SPEAK_OF_A_TYPE else None)
+        type = fault.id if reason in _SPEAK_OF_A_TYPE else None
+        raise Refused(reason, fault.place, fault.seen, type, fault.begin)
     if fault.status == 2:
         raise MemoryError
     if fault.status == 3:
@@ -284,12 +326,17 @@ def _raise(fault: Fault) -> None:
         raise ValueError("a depth of 0 or above 65536, or a stream above 2**63 - 1 bytes")
 
 
-def _typed(type: Type, values: Iterator[Any]) -> Iterator[tuple[Type, Any]]:
-    return zip(repeat(type), values)
+def _typed(type: Type, values: Iterator[Any], begins: Iterable[int], ends: Iterable[int]) -> Iterator[Item]:
+    return map(Item, repeat(type), values, begins, ends)
 
 
-def _bare(type: Type, values: Iterator[Any]) -> Iterator[Any]:
+def _bare(type: Type, values: Iterator[Any], begins: Iterable[int], ends: Iterable[int]) -> Iterator[Any]:
     return values
+
+
+def _read_only(piece: bytes | bytearray | memoryview) -> bytes:
+    """The piece as ctypes takes it: no other buffer that is only read goes."""
+    return piece if isinstance(piece, bytes) else memoryview(piece).tobytes()
 
 
 def _copied(at: int | None, size: int) -> bytes:
@@ -323,11 +370,11 @@ def _pieces(source: Any, size: int) -> Iterator[bytes]:
         yield from source
 
 
-def iter_items(source: Source, **options: Any) -> Iterator[tuple[Type, Any]]:
+def iter_items(source: Source, **options: Any) -> Iterator[Item]:
     """The values of a stream one by one, each behind its type, in little memory however long the stream is.
 
-    The source is a path, bytes, a binary file, or an iterable of bytes. The options are those of `Reader`, and `piece`,
-    how many bytes are read at a time.
+    Each is an `Item`, which says where it begins and ends. The source is a path, bytes, a binary file, or an iterable
+    of bytes. The options are those of `Reader`, and `piece`, how many bytes are read at a time.
     """
     return _each(source, _typed, **options)
 
@@ -399,15 +446,22 @@ def source(types: Mapping[int, Type]) -> str:
     return _Declared(types).text()
 
 
-def check(source: Source, *, limits: Limits | None = None) -> Summary:
-    """Goes through a whole stream, which is held in memory, and makes no values. Raises `Refused` where it is none."""
-    data = source if isinstance(source, bytes) else b"".join(_pieces(source, 1 << 20))
+def check(source: Source, *, piece: int = 65536, limits: Limits | None = None, exact: bool = False) -> Summary:
+    """Goes through a whole stream piece by piece, and makes no values. Raises `Refused` where it is none."""
     counts, fault = Counts(), Fault()
     chosen = None if limits is None else ctypes.byref(_Limits(*limits))
-    library.gob_check_exact(data, len(data), chosen, ctypes.byref(counts), ctypes.byref(fault))
+    opened = library.gob_check_open_exact if exact else library.gob_check_open
+    handle = opened(chosen, ctypes.byref(fault))
     try:
+        _raise(fault)
+        for data in map(_read_only, _pieces(source, piece)):
+            library.gob_check_feed(handle, data, len(data), ctypes.byref(counts), ctypes.byref(fault))
+            _raise(fault)
+        library.gob_check_finish(handle, ctypes.byref(counts), ctypes.byref(fault))
         _raise(fault)
     except Refused as refused:
         refused.path = _path(source)
         raise
-    return Summary(counts.items - counts.types, counts.types, len(data))
+    finally:
+        library.gob_check_close(handle)
+    return Summary(counts.values, counts.types, counts.bytes)

@@ -24,6 +24,13 @@ class Opaque(NamedTuple):
     data: bytes
 
 
+class Held(NamedTuple):
+    """What an interface holds: the name under which its type was registered, and the value. See `held` of `Reader`."""
+
+    name: str
+    value: Any
+
+
 class Pairs(list[Any]):
     """The keys and elements of a map that can't be a dict: a key isn't hashable, or is there twice."""
 
@@ -33,6 +40,7 @@ class Options(NamedTuple):
     zeros: bool = False
     tagged: str | None = None
     opaque: Callable[[Opaque], Any] | None = None
+    held: Callable[[str, Any], Any] | None = None
 
 
 class Decoder:
@@ -117,10 +125,17 @@ class Decoder:
         def imaginary(i: int, base: int) -> complex:
             return complex(reals[i], _double(second[i].to_bytes(8, "little"))[0])
 
-        def nil(i: int, base: int) -> None:
-            return None
+        explain = self.options.held
 
-        return {1: truth, 2: integer, 3: unsigned, 4: real, 5: raw, 6: string, 7: imaginary, 8: nil}.get(id)
+        def interface(i: int, base: int) -> Any:
+            held = second[i]
+            if held == 0:  # nil, since no type has this id
+                return None
+            at = i + first[i]  # its name, and behind that its value
+            value = self.of(held)(at + 1, base)
+            return value if explain is None else explain(string(at, base), value)
+
+        return {1: truth, 2: integer, 3: unsigned, 4: real, 5: raw, 6: string, 7: imaginary, 8: interface}.get(id)
 
     def _is_leaf(self, id: int) -> bool:
         return id <= 8 or self.shape_of(id).kind == "opaque"

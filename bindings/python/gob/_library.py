@@ -75,7 +75,7 @@ def _candidates() -> Iterator[str]:
 
 
 def _load() -> ctypes.CDLL:
-    tried = []
+    tried, others = [], []
     for name in _candidates():
         try:
             library = ctypes.CDLL(name)
@@ -85,21 +85,28 @@ def _load() -> ctypes.CDLL:
             continue
         if number == ABI:
             return library
-        tried.append(f"{name}: ABI {number}, not {ABI}")
+        others.append(f"{name} has {number}")
+    if others:
+        raise ImportError(f"this package needs a libgob.so.1 whose GOB_ABI is {ABI}, and {', '.join(others)}: install "
+                          "both of one version, or set GOB_LIBRARY to the path of such a library")
     raise ImportError("libgob.so.1 is not found; set GOB_LIBRARY to its path. Tried: " + "; ".join(tried))
 
 
 library = _load()
-_reader, _fault = ctypes.c_void_p, ctypes.POINTER(Fault)
+_reader, _checker, _counts, _fault = ctypes.c_void_p, ctypes.c_void_p, ctypes.POINTER(Counts), ctypes.POINTER(Fault)
 _calls: list[tuple[Any, ...]] = [
+    ("gob_open", _reader, ctypes.POINTER(Limits), _fault),
     ("gob_open_exact", _reader, ctypes.POINTER(Limits), _fault),
     ("gob_feed", ctypes.c_int, _reader, ctypes.c_void_p, ctypes.c_size_t, _fault),
     ("gob_finish", ctypes.c_int, _reader, _fault),
     ("gob_take", ctypes.c_int, _reader, ctypes.POINTER(Batch)),
     ("gob_type", ctypes.POINTER(Item), _reader, ctypes.c_uint32),
     ("gob_close", None, _reader),
-    ("gob_check_exact", ctypes.c_int, ctypes.c_char_p, ctypes.c_size_t, ctypes.POINTER(Limits),
-     ctypes.POINTER(Counts), _fault),
+    ("gob_check_open", _checker, ctypes.POINTER(Limits), _fault),
+    ("gob_check_open_exact", _checker, ctypes.POINTER(Limits), _fault),
+    ("gob_check_feed", ctypes.c_int, _checker, ctypes.c_char_p, ctypes.c_size_t, _counts, _fault),
+    ("gob_check_finish", ctypes.c_int, _checker, _counts, _fault),
+    ("gob_check_close", None, _checker),
     ("gob_reason_name", ctypes.c_char_p, ctypes.c_uint32),
     ("gob_reason_text", ctypes.c_char_p, ctypes.c_uint32),
 ]

@@ -26,7 +26,7 @@ import numpy as np
 
 from . import Reader, Refused, Type, _path, _pieces, _raise, go
 from ._decode import Opaque
-from ._library import library
+from ._library import Head, Node, library
 from ._source import Source
 from ._types import BASIC
 
@@ -35,9 +35,7 @@ if TYPE_CHECKING:
 
     _Array = np.ndarray[Any, Any]
 
-_HEAD = np.dtype([("id", "<u8"), ("node", "<u8"), ("nodes", "<u8"), ("byte", "<u8"), ("bytes", "<u8"), ("kind", "<u8"),
-                  ("begin", "<u8"), ("end", "<u8")])
-_NODE = np.dtype([("number", "<u8"), ("first", "<u8"), ("second", "<u8"), ("kind", "<u4"), ("named", "<u4")])
+_HEAD, _NODE = np.dtype(Head), np.dtype(Node)
 _DTYPES = {1: np.dtype(bool), 2: np.dtype("<i8"), 3: np.dtype("<u8"), 4: np.dtype("<f8"), 7: np.dtype("<c16")}
 # what Go's time begins with, in either version
 _TIME = np.dtype([("version", "u1"), ("seconds", ">i8"), ("nanos", ">i4")])
@@ -112,6 +110,9 @@ class _Batch:
         self.reader, self.words, self.pool = reader, words, pool
         self.heads, self.nodes = np.frombuffer(heads, _HEAD), np.frombuffer(words, _NODE)
         self.item = np.repeat(np.arange(len(self.heads)), self.heads["nodes"].astype(np.int64))
+        # what interfaces hold stands behind the nodes of the value itself
+        ends = self.heads["node"] + self.nodes["second"][self.heads["node"].astype(np.int64)]
+        self.is_own = np.arange(len(self.nodes)) < ends[self.item]
         self.is_filled = False
 
     def fill(self) -> None:
@@ -145,7 +146,7 @@ class _Structs:
 
     def add(self, batch: _Batch, mine: _Array, depth: _Array) -> None:
         row_of, rows = np.cumsum(mine) - 1, int(mine.sum())
-        places = np.flatnonzero((depth == 1) & mine[batch.item])
+        places = np.flatnonzero((depth == 1) & batch.is_own & mine[batch.item])
         numbers = batch.nodes["number"][places]
         for number, column in enumerate(self.columns.values()):
             here = places[numbers == number]

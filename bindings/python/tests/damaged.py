@@ -1,4 +1,5 @@
-"""Damaged streams by the package and by the program: the same values and the same fault. GOB names the program.
+"""Damaged streams by the package and by the program: the same values and the same fault, of all that Go writes and of
+the documented format alone. GOB names the program.
 
     python3 tests/damaged.py SEED COUNT
 """
@@ -31,9 +32,10 @@ def same(one, other):
     return one == other
 
 
-def shown(data):
-    """The values and the fault that the program shows, each value with its type's id."""
-    said = subprocess.run([os.environ["GOB"], "show"], input=data, capture_output=True)
+def shown(data, exact):
+    """The values and the fault that the program shows."""
+    options = [] if exact else ["--go"]
+    said = subprocess.run([os.environ["GOB"], "show", *options], input=data, capture_output=True)
     types, values = {}, []
     for line in said.stdout.splitlines():
         row = json.loads(line)
@@ -55,23 +57,34 @@ def pieces(dice, data):
         at += count
 
 
-def read(dice, data):
+def read(dice, data, exact):
     values = []
     try:
-        for type, value in gob.iter_items(pieces(dice, data)):
+        for type, value in gob.iter_items(pieces(dice, data), exact=exact):
             values.append(value if not 16 <= type.id < 64 else None)
     except gob.Refused as refused:
+        assert len(gob.loads(data[:refused.begin], exact=exact)) == len(values), data.hex()
         return values, f"gob: {refused}"
     return values, ""
 
 
+def checked(dice, data, exact):
+    """The fault that a check of the stream raises, and how many values are counted in front of it."""
+    try:
+        return "", gob.check(pieces(dice, data), exact=exact).values
+    except gob.Refused as refused:
+        return f"gob: {refused}", gob.check(data[:refused.begin], exact=exact).values
+
+
 def main(seed, count):
-    dice, streams, refused = random.Random(seed), damage.streams(STREAMS), 0
-    for _ in range(count):
-        data = damage.damaged(dice, dice.choice(streams))
-        due, given = shown(data), read(dice, data)
+    dice, refused = random.Random(seed), 0
+    streams = damage.streams(STREAMS) + damage.streams(STREAMS.parent / "filled/streams")
+    for number in range(count):
+        data, exact = damage.damaged(dice, dice.choice(streams)), number % 3 == 0
+        due, given = shown(data, exact), read(dice, data, exact)
         assert given[1] == due[1], (data.hex(), given[1], due[1])
         assert same(given[0], due[0]), (data.hex(), given[0], due[0])
+        assert checked(dice, data, exact) == (due[1], len(due[0])), data.hex()
         refused += due[1] != ""
     print(f"{count} streams, {refused} refused: the same values and faults")
 

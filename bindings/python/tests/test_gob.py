@@ -64,6 +64,9 @@ def natural(value, id, types):
         return bytes.fromhex(value)
     if id == 6:
         return name_of(value)
+    if id == 8 and value is not None:
+        held = value["interface"]
+        return natural(held["value"], held["type"], types)
     if id <= 8:
         return value
     row = types[id]
@@ -107,6 +110,11 @@ ZEROS = bytes.fromhex(
     "26ff910301010350747201ff9200010301014101ff860001014d01ff8a0001015301ff9400000016ff85010101065b325d696e7401ff860001"
     "04010400000eff89040102ff8a00010c0104000016ff93020101085b5d737472696e6701ff9400010c000003ff920010ff9201020204010101"
     "61020101016200")
+# struct { N int; Any any; F float64 }: 1, Point{22, 33}, registered as P, 0.5; 2, nil, 1.5; 3, []any{7, "x"}, 2.5.
+ROWS = bytes.fromhex(
+    "25ff8103010103526f7701ff8200010301014e0104000103416e79011000010146010800000026ff820102010150ff8303010105506f696e74"
+    "01ff8400010201015801040001015901040000000dff8405012c01420001fee03f0009ff82010402fef83f0020ff820106010e5b5d696e7465"
+    "7266616365207b7dff85020102ff8600011000001eff8616000203696e740402000e06737472696e670c0300017801fe044000")
 
 
 def listed(column):
@@ -119,32 +127,139 @@ def opaque(data, name="T"):
 
 
 class Streams(unittest.TestCase):
+    def read(self, path, types, values, **options):
+        """Whether the stream is read so, in pieces of each size."""
+        fault = path.with_suffix(".fault")
+        for size in SIZES:
+            with self.subTest(stream=path.name, size=size):
+                given, refused = [], None
+                try:
+                    for _, value in gob.iter_items(path, piece=size, **options):
+                        given.append(value)
+                except gob.Refused as error:
+                    refused = f"gob: {error}"
+                self.assertEqual(given, values)
+                self.assertEqual(refused, fault.read_text().strip() if fault.exists() else None)
+        if not fault.exists():
+            loaded = gob.load(path, **options)
+            self.assertEqual(list(loaded.types), list(types))
+            for id, row in types.items():
+                self.assertEqual(loaded.types[id].name, row["name"])
+                if row["kind"] == "struct":
+                    self.assertEqual([list(f) for f in loaded.types[id].fields], row["fields"])
+            count = sum(len(gob.load(path, piece=s, **options)) for s in SIZES)
+            self.assertEqual(count, len(values) * len(SIZES))
+            self.assertEqual(gob.check(path, **options), (len(values), len(types), path.stat().st_size))
+
     def test_each_stream_in_pieces(self):
         paths = sorted(STREAMS.glob("*.gob"))
         self.assertGreater(len(paths), 10)
         for path in paths:
             types, values = due(path.with_suffix(".lines"))
-            fault = path.with_suffix(".fault")
+            self.read(path, types, values, exact=True)
+            if not path.with_suffix(".fault").exists():
+                self.read(path, types, values)
+
+    def test_each_stream_of_the_profile_in_pieces(self):
+        paths = sorted(STREAMS.parent.glob("filled/streams/*.gob"))
+        self.assertGreater(len(paths), 20)
+        for path in paths:
+            self.read(path, *due(path.with_suffix(".lines")))
+
+
+class Interfaces(unittest.TestCase):
+    """What Go 1.19 wrote of map[string]struct { Object any; Expiration int64 }, as go-cache does."""
+
+    STREAM = STREAMS.parent / "filled/streams/go-cache.gob"
+
+    def test_what_interfaces_hold(self):
+        (cache,) = gob.load(self.STREAM)
+        self.assertEqual(cache["count"], {"Object": 42})
+        self.assertEqual(cache["names"], {"Object": ["a", "b"], "Expiration": 4102444800000000000})
+        (cache,) = gob.load(self.STREAM, held=gob.Held)
+        self.assertEqual(cache["count"], {"Object": gob.Held("int", 42)})
+        self.assertEqual(cache["names"]["Object"], gob.Held("[]string", ["a", "b"]))
+        (cache,) = gob.load(self.STREAM, held=lambda name, value: name)
+        self.assertEqual(cache["count"], {"Object": "int"})
+        for call in (gob.load, gob.check, gob.types):
+            with self.assertRaises(gob.Refused) as caught:
+                call(self.STREAM, exact=True)
+            self.assertEqual(caught.exception.reason, gob.Reason.InterfaceValue)
+
+    @unittest.skipUnless(importlib.util.find_spec("numpy"), "numpy isn't there")
+    def test_columns_are_fields_of_the_row_alone(self):
+        import gob.columns
+
+        columns = gob.columns.load(ROWS)["Row"]
+        self.assertEqual({name: column.tolist() for name, column in columns.items()}, {
+            "N": [1, 2, 3], "Any": [{"X": 22, "Y": 33}, None, [7, "x"]], "F": [0.5, 1.5, 2.5]})
+        names = gob.columns.load([ROWS], piece=7, held=lambda name, value: name)["Row"]["Any"].tolist()
+        self.assertEqual(names, ["P", None, "[]interface {}"])
+
+    def test_fields_of_interfaces_are_absent_or_hold(self):
+        (one, two, three) = gob.loads(ROWS, zeros=True, structs="namedtuple")
+        self.assertEqual((one.Any.X, two.Any, three.Any), (22, None, [7, "x"]))
+        self.assertEqual(gob.loads(ROWS, tagged="type")[0]["Any"], {"type": "Point", "X": 22, "Y": 33})
+        self.assertEqual([type.name for type in gob.types(ROWS).values()], ["Row", "Point", ""])
+        self.assertEqual(gob.check(ROWS), (3, 3, len(ROWS)))
+
+
+class Places(unittest.TestCase):
+    def test_where_items_begin_and_end(self):
+        for data, due in [(POINT + POINT[32:], [(32, 40), (40, 48)]), (ROWS, [(38, 91), (91, 101), (101, 165)])]:
             for size in SIZES:
-                with self.subTest(stream=path.name, size=size):
-                    given, refused = [], None
-                    try:
-                        for _, value in gob.iter_items(path, piece=size):
-                            given.append(value)
-                    except gob.Refused as error:
-                        refused = f"gob: {error}"
-                    self.assertEqual(given, values)
-                    self.assertEqual(refused, fault.read_text().strip() if fault.exists() else None)
-            if not fault.exists():
-                loaded = gob.load(path)
-                self.assertEqual(list(loaded.types), list(types))
-                for id, row in types.items():
-                    self.assertEqual(loaded.types[id].name, row["name"])
-                    if row["kind"] == "struct":
-                        self.assertEqual([list(f) for f in loaded.types[id].fields], row["fields"])
-                count = sum(len(gob.load(path, piece=s)) for s in SIZES)
-                self.assertEqual(count, len(values) * len(SIZES))
-                self.assertEqual(gob.check(path), (len(values), len(types), path.stat().st_size))
+                items = list(gob.iter_items(data, piece=size))
+                self.assertEqual([(item.begin, item.end) for item in items], due)
+            again = pickle.loads(pickle.dumps(items[1]))
+            self.assertEqual((again, again.begin, again.end), (items[1], *due[1]))
+            self.assertEqual((again.type, again.value), tuple(items[1]))
+            self.assertIn(f"begin={due[1][0]}, end={due[1][1]})", repr(again))
+
+    def test_what_stands_before_a_refused_item_is_whole(self):
+        for data, begin, count in [(POINT + b"\x07", 40, 1), (ROWS[:80], 38, 0), (ROWS[:95], 91, 1),
+                                   (ROWS[:101] + b"\x00", 101, 2), (b"\x80", 0, 0)]:
+            for call in (gob.loads, gob.check, lambda data: list(gob.iter_values(data, piece=1))):
+                with self.assertRaises(gob.Refused) as caught:
+                    call(data)
+                self.assertEqual(caught.exception.begin, begin)
+                self.assertEqual(pickle.loads(pickle.dumps(caught.exception)).begin, begin)
+            self.assertEqual(len(gob.loads(data[:begin])), count)
+
+
+class Checks(unittest.TestCase):
+    # a gigabyte takes as much as this
+    CHECK = """if True:
+        import itertools, gob
+        point = bytes.fromhex("07ff82012c014200") * 8192
+        definition = bytes.fromhex("1fff8103010105506f696e7401ff820001020101580104000101590104000000")
+        print(*gob.check(itertools.chain([definition], itertools.repeat(point, 1000))))
+        print(next(line.split()[1] for line in open("/proc/self/status") if line.startswith("VmHWM")))
+    """
+
+    def test_a_check_keeps_nothing(self):
+        package = str(pathlib.Path(__file__).parents[1])
+        ran = subprocess.run([sys.executable, "-c", self.CHECK], capture_output=True, text=True, check=True,
+                             env={**os.environ, "PYTHONPATH": package})
+        summary, kilobytes = ran.stdout.splitlines()
+        self.assertEqual(summary, f"{8192000} 1 {32 + 8 * 8192000}")
+        self.assertLess(int(kilobytes), 20000)
+
+    def test_in_pieces(self):
+        for size in SIZES:
+            self.assertEqual(gob.check(io.BytesIO(ROWS), piece=size), (3, 3, len(ROWS)))
+        self.assertEqual(gob.check([bytearray(POINT), memoryview(POINT[32:])]), (2, 1, 48))
+        with self.assertRaisesRegex(ValueError, "depth"):
+            gob.check(POINT, limits=gob.Limits(depth=0))
+
+
+class Libraries(unittest.TestCase):
+    def test_one_of_another_interface_is_refused(self):
+        with mock.patch.object(gob._library, "ABI", 7), self.assertRaises(ImportError) as caught:
+            gob._library._load()
+        self.assertIn("this package needs a libgob.so.1 whose GOB_ABI is 7, and ", str(caught.exception))
+        self.assertIn(" has 2: install both of one version, or set GOB_LIBRARY", str(caught.exception))
+        with mock.patch.dict(os.environ, GOB_LIBRARY="nowhere.so"), self.assertRaisesRegex(ImportError, "not found"):
+            gob._library._load()
 
 
 class Values(unittest.TestCase):

@@ -1,10 +1,10 @@
-/* The memory that the library asks for, in a page: blocks of sizes that are powers of two, with a list of the free ones
- * of each, over a memory that grows. A block is never split or joined: the page makes a new memory for each reading.
- * Nothing here is proved. */
+/* The memory that the library asks for in WebAssembly: blocks of sizes that are powers of two, with a list of the free
+ * ones of each, over a memory that grows. A block is never split or joined: each reading has a new memory. Nothing here
+ * is proved. */
 #include "memory.h"
 
 enum { PAGE = 65536, SMALLEST = 4, LISTS = 48, HEAD = 16 };
-/* pointers of a page have 32 bits */
+/* pointers have 32 bits */
 #define MOST 0xf0000000ul
 
 /* What stands before a block: the number of its list while it is used, the next free one while it isn't. */

@@ -1,6 +1,7 @@
-/* What gob.h, raw.h and gob.c ask of the headers of a C library, for WebAssembly. `build` gives it their names. */
-#ifndef GOB_PAGE_MEMORY_H
-#define GOB_PAGE_MEMORY_H
+/* What gob.h, raw.h, gob.c and heap.c ask of the headers of a C library, for WebAssembly; `build` gives it their
+ * names. */
+#ifndef GOB_WASM_MEMORY_H
+#define GOB_WASM_MEMORY_H
 
 typedef __SIZE_TYPE__ size_t;
 typedef __UINT32_TYPE__ uint32_t;

@@ -1,0 +1,198 @@
+/* The exports of raw.h: each is the same export of the translated code, which has a memory of its own for each reader.
+ * What a call is given is copied into that memory, and what it tells is copied out. Nothing here is proved. */
+#include "raw.h"
+
+/* A block of the translated code's memory: where it begins, 0 for none, and how many bytes it has. */
+typedef struct block {
+    u64 at, size;
+} block;
+
+/* The translated code with a reader in it: the places of the reader's pointer, of what a call tells of itself, and of a
+ * piece, and the rooms for what is handed out. */
+typedef struct sandbox {
+    code wasm;
+    u64 handle, told, piece;
+    block heads, nodes, bytes;
+} sandbox;
+
+/* (the translated code's memory comes in powers of two, with sixteen bytes of its own in front) */
+enum { PIECE = 65536 - 16, TOLD = 128 - 16, COUNTS = 64 };
+
+/* So much room there is at first for what is handed out. It is made as large as what it is copied into where an item
+ * asks for that. */
+enum { HEADS_AT_FIRST = 512, NODES_AT_FIRST = 4000, BYTES_AT_FIRST = 32768 - 16 };
+
+static u64 at_most(u64 one, u64 other) { return one < other ? one : other; }
+
+static void put(sandbox *box, u64 at, const void *from, size_t count) {
+    check(&box->wasm.w2c_memory, at, count);
+    if (count != 0) memcpy(box->wasm.w2c_memory.data + at, from, count);
+}
+
+/* Copies so much out, for which there is this much room. */
+static void get(sandbox *box, void *to, u64 room, u64 at, u64 count) {
+    check(&box->wasm.w2c_memory, at, count);
+    if (count > room) trap();
+    if (count != 0) memcpy(to, box->wasm.w2c_memory.data + at, (size_t)count);
+}
+
+/* Copies out what a call told. */
+static void hear(sandbox *box, void *told, size_t size) { get(box, told, size, box->told, size); }
+
+/* Copies out what a check told, and what it counted, which stands behind that. */
+static void hear_counts(sandbox *box, gob_counts *counts, gob_fault *told) {
+    hear(box, told, sizeof *told);
+    get(box, counts, sizeof *counts, box->told + COUNTS, sizeof *counts);
+}
+
+static void end(sandbox *box) {
+    if (box == NULL) return;
+    let_go(&box->wasm.w2c_memory);
+    free(box);
+}
+
+/* The translated code as it begins, with its places; NULL where there is no memory. */
+static sandbox *begun(void) {
+    static const unsigned char none[8];
+    sandbox *box = calloc(1, sizeof *box);
+    if (box == NULL) return NULL;
+    code_begin(&box->wasm);
+    if (box->wasm.w2c_memory.data != NULL) {
+        box->handle = code_malloc(&box->wasm, sizeof none);
+        box->told = code_malloc(&box->wasm, TOLD);
+        box->piece = code_malloc(&box->wasm, PIECE);
+    }
+    if (box->handle != 0 && box->told != 0 && box->piece != 0) {
+        put(box, box->handle, none, sizeof none);
+        return box;
+    }
+    end(box);
+    return NULL;
+}
+
+/* Makes the block as large as this where it is smaller, and says how much of that is had: nothing where there is no
+ * memory for it. The block begins somewhere also then. */
+static u64 room_in(sandbox *box, block *room, u64 size) {
+    if (room->size < size) {
+        if (room->size != 0) code_free(&box->wasm, room->at);
+        room->at = code_malloc(&box->wasm, size);
+        room->size = room->at != 0 ? size : 0;
+    }
+    if (room->size == 0) room->at = box->piece;
+    return at_most(room->size, size);
+}
+
+/* One of the exports that make what a handle holds. */
+typedef void opening(code *, u64 asked, u64 told, u64 handle);
+
+static void open_by(opening *made, const struct raw_asked *asked, gob_fault *told, void **handle) {
+    sandbox *box = begun();
+    *told = (gob_fault){.status = GOB_NO_MEMORY};
+    if (box == NULL) return;
+    put(box, box->piece, asked, sizeof *asked);
+    made(&box->wasm, box->piece, box->told, box->handle);
+    hear(box, told, sizeof *told);
+    if (told->status == GOB_OK) *handle = box;
+    else end(box);
+}
+
+void gob_raw_open(const struct raw_asked *asked, gob_fault *told, void **reader) {
+    open_by(code_gob_raw_open, asked, told, reader);
+}
+
+void gob_raw_feed(void **reader, const unsigned char *piece, size_t count, gob_fault *told) {
+    sandbox *box = *reader;
+    do {
+        size_t some = count < PIECE ? count : PIECE;
+        put(box, box->piece, piece, some);
+        code_gob_raw_feed(&box->wasm, box->handle, box->piece, some, box->told);
+        hear(box, told, sizeof *told);
+        piece += some;
+        count -= some;
+    } while (count != 0 && told->status == GOB_OK);
+}
+
+void gob_raw_finish(void **reader, gob_fault *told) {
+    sandbox *box = *reader;
+    code_gob_raw_finish(&box->wasm, box->handle, box->told);
+    hear(box, told, sizeof *told);
+}
+
+/* What a call hands out into, and how much room there is. */
+typedef struct hand {
+    gob_head *heads;
+    gob_node *nodes;
+    unsigned char *bytes;
+    u64 head_room, node_room, byte_room;
+} hand;
+
+static void take(sandbox *box, const hand *to, struct raw_handed *told) {
+    u64 heads = room_in(box, &box->heads, to->head_room * sizeof *to->heads);
+    u64 nodes = room_in(box, &box->nodes, to->node_room * sizeof *to->nodes);
+    u64 bytes = room_in(box, &box->bytes, to->byte_room);
+    code_gob_raw_take(&box->wasm, box->handle, box->heads.at, heads / sizeof *to->heads, box->nodes.at,
+                      nodes / sizeof *to->nodes, box->bytes.at, bytes, box->told);
+    hear(box, told, sizeof *told);
+    get(box, to->heads, heads, box->heads.at, told->items * sizeof *to->heads);
+    get(box, to->nodes, nodes, box->nodes.at, told->nodes * sizeof *to->nodes);
+    get(box, to->bytes, bytes, box->bytes.at, told->bytes);
+}
+
+void gob_raw_take(void **reader, gob_head *heads, size_t head_room, gob_node *nodes, size_t node_room,
+                  unsigned char *bytes, size_t byte_room, struct raw_handed *told) {
+    hand all = {heads, nodes, bytes, head_room, node_room, byte_room}, few = all;
+    few.head_room = at_most(head_room, HEADS_AT_FIRST);
+    few.node_room = at_most(node_room, NODES_AT_FIRST);
+    few.byte_room = at_most(byte_room, BYTES_AT_FIRST);
+    take(*reader, &few, told);
+    if (told->items == 0 && told->waiting != 0) take(*reader, &all, told);
+}
+
+void gob_raw_type(void **reader, uint64_t id, gob_node *nodes, size_t node_room, unsigned char *bytes,
+                  size_t byte_room, struct raw_handed *told) {
+    sandbox *box = *reader;
+    u64 in_nodes = room_in(box, &box->nodes, node_room * sizeof *nodes);
+    u64 in_bytes = room_in(box, &box->bytes, byte_room);
+    code_gob_raw_type(&box->wasm, box->handle, id, box->nodes.at, in_nodes / sizeof *nodes, box->bytes.at, in_bytes,
+                      box->told);
+    hear(box, told, sizeof *told);
+    get(box, nodes, in_nodes, box->nodes.at, told->nodes * sizeof *nodes);
+    get(box, bytes, in_bytes, box->bytes.at, told->bytes);
+}
+
+void gob_raw_close(void *reader) { end(reader); }
+
+void gob_raw_check_open(const struct raw_asked *asked, gob_fault *told, void **counter) {
+    open_by(code_gob_raw_check_open, asked, told, counter);
+}
+
+void gob_raw_check_feed(void **counter, const unsigned char *piece, size_t count, gob_counts *counts, gob_fault *told) {
+    sandbox *box = *counter;
+    do {
+        size_t some = count < PIECE ? count : PIECE;
+        put(box, box->piece, piece, some);
+        code_gob_raw_check_feed(&box->wasm, box->handle, box->piece, some, box->told + COUNTS, box->told);
+        hear_counts(box, counts, told);
+        piece += some;
+        count -= some;
+    } while (count != 0 && told->status == GOB_OK);
+}
+
+void gob_raw_check_finish(void **counter, gob_counts *counts, gob_fault *told) {
+    sandbox *box = *counter;
+    code_gob_raw_check_finish(&box->wasm, box->handle, box->told + COUNTS, box->told);
+    hear_counts(box, counts, told);
+}
+
+void gob_raw_check_close(void *counter) { end(counter); }
+
+/* (in pieces, so that the whole bytes need no room in the translated code's memory) */
+void gob_raw_check(const unsigned char *bytes, size_t count, const struct raw_asked *asked, gob_counts *counts,
+                   gob_fault *told) {
+    void *counter = NULL;
+    gob_raw_check_open(asked, told, &counter);
+    if (told->status != GOB_OK) return;
+    gob_raw_check_feed(&counter, bytes, count, counts, told);
+    if (told->status == GOB_OK) gob_raw_check_finish(&counter, counts, told);
+    gob_raw_check_close(counter);
+}
