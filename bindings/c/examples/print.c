@@ -9,8 +9,14 @@
 #include <stdio.h>
 #include <stdlib.h>
 
+/* Text or a name. What isn't printable ASCII is escaped, since a terminal might obey it. */
 static void put_bytes(const gob_item *item, const gob_node *node) {
-    fwrite(gob_bytes_of(item, node), 1, node->second, stdout);
+    const unsigned char *bytes = gob_bytes_of(item, node);
+    for (uint64_t i = 0; i < node->second; i++) {
+        if (bytes[i] < ' ' || bytes[i] > '~') printf("\\x%02x", bytes[i]);
+        else if (bytes[i] == '"' || bytes[i] == '\\') printf("\\%c", bytes[i]);
+        else putchar(bytes[i]);
+    }
 }
 
 static void put_hex(const gob_item *item, const gob_node *node) {
