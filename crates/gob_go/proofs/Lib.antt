@@ -16,6 +16,7 @@ pub mod HeldBeginSteps
 pub mod HeldDefinitionSteps
 pub mod HeldSteps
 pub mod HonestLaws
+pub mod IdLaws
 pub mod InnerCountSteps
 pub mod ItemsLaws
 pub mod LeadingLaws

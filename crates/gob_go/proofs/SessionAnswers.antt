@@ -222,6 +222,14 @@ pub end_stays : (s s' : SessionState) (items : List FilledItem) (bytes : List �
 end_stays s s' items bytes (Ok u) a = a.1
 end_stays s s' items bytes (Err e) a = tt
 
+pub end_reason : (s s' : SessionState) (items : List FilledItem) (bytes : List ℕ) (r : Result (Unit {0}) Fault)
+    → FinishAnswers s s' items bytes r → OfRefusal (λ R. R.reason ≡ reason.Ended) r
+end_reason s s' items bytes (Ok u) a = tt
+end_reason s s' items bytes (Err (fault.Refused R)) a = a.1
+end_reason s s' items bytes (Err fault.Read) a = tt
+end_reason s s' items bytes (Err fault.Memory) a = tt
+end_reason s s' items bytes (Err fault.Failed) a = tt
+
 -- the types where all that was taken leads
 taken_lead : {s : SessionState} {items : List FilledItem} {taken : List ℕ} → HasRead s items taken
     → LeadsBehind (within_trees (limits_of s)) taken items (types_of s)

@@ -13,6 +13,7 @@ mod definition;
 mod description;
 mod filled;
 mod held;
+mod ids;
 mod inner_count;
 mod item;
 mod level;
@@ -31,6 +32,7 @@ mod values;
 mod whole;
 
 pub use filled::{Definition, Filled, Filling};
+pub use ids::{push_ids, push_inner_ids};
 pub use item::GoItem;
 pub use session::GoSession;
 pub use steps::GoReader;

@@ -3,7 +3,7 @@ use Rattle.std.proofs.Common.{◌≡◌, ◌∙◌, ℕ, ◌+◌, ◌<◌, ◌�
 use Rattle.std.proofs.Common.{append_assoc, append-nil, subst}
 use Rattle.std.proofs.lemmas.List.{drop_more}
 use Rattle.gob_go.specs.declared.filled.Filling.{Filling, out-Filling}
-use Rattle.gob_go_writer.proofs.PartSteps.{item_left}
+use Rattle.gob_go.proofs.IdLaws.{item_left}
 use Rattle.gob_go_tidy.specs.Machine.Places.{AreCloser, last_closer, then_closer, places_in}
 
 pub next_placed : {new : List ℕ} (ps : List ℕ) (fs : List Filling) (i : ℕ) (f : Filling) → f ≡ get_or fs i f

@@ -36,7 +36,7 @@ use Rattle.gob_go_tidy.proofs.AgainLaws.{value_fits}
 use Rattle.gob_go_writer.specs.Hoisting.{hoisted, IsHoisted}
 use Rattle.gob_go_writer.specs.Item.{IsGrown, IsItemOf}
 use Rattle.gob_go_writer.proofs.HoistedLaws.{item_bytes}
-use Rattle.gob_go_writer.proofs.PartSteps.{item_left}
+use Rattle.gob_go.proofs.IdLaws.{item_left}
 use Rattle.gob_go_tool.specs.Machine.Forms.{AreItemsOf, no_items, item_then, IsFormOf, IsHoistedText, IsShortItem}
 use Rattle.gob_go_tool.specs.Machine.Forms.{IsTidyText, IsWholeForm}
 use Rattle.gob_go_tool.specs.RewritingGo.{AreAnywhere, IsRewritten}

@@ -2,7 +2,6 @@
 use Rattle.std.proofs.Common.{◌≡◌, ℕ, negsuc, ◌+◌, ◌-◌, ◌<◌, ◌≤◌, ◌^◌, List, [], ◌∷◌, ◌++◌, length, sym, subst}
 use Rattle.std.proofs.Common.{◌∙◌, ap, append_assoc, arith, drop, take, get_or, suc}
 use Rattle.std.proofs.Common.{pos, ◌-ℤ◌, to_z, of_z, w64}
-use Rattle.std.proofs.lemmas.List.{drop_more}
 use Rattle.std.proofs.lemmas.Int.{ints, to_z_pos}
 use Rattle.gob_num.specs.Spelled.{IsSpelled}
 use Rattle.gob_num.specs.Unsigned.{AreBytes}
@@ -17,6 +16,7 @@ use Rattle.gob_filled.specs.Filled.{cut, Definitions, AreDefined, none_defined, 
 use Rattle.gob_filled.proofs.Refused.{definition_keeps, in_turn}
 use Rattle.gob_go.specs.declared.filled.Definition.{Definition}
 use Rattle.gob_go.specs.declared.filled.Filling.{Filling, out-Filling}
+use Rattle.gob_go.proofs.IdLaws.{item_left}
 use Rattle.gob_go_writer.specs.Machine.Letters.{Takes, TakesSpelled}
 use Rattle.gob_go_writer.specs.Spelling.{SpellsDefinition, SpellDefinitions, none_spelled, one_spelled, SpellsRest}
 use Rattle.gob_go_writer.specs.Spelling.{as_it_stands, next_filled, SpellsFilling, fills, SpellsValue}
@@ -48,11 +48,6 @@ going_on {Whole = Whole} g part t onward left = record {
 pub going_ends : {Whole Left : List ℕ → Type 0} {old mid new : Segments} (g : Going Whole Left old mid) (ls : List ℕ)
     → Takes mid new ls → Left ls → TakesSpelled Whole old new
 going_ends g ls t l = record { letters = g.front ++ ls; spelled = g.onward ls l; takes = takes_then g.taken t }
-
--- the items of a list from this one on
-pub item_left : {X : Type 0} (xs : List X) (i : ℕ) (x : X) → x ≡ get_or xs i x → i < length xs
-    → drop i xs ≡ x ∷ drop (i + 1) xs
-item_left xs i x is l = drop_more xs i x l ∙ ap (λ y. y ∷ drop (i + 1) xs) (sym is)
 
 -- the items of a vector of bytes are bytes
 pub vector_bytes : (bytes : List ℕ) → ((i : ℕ) → i < length bytes → get_or bytes i 0 < 256) → AreBytes bytes

@@ -24,7 +24,7 @@ use Rattle.gob_go.specs.declared.item.GoItem.TheVariants as item
 use Rattle.gob_go_writer.specs.Machine.Alike.{AllFillAlike, AllFillAs, AreAlikeDescribed, AreDefinedAlike}
 use Rattle.gob_go_writer.specs.Machine.Alike.{AreFilledAlike, FillAlike, FillingsDescribed, FillsAs}
 use Rattle.gob_go_writer.specs.Machine.Alike.{ValueDescribed}
-use Rattle.gob_go_writer.proofs.PartSteps.{item_left}
+use Rattle.gob_go.proofs.IdLaws.{item_left}
 use Rattle.gob_go_writer.proofs.ValueSteps.{FirstFilling, first_filling}
 
 -- ---- definitions

@@ -20,7 +20,7 @@ use Rattle.gob_go_json.specs.Gaps.{AreGaps, gap_before}
 use Rattle.gob_handed.specs.ValueNodes.{PutsValue, puts_value, PutsFillings, puts_none, puts_filling, PutsHeld}
 use Rattle.gob_handed.specs.ValueNodes.{puts_held, behind, text_node, held_node}
 use Rattle.gob_handed.specs.Machine.Putting.{HoldsNil}
-use Rattle.gob_handed.proofs.IdLaws.{item_left}
+use Rattle.gob_go.proofs.IdLaws.{item_left}
 
 -- so many nodes were gone past, these fillings with their gaps are left, and with what they put it is what all put
 pub record AreLeft (T : Table) (t : TypeId) (b : List ℕ) (first next : ℕ) (rest : List Filling) (gaps : List ℕ)

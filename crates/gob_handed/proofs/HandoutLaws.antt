@@ -24,7 +24,7 @@ use Rattle.gob_go.specs.declared.filled.Filling.{Filling}
 use Rattle.gob_go.specs.declared.item.GoItem.{GoItem}
 use Rattle.gob_go.specs.declared.item.GoItem.TheVariants as given
 use Rattle.gob_handed.specs.Handed.{content_bytes, content_kind, content_nodes}
-use Rattle.gob_handed.specs.Ids.{inner_ids}
+use Rattle.gob_go.specs.Ids.{inner_ids}
 use Rattle.gob_handed.specs.Machine.Putting.{Extends}
 use Rattle.gob_handed.specs.Unfolded.{AreGoHandouts, AreHandouts, definition_handouts, handout, of_definition}
 use Rattle.gob_handed.specs.Unfolded.{of_go_definition, of_go_value, of_value}

@@ -1,7 +1,5 @@
 mod PutsLaws
-mod IdLaws
 mod FillingLaws
 mod EverLaws
 mod ReadingLaws
 mod HandoutLaws
-mod LeadsLaws

@@ -15,7 +15,7 @@ use Rattle.gob_stream.specs.declared.fault.Fault.{Fault}
 use Rattle.gob_stream.specs.declared.fault.Fault.TheVariants as fault
 use Rattle.gob_stream.specs.declared.session.Step.{Step}
 use Rattle.gob_handed.specs.Reading.{AreUnfolded, none_unfolded, one_more, EndAt, GivesOfFirst, GoesOn, Handouts}
-use Rattle.gob_handed.specs.Reading.{FeedsBy, HasReadTo, KeepsBy, Leading, RefusesBehind, StandsSo, StepsBy}
+use Rattle.gob_handed.specs.Reading.{FeedsBy, HasReadTo, KeepsBy, RefusesBehind, StandsSo, StepsBy}
 use Rattle.gob_handed.specs.Waiting.{begin_of, session_of, types_in, waiting}
 use Rattle.gob_handed.specs.declared.handout.Handout.{Handout}
 use Rattle.gob_handed.specs.declared.reader.Reader.{Reader}
@@ -146,8 +146,7 @@ stepped_on d {handouts = handouts} {old = old} mid {new = new} {items = items} {
     }
 
 -- a step is answered so
-pub steps_well : {X I Told : Type 0} (d : Stepping X I Told) (leading : Leading Told) {handouts : Handouts I}
-    {old : Reader X I}
+pub steps_well : {X I Told : Type 0} (d : Stepping X I Told) {handouts : Handouts I} {old : Reader X I}
     (mid : Reader X I) {new : Reader X I} {items : List Told} {used : ℕ} {step : Step I} (bytes piece : List ℕ)
     → used ≡ step.used → (h : HasReadTo d old items bytes)
     → AdvancesBy d (session_of old) (session_of mid) items bytes piece step
@@ -155,9 +154,8 @@ pub steps_well : {X I Told : Type 0} (d : Stepping X I Told) (leading : Leading 
     → mid.offset ≡ min (old.offset + used) (2 ^ 64 - 1) → begin_of mid ≡ begin_of old → waiting mid ≡ waiting old
     → IfSome step.item (λ _. d.between (session_of mid)) → KeepsBy d handouts mid new step.item
     → session_of new ≡ session_of mid → new.offset ≡ mid.offset
-    → StepsBy d handouts leading old new items bytes piece (Ok used)
-steps_well d leading {handouts = handouts} {old = old} mid {new = new} {items = items} {used = used}
-    {step = step} bytes piece
+    → StepsBy d handouts old new items bytes piece (Ok used)
+steps_well d {handouts = handouts} {old = old} mid {new = new} {items = items} {used = used} {step = step} bytes piece
     is h a within stands same offset begin w between k session kept =
     let end = bytes ++ take step.used piece in
     let n : mid.offset ≡ min (old.offset + step.used) (2 ^ 64 - 1) =
@@ -170,17 +168,14 @@ steps_well d leading {handouts = handouts} {old = old} mid {new = new} {items = 
     (stepped_on d mid a.gives k begin w reads.offset_is a.after between moved)
 
 -- or refused, or short of memory
-pub steps_ill : {X I Told : Type 0} (d : Stepping X I Told) (leading : Leading Told) {handouts : Handouts I}
-    {old new : Reader X I}
+pub steps_ill : {X I Told : Type 0} (d : Stepping X I Told) {handouts : Handouts I} {old new : Reader X I}
     {items : List Told} (T : Table) (bytes piece : List ℕ) (e : Fault)
-    → StepAnswersBy d T (session_of old) (session_of new) items bytes piece (Err e)
-    → OfRefusal {A = Step I} (λ _. leading (d.within (d.limits (session_of old))) (bytes ++ piece) items
-    (types_in d new)) (Err e) → begin_of new ≡ begin_of old
-    → waiting new ≡ waiting old → StepsBy d handouts leading old new items bytes piece (Err e)
-steps_ill d leading T bytes piece (fault.Refused R) a leads begin w =
-    goes_none w begin (record { table = T; refuses = a.0; leads = leads })
-steps_ill d leading T bytes piece fault.Read a leads begin w = absurd a
-steps_ill d leading {old = old} {items = items} T bytes piece fault.Memory a leads begin w = goes_none w begin (record {
+    → StepAnswersBy d T (session_of old) (session_of new) items bytes piece (Err e) → begin_of new ≡ begin_of old
+    → waiting new ≡ waiting old → StepsBy d handouts old new items bytes piece (Err e)
+steps_ill d T bytes piece (fault.Refused R) a begin w =
+    goes_none w begin (record { table = T; refuses = a.0; leads = a.1 })
+steps_ill d T bytes piece fault.Read a begin w = absurd a
+steps_ill d {old = old} {items = items} T bytes piece fault.Memory a begin w = goes_none w begin (record {
   more = [];
   few = omega arith;
   prefix = bytes;
@@ -190,7 +185,7 @@ steps_ill d leading {old = old} {items = items} T bytes piece fault.Memory a lea
   gives = subst (λ (l : List _). GivesIn d.grammar (d.within (d.limits (session_of old))) T l bytes)
       (sym (append-nil items)) a;
 })
-steps_ill d leading T bytes piece fault.Failed a leads begin w = absurd a
+steps_ill d T bytes piece fault.Failed a begin w = absurd a
 
 -- an item that can't be kept is the last
 few_more : {Told I : Type 0} {means : I → Told → Type 0} {o : Option I} {more : List Told} → GivesItemsOf means o more
@@ -198,14 +193,13 @@ few_more : {Told I : Type 0} {means : I → Told → Type 0} {o : Option I} {mor
 few_more gives_none = omega arith
 few_more (gives_one m) = omega arith
 
-pub keeps_ill : {X I Told : Type 0} (d : Stepping X I Told) (leading : Leading Told) {handouts : Handouts I}
-    {old : Reader X I}
+pub keeps_ill : {X I Told : Type 0} (d : Stepping X I Told) {handouts : Handouts I} {old : Reader X I}
     (mid : Reader X I) {new : Reader X I} {items : List Told} {step : Step I} (bytes piece : List ℕ) (e : Fault)
     → e ≡ fault.Memory → AdvancesBy d (session_of old) (session_of mid) items bytes piece step
     → d.limits (session_of mid) ≡ d.limits (session_of old) → GivesAllBy d (session_of mid)
     → begin_of new ≡ begin_of old → waiting new ≡ waiting old
-    → StepsBy d handouts leading old new items bytes piece (Err e)
-keeps_ill d leading {handouts = handouts} {old = old} mid {new = new} {items = items} {step = step} bytes piece e is a
+    → StepsBy d handouts old new items bytes piece (Err e)
+keeps_ill d {handouts = handouts} {old = old} mid {new = new} {items = items} {step = step} bytes piece e is a
     same gives begin w =
     let first = bytes ++ take step.used piece in
     let T = d.behind (session_of mid) (items ++ a.more) first a.after in
@@ -220,18 +214,17 @@ keeps_ill d leading {handouts = handouts} {old = old} mid {new = new} {items = i
       gives = subst (λ (L : Bounds). GivesIn d.grammar (d.within L) T (items ++ a.more) first) same
           (gives (items ++ a.more) first a.after);
     } in
-    subst (λ (f : Fault). StepsBy d handouts leading old new items bytes piece (Err f)) (sym is)
+    subst (λ (f : Fault). StepsBy d handouts old new items bytes piece (Err f)) (sym is)
     (goes_none w begin last)
 
 -- at the fault that a `?` returns
-pub steps_at : {X I Told : Type 0} (d : Stepping X I Told) (leading : Leading Told) {handouts : Handouts I}
-    {old new : Reader X I}
+pub steps_at : {X I Told : Type 0} (d : Stepping X I Told) {handouts : Handouts I} {old new : Reader X I}
     {items : List Told} (bytes piece : List ℕ) (r : Result ℕ Fault) (e : Fault) → IsErrAnd r (λ x. x ≡ e)
-    → StepsBy d handouts leading old new items bytes piece (Err e)
-    → StepsBy d handouts leading old new items bytes piece r
-steps_at d leading bytes piece (Ok u) e is h = absurd is
-steps_at d leading {handouts = handouts} {old = old} {new = new} {items = items} bytes piece (Err f) e is h =
-    subst (λ (x : Fault). StepsBy d handouts leading old new items bytes piece (Err x)) (sym is) h
+    → StepsBy d handouts old new items bytes piece (Err e)
+    → StepsBy d handouts old new items bytes piece r
+steps_at d bytes piece (Ok u) e is h = absurd is
+steps_at d {handouts = handouts} {old = old} {new = new} {items = items} bytes piece (Err f) e is h =
+    subst (λ (x : Fault). StepsBy d handouts old new items bytes piece (Err x)) (sym is) h
 
 -- ---- a piece
 -- the reader has gone on to what is left of the piece
@@ -252,13 +245,12 @@ none_yet d {handouts = handouts} {old = old} {new = new} {items = items} bytes p
       (sym (append-nil bytes)) (goes_none w begin (read_same d session offset h));
 }
 
-pub up_to : {X I Told : Type 0} (d : Stepping X I Told) (leading : Leading Told) {handouts : Handouts I}
-    {old mid new : Reader X I}
+pub up_to : {X I Told : Type 0} (d : Stepping X I Told) {handouts : Handouts I} {old mid new : Reader X I}
     {items : List Told} (used : ℕ) (bytes piece rest later : List ℕ) → later ≡ drop used rest
     → (g : GoesUpTo d handouts old mid items bytes piece rest)
-    → StepsBy d handouts leading mid new g.goes.all (bytes ++ g.prefix) rest (Ok used)
+    → StepsBy d handouts mid new g.goes.all (bytes ++ g.prefix) rest (Ok used)
     → GoesUpTo d handouts old new items bytes piece later
-up_to d leading {handouts = handouts} {old = old} {new = new} {items = items} used bytes piece rest later is g k =
+up_to d {handouts = handouts} {old = old} {new = new} {items = items} used bytes piece rest later is g k =
     record {
       prefix = g.prefix ++ take used rest;
       whole = g.whole
@@ -278,16 +270,15 @@ whole_piece d {handouts = handouts} {old = old} {new = new} {items = items} byte
     (sym (g.whole ∙ append-nil g.prefix)) g.goes
 whole_piece d bytes piece {rest = b ∷ rest} none g = absurd (omega (arith, none))
 
-stands_as : {X I Told : Type 0} (d : Stepping X I Told) (leading : Leading Told) (old mid new : Reader X I)
-    (all : List Told) (bytes : List ℕ)
-    (e : Fault) → d.limits (session_of mid) ≡ d.limits (session_of old) → StandsSo d leading mid new all bytes (Err e)
-    → StandsSo d leading old new all bytes (Err e)
-stands_as d leading old mid new all bytes (fault.Refused R) same s =
-    subst (λ (L : Bounds). RefusesBehind d leading L all bytes R (types_in d new)) same s
-stands_as d leading old mid new all bytes fault.Read same s = absurd s
-stands_as d leading old mid new all bytes fault.Memory same s =
+stands_as : {X I Told : Type 0} (d : Stepping X I Told) (old mid new : Reader X I) (all : List Told) (bytes : List ℕ)
+    (e : Fault) → d.limits (session_of mid) ≡ d.limits (session_of old) → StandsSo d mid new all bytes (Err e)
+    → StandsSo d old new all bytes (Err e)
+stands_as d old mid new all bytes (fault.Refused R) same s =
+    subst (λ (L : Bounds). RefusesBehind d L all bytes R (types_in d new)) same s
+stands_as d old mid new all bytes fault.Read same s = absurd s
+stands_as d old mid new all bytes fault.Memory same s =
     subst (λ (L : Bounds). GivesOfFirst d L all bytes) same s
-stands_as d leading old mid new all bytes fault.Failed same s = absurd s
+stands_as d old mid new all bytes fault.Failed same s = absurd s
 
 goes_weaker : {X I Told : Type 0} {d : Stepping X I Told} {handouts : Handouts I} {old new : Reader X I}
     {items : List Told} {bytes : List ℕ} {P Q : List Told → Type 0} → ((all : List Told) → P all → Q all)
@@ -300,27 +291,24 @@ goes_weaker f g = record {
   so = f g.all g.so;
 }
 
-pub stops_piece : {X I Told : Type 0} (d : Stepping X I Told) (leading : Leading Told) {handouts : Handouts I}
-    {old mid new : Reader X I}
+pub stops_piece : {X I Told : Type 0} (d : Stepping X I Told) {handouts : Handouts I} {old mid new : Reader X I}
     {items : List Told} (bytes piece rest : List ℕ) (e : Fault)
     → d.limits (session_of mid) ≡ d.limits (session_of old) → (g : GoesUpTo d handouts old mid items bytes piece rest)
-    → StepsBy d handouts leading mid new g.goes.all (bytes ++ g.prefix) rest (Err e)
-    → FeedsBy d handouts leading old new items bytes piece (Err e)
-stops_piece d leading {handouts = handouts} {old = old} {mid = mid} {new = new}
-    {items = items} bytes piece rest e same g k =
-    subst (λ (l : List ℕ). GoesOn d handouts old new items l (λ all. StandsSo d leading old new all l (Err e)))
+    → StepsBy d handouts mid new g.goes.all (bytes ++ g.prefix) rest (Err e)
+    → FeedsBy d handouts old new items bytes piece (Err e)
+stops_piece d {handouts = handouts} {old = old} {mid = mid} {new = new} {items = items} bytes piece rest e same g k =
+    subst (λ (l : List ℕ). GoesOn d handouts old new items l (λ all. StandsSo d old new all l (Err e)))
     (append_assoc bytes g.prefix rest ∙ ap (λ (l : List ℕ). bytes ++ l) (sym g.whole))
-    (goes_weaker (λ all s. stands_as d leading old mid new all ((bytes ++ g.prefix) ++ rest) e same s)
+    (goes_weaker (λ all s. stands_as d old mid new all ((bytes ++ g.prefix) ++ rest) e same s)
     (goes_join rest g.goes k))
 
-pub feeds_at : {X I Told : Type 0} (d : Stepping X I Told) (leading : Leading Told) {handouts : Handouts I}
-    {old new : Reader X I}
+pub feeds_at : {X I Told : Type 0} (d : Stepping X I Told) {handouts : Handouts I} {old new : Reader X I}
     {items : List Told} (bytes piece : List ℕ) (r : Result (Unit {0}) Fault) (e : Fault) → IsErrAnd r (λ x. x ≡ e)
-    → FeedsBy d handouts leading old new items bytes piece (Err e)
-    → FeedsBy d handouts leading old new items bytes piece r
-feeds_at d leading bytes piece (Ok u) e is h = absurd is
-feeds_at d leading {handouts = handouts} {old = old} {new = new} {items = items} bytes piece (Err f) e is h =
-    subst (λ (x : Fault). FeedsBy d handouts leading old new items bytes piece (Err x)) (sym is) h
+    → FeedsBy d handouts old new items bytes piece (Err e)
+    → FeedsBy d handouts old new items bytes piece r
+feeds_at d bytes piece (Ok u) e is h = absurd is
+feeds_at d {handouts = handouts} {old = old} {new = new} {items = items} bytes piece (Err f) e is h =
+    subst (λ (x : Fault). FeedsBy d handouts old new items bytes piece (Err x)) (sym is) h
 
 -- ---- what shows a refusal
 shown_by : (A B : Type 0) (n m : ℕ) (e : Fault) → n ≤ m → OfRefusal {A = B} (λ refusal. m < refusal.seen) (Err e)

@@ -12,7 +12,7 @@ use Rattle.gob_stream.specs.declared.fault.Fault.{Fault}
 use Rattle.gob_stream.specs.declared.fault.Fault.TheVariants as fault
 use Rattle.gob_handed.specs.Definition.{shape_nodes, shape_bytes}
 use Rattle.gob_handed.specs.Handed.{AreHanded, IsWithin, handout_nodes, handout_bytes}
-use Rattle.gob_handed.specs.Reading.{FeedsBy, Handouts, HasReadTo, Leading}
+use Rattle.gob_handed.specs.Reading.{FeedsBy, Handouts, HasReadTo}
 use Rattle.gob_handed.specs.Waiting.{begin_of, session_of, types_in, waiting}
 use Rattle.gob_handed.specs.declared.handout.Handout.{Handout}
 use Rattle.gob_handed.specs.declared.head.HandedOut.{HandedOut}
@@ -27,10 +27,10 @@ pub record IsNew {X I Told : Type 0} (d : Stepping X I Told) (limits : Bounds) (
   pub none_waits : waiting reader ≡ []
 
 -- it took the piece
-pub record Feeds {X I Told : Type 0} (d : Stepping X I Told) (handouts : Handouts I) (leading : Leading Told)
-    (old new : Reader X I) (piece : List ℕ) (answer : Result (Unit {0}) Fault) : Type 0 where
+pub record Feeds {X I Told : Type 0} (d : Stepping X I Told) (handouts : Handouts I) (old new : Reader X I)
+    (piece : List ℕ) (answer : Result (Unit {0}) Fault) : Type 0 where
   pub fed : (items : List Told) (bytes : List ℕ) → HasReadTo d old items bytes
-      → FeedsBy d handouts leading old new items bytes piece answer
+      → FeedsBy d handouts old new items bytes piece answer
   pub shown : (items : List Told) (bytes : List ℕ) → HasReadTo d old items bytes
       → OfRefusal (λ refusal. length bytes < refusal.seen) answer
   pub failed : OnErr answer (d.failed (session_of new))
@@ -38,7 +38,7 @@ pub record Feeds {X I Told : Type 0} (d : Stepping X I Told) (handouts : Handout
   pub limits : d.limits (session_of new) ≡ d.limits (session_of old)
 
 -- no byte follows
-pub record Finishes {X I Told : Type 0} (d : Stepping X I Told) (leading : Leading Told) (old new : Reader X I)
+pub record Finishes {X I Told : Type 0} (d : Stepping X I Told) (old new : Reader X I)
     (answer : Result (Unit {0}) Fault) : Type 0 where
   pub finished : (items : List Told) (bytes : List ℕ) (h : HasReadTo d old items bytes)
       → FinishAnswersBy d (d.behind (session_of old) items bytes h.gave) (session_of old) (session_of new) items bytes
@@ -46,8 +46,6 @@ pub record Finishes {X I Told : Type 0} (d : Stepping X I Told) (leading : Leadi
   pub whole : (items : List Told) (bytes : List ℕ) → HasReadTo d old items bytes → IfOk answer (λ _. new ≡ old)
   pub ended : (items : List Told) (bytes : List ℕ) → HasReadTo d old items bytes
       → OfRefusal (λ refusal. refusal.reason ≡ reason.Ended) answer
-  pub leads : (items : List Told) (bytes : List ℕ) → HasReadTo d old items bytes
-      → OfRefusal (λ _. leading (d.within (d.limits (session_of old))) bytes items (types_in d new)) answer
   pub failed : OnErr answer (d.failed (session_of new))
   pub stays : d.failed (session_of old) → (answer ≡ Err fault.Failed) × (new ≡ old)
   pub begin : begin_of new ≡ begin_of old

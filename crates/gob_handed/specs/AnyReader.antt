@@ -4,7 +4,7 @@ use Rattle.gob_tape.specs.Calls.Builder.{tape_building}
 use Rattle.gob_stream.specs.Stepping.{Stepping}
 use Rattle.gob_stream.specs.StrictStepping.{strict_stepping}
 use Rattle.gob_go.specs.GoStepping.{go_stepping}
-use Rattle.gob_handed.specs.Reading.{Handouts, Leading, exact_leading, go_leading}
+use Rattle.gob_handed.specs.Reading.{Handouts}
 use Rattle.gob_handed.specs.Unfolded.{exact_handouts, go_handouts}
 use Rattle.gob_handed.specs.declared.any_reader.AnyReader.{AnyReader}
 use Rattle.gob_handed.specs.declared.any_reader.AnyReader.TheVariants as any
@@ -15,7 +15,7 @@ abbrev pub OfReader : Type 1
 OfReader = (X I Told : Type 0) → Stepping X I Told → Handouts I → Reader X I → Type 0
 
 abbrev pub OfCall : Type 1
-OfCall = (X I Told : Type 0) → Stepping X I Told → Handouts I → Leading Told → (old new : Reader X I) → Type 0
+OfCall = (X I Told : Type 0) → Stepping X I Told → Handouts I → (old new : Reader X I) → Type 0
 
 -- this is so of the reader
 abbrev pub IsSo : AnyReader → OfReader → Type 0
@@ -31,9 +31,7 @@ IsExactly false (any.Go r) = Unit {0}
 
 -- it stays of its grammar, and this is so of what it was and is
 abbrev pub GoesSo : (old new : AnyReader) → OfCall → Type 0
-GoesSo (any.Exact r) (any.Exact s) P =
-    P _ _ _ (strict_stepping tape_building) exact_handouts
-    (exact_leading _ _ _ (strict_stepping tape_building)) r s
-GoesSo (any.Go r) (any.Go s) P = P _ _ _ go_stepping go_handouts (go_leading _ _ _ go_stepping) r s
+GoesSo (any.Exact r) (any.Exact s) P = P _ _ _ (strict_stepping tape_building) exact_handouts r s
+GoesSo (any.Go r) (any.Go s) P = P _ _ _ go_stepping go_handouts r s
 GoesSo (any.Exact r) (any.Go s) P = ⊥
 GoesSo (any.Go r) (any.Exact s) P = ⊥

@@ -1,7 +1,6 @@
 pub mod Puts
 pub mod Definition
 pub mod Handed
-pub mod Ids
 pub mod ValueNodes
 pub mod Unfolded
 pub mod Waiting

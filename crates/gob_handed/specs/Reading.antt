@@ -1,11 +1,11 @@
 -- What a reader has read, and what its calls answer, in any grammar of items. `handouts` says what is handed out of an
--- item, by the types behind it, and `leading` which types there are where bytes lead.
+-- item, by the types behind it.
 use Rattle.std.specs.Prelude.{◌≡◌, ℕ, ◌≤◌, List, [], ◌∷◌, ◌++◌, length, take, Result, Ok, Err}
 use Rattle.std.specs.Prelude.{Option, None, Some}
 use Rattle.gob_types.specs.Defined.{types}
 use Rattle.gob_types.specs.Table.{Table}
 use Rattle.gob_stream.specs.Bounds.{AreLimits, Bounds, deepest}
-use Rattle.gob_stream.specs.Grammar.{GivesIn, RefusesIn, StreamIn}
+use Rattle.gob_stream.specs.Grammar.{GivesIn, RefusesIn}
 use Rattle.gob_stream.specs.Stepping.{Stepping}
 use Rattle.gob_stream.specs.declared.fault.Fault.{Fault}
 use Rattle.gob_stream.specs.declared.fault.Fault.TheVariants as fault
@@ -18,26 +18,6 @@ use Rattle.gob_handed.specs.declared.handout.Handout.{Handout}
 -- what is handed out of an item, which stands there
 abbrev pub Handouts : Type 0 → Type 1
 Handouts I = Table → I → Span → List Handout → Type 0
-
--- these are the types where bytes lead behind items, within these limits
-abbrev pub Leading : Type 0 → Type 1
-Leading Told = Bounds → List ℕ → List Told → Table → Type 0
-
--- the bytes begin with the stream of the items, and these are the types behind it
-pub record HasTypesBehind {X I Told : Type 0} (d : Stepping X I Told) (L : Bounds) (bytes : List ℕ)
-    (items : List Told) (T : Table) : Type 0 where
-  pub prefix : List ℕ
-  pub rest : List ℕ
-  pub stream : StreamIn d.grammar L items prefix T
-  pub whole : bytes ≡ prefix ++ rest
-
--- in the documented format those behind the items, and no others
-abbrev pub exact_leading : (X I Told : Type 0) → Stepping X I Told → Leading Told
-exact_leading X I Told d L bytes items T = HasTypesBehind d L bytes items T
-
--- in all that Go's encoder writes those too that stand within the item under way
-abbrev pub go_leading : (X I Told : Type 0) → Stepping X I Told → Leading Told
-go_leading X I Told d L bytes items T = d.leads L bytes items T
 
 -- the first of the bytes, so many, are those of the items: a session that had read them was between two items, and
 -- these were its types
@@ -71,11 +51,11 @@ pub record HasReadTo {X I Told : Type 0} (d : Stepping X I Told) (r : Reader X I
   pub allowed : AreLimits deepest (d.limits (session_of r))
 
 -- the bytes are refused behind the items whatever follows, and these are the types where they lead
-pub record RefusesBehind {X I Told : Type 0} (d : Stepping X I Told) (leading : Leading Told) (L : Bounds)
-    (items : List Told) (bytes : List ℕ) (R : Refusal) (U : Table) : Type 0 where
+pub record RefusesBehind {X I Told : Type 0} (d : Stepping X I Told) (L : Bounds) (items : List Told)
+    (bytes : List ℕ) (R : Refusal) (U : Table) : Type 0 where
   pub table : Table
   pub refuses : (rest : List ℕ) → RefusesIn d.grammar (d.within L) table items (bytes ++ rest) R
-  pub leads : leading (d.within L) bytes items U
+  pub leads : d.leads (d.within L) bytes items U
 
 -- the first of the bytes give the items, and one more at most
 pub record GivesOfFirst {X I Told : Type 0} (d : Stepping X I Told) (L : Bounds) (items : List Told) (bytes : List ℕ)
@@ -89,14 +69,14 @@ pub record GivesOfFirst {X I Told : Type 0} (d : Stepping X I Told) (L : Bounds)
   pub gives : GivesIn d.grammar (d.within L) table (items ++ more) prefix
 
 -- how the reader stands behind all of the items and the bytes, where it answered so
-abbrev pub StandsSo : {X I Told : Type 0} → Stepping X I Told → Leading Told → (old new : Reader X I)
-    → (all : List Told) → (bytes : List ℕ) → Result (Unit {0}) Fault → Type 0
-StandsSo d leading old new all bytes (Ok _) = HasReadTo d new all bytes
-StandsSo d leading old new all bytes (Err (fault.Refused R)) =
-    RefusesBehind d leading (d.limits (session_of old)) all bytes R (types_in d new)
-StandsSo d leading old new all bytes (Err fault.Read) = ⊥
-StandsSo d leading old new all bytes (Err fault.Memory) = GivesOfFirst d (d.limits (session_of old)) all bytes
-StandsSo d leading old new all bytes (Err fault.Failed) = ⊥
+abbrev pub StandsSo : {X I Told : Type 0} → Stepping X I Told → (old new : Reader X I) → (all : List Told)
+    → (bytes : List ℕ) → Result (Unit {0}) Fault → Type 0
+StandsSo d old new all bytes (Ok _) = HasReadTo d new all bytes
+StandsSo d old new all bytes (Err (fault.Refused R)) =
+    RefusesBehind d (d.limits (session_of old)) all bytes R (types_in d new)
+StandsSo d old new all bytes (Err fault.Read) = ⊥
+StandsSo d old new all bytes (Err fault.Memory) = GivesOfFirst d (d.limits (session_of old)) all bytes
+StandsSo d old new all bytes (Err fault.Failed) = ⊥
 
 -- the items of these bytes wait behind what waited, and so the reader stands
 pub record GoesOn {X I Told : Type 0} (d : Stepping X I Told) (handouts : Handouts I) (old new : Reader X I)
@@ -108,18 +88,18 @@ pub record GoesOn {X I Told : Type 0} (d : Stepping X I Told) (handouts : Handou
   pub so : stands all
 
 -- what a piece is answered, fed to a reader that had read the items of the bytes
-abbrev pub FeedsBy : {X I Told : Type 0} → Stepping X I Told → Handouts I → Leading Told → (old new : Reader X I)
+abbrev pub FeedsBy : {X I Told : Type 0} → Stepping X I Told → Handouts I → (old new : Reader X I)
     → (items : List Told) → (bytes piece : List ℕ) → Result (Unit {0}) Fault → Type 0
-FeedsBy d handouts leading old new items bytes piece answer =
-    GoesOn d handouts old new items (bytes ++ piece) (λ all. StandsSo d leading old new all (bytes ++ piece) answer)
+FeedsBy d handouts old new items bytes piece answer =
+    GoesOn d handouts old new items (bytes ++ piece) (λ all. StandsSo d old new all (bytes ++ piece) answer)
 
 -- what a step is answered, which takes some of the piece
-abbrev pub StepsBy : {X I Told : Type 0} → Stepping X I Told → Handouts I → Leading Told → (old new : Reader X I)
+abbrev pub StepsBy : {X I Told : Type 0} → Stepping X I Told → Handouts I → (old new : Reader X I)
     → (items : List Told) → (bytes piece : List ℕ) → Result ℕ Fault → Type 0
-StepsBy d handouts leading old new items bytes piece (Ok used) =
+StepsBy d handouts old new items bytes piece (Ok used) =
     GoesOn d handouts old new items (bytes ++ take used piece) (λ all. HasReadTo d new all (bytes ++ take used piece))
-StepsBy d handouts leading old new items bytes piece (Err e) =
-    GoesOn d handouts old new items (bytes ++ piece) (λ all. StandsSo d leading old new all (bytes ++ piece) (Err e))
+StepsBy d handouts old new items bytes piece (Err e) =
+    GoesOn d handouts old new items (bytes ++ piece) (λ all. StandsSo d old new all (bytes ++ piece) (Err e))
 
 -- what is handed out of the item that ends there waits behind what waited
 pub record Keeps {X I Told : Type 0} (d : Stepping X I Told) (handouts : Handouts I) (old new : Reader X I)

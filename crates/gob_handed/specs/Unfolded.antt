@@ -17,7 +17,7 @@ use Rattle.gob_handed.specs.declared.handout.Handout.{Handout}
 use Rattle.gob_handed.specs.declared.handout.Content.{Content}
 use Rattle.gob_handed.specs.declared.handout.Content.TheVariants as content
 use Rattle.gob_handed.specs.Handed.{content_kind, content_nodes, content_bytes}
-use Rattle.gob_handed.specs.Ids.{inner_ids}
+use Rattle.gob_go.specs.Ids.{inner_ids}
 use Rattle.gob_handed.specs.ValueNodes.{AreNodesOf}
 
 -- what is given of the type by an item that stands there

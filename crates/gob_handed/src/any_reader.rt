@@ -38,8 +38,8 @@ impl AnyReader {
 
     /// As [`Reader::feed`].
     pub fn feed(&mut self, alloc: Global, piece: &[u8]) -> Result<(), Fault>
-        ensures { GoesSo self.old self.new (λ X I Told d handouts leading old new.
-            Feeds d handouts leading old new piece.now result) }
+        ensures { GoesSo self.old self.new (λ X I Told d handouts old new.
+            Feeds d handouts old new piece.now result) }
     {
         match self {
             AnyReader::Exact(reader) => reader.feed(alloc, piece),
@@ -49,7 +49,7 @@ impl AnyReader {
 
     /// As [`Reader::finish`].
     pub fn finish(&mut self) -> Result<(), Fault>
-        ensures { GoesSo self.old self.new (λ X I Told d handouts leading old new. Finishes d leading old new result) }
+        ensures { GoesSo self.old self.new (λ X I Told d handouts old new. Finishes d old new result) }
     {
         match self {
             AnyReader::Exact(reader) => reader.finish(),
@@ -69,7 +69,7 @@ impl AnyReader {
 
     /// As [`Reader::take`].
     pub fn take(&mut self, heads: &mut [Head], nodes: &mut [FlatNode], pool: &mut [u8]) -> HandedOut
-        ensures { GoesSo self.old self.new (λ X I Told d handouts leading old new. Takes d old new
+        ensures { GoesSo self.old self.new (λ X I Told d handouts old new. Takes d old new
             (record { heads = heads.old; nodes = nodes.old; pool = pool.old })
             (record { heads = heads.new; nodes = nodes.new; pool = pool.new }) result) }
     {

@@ -4,26 +4,15 @@ use crate::handout::{Content, Handout, Span, push_handout};
 use crate::hands::Hands;
 use gob_num::Memory;
 use gob_read::Builder;
-use gob_stream::{Fault, Item, Session, Step};
+use gob_stream::{Item, Session};
 use gob_tape::Tape;
 use gob_types::Table;
 use std::alloc::Global;
 
 impl<B: Builder<Out = Tape>> Hands for Session<B> {
-    ghost use Rattle.gob_handed.specs.Reading.{exact_leading};
     ghost use Rattle.gob_handed.specs.Unfolded.{handouts_by};
 
     ghost handouts = { handouts_by B.building.means };
-
-    ghost leads = { exact_leading };
-
-    fn advance(&mut self, alloc: Global, piece: &[u8]) -> Result<Step<Item<Tape>>, Fault> {
-        self.step(alloc, piece)
-    }
-
-    fn end(&mut self) -> Result<(), Fault> {
-        self.finish()
-    }
 
     fn unfold(
         _alloc: Global,

@@ -14,29 +14,16 @@ ghost use Rattle.gob_handed.specs.ValueNodes.{AreNodesOf};
 use crate::flat::{FlatValue, push_value};
 use crate::handout::{Content, Handout, Span, push_definitions, push_handout};
 use crate::hands::Hands;
-use crate::ids::push_inner;
-use gob_go::{Filled, GoItem, GoSession};
+use gob_go::{Filled, GoItem, GoSession, push_inner_ids};
 use gob_go_json::tape_of;
 use gob_num::Memory;
-use gob_stream::{Fault, Step};
 use gob_types::{Table, TypeId};
 use std::alloc::Global;
 
 impl Hands for GoSession {
-    ghost use Rattle.gob_handed.specs.Reading.{go_leading};
     ghost use Rattle.gob_handed.specs.Unfolded.{go_handouts};
 
     ghost handouts = { go_handouts };
-
-    ghost leads = { go_leading };
-
-    fn advance(&mut self, alloc: Global, piece: &[u8]) -> Result<Step<GoItem>, Fault> {
-        self.step(alloc, piece)
-    }
-
-    fn end(&mut self) -> Result<(), Fault> {
-        self.finish()
-    }
 
     fn unfold(
         alloc: Global,
@@ -90,7 +77,7 @@ fn push_put(
 {
     let content = content_of(alloc, table, id, value)?;
     let mut ids = Vec::new(alloc);
-    push_inner(value, &mut ids)?;
+    push_inner_ids(value, &mut ids)?;
     push_definitions(&ids, span, out)?;
     push_handout(id, span, content, out)
 }

@@ -29,7 +29,6 @@ mod handing;
 mod handout;
 mod hands;
 mod head;
-mod ids;
 mod place;
 mod reader;
 

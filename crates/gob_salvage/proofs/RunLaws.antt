@@ -1,7 +1,7 @@
 -- How the run ends.
 use Rattle.std.proofs.Common.{◌≡◌, ℕ, ◌≤◌, List, [], ◌++◌, length, Option, None, Some, Result, Ok, Err, arith, sym, ap}
 use Rattle.std.proofs.Common.{◌∙◌, refl, subst, append-nil, length-append}
-use Rattle.std.specs.Io.KnownBytes.{Appends, Consumes, IsAtEnd, Keeps}
+use Rattle.std.specs.Io.KnownBytes.{Consumes, IsAtEnd, Keeps}
 use Rattle.std.proofs.KnownBytes.{Appends-kept, Appends-nil}
 use Rattle.gob_stream.specs.Bounds.{Bounds}
 use Rattle.gob_tool.specs.declared.fault.ToolFault.{ToolFault}

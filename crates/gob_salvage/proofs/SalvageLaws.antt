@@ -1,17 +1,16 @@
 -- What is kept is a stream, and of a stream all is.
-use Rattle.std.proofs.Common.{◌≡◌, ℕ, ◌+◌, ◌<◌, ◌≤◌, List, [], ◌∷◌, ◌++◌, length, arith, refl, sym, ap, ◌∙◌, subst}
+use Rattle.std.proofs.Common.{◌≡◌, ℕ, ◌+◌, ◌<◌, ◌≤◌, List, [], ◌++◌, length, arith, refl, sym, ap, ◌∙◌, subst}
 use Rattle.std.proofs.Common.{append_assoc, length-append}
-use Rattle.std.proofs.lemmas.List.{append-nil}
 use Rattle.gob_num.proofs.PublicLaws.{unsigned_length}
 use Rattle.gob_types.specs.Base.{base_table}
 use Rattle.gob_types.specs.Table.{Table}
 use Rattle.gob_read.proofs.Grammar.Prefixes.{same_end}
 use Rattle.gob_stream.specs.Bounds.{Bounds}
 use Rattle.gob_filled.specs.Stream.{FilledItem, IsFilledItem, of_definition, of_value, AreCounted, last_counted}
-use Rattle.gob_filled.specs.Stream.{next_counted, AreFilledItems, no_more, and_then, FilledStream}
+use Rattle.gob_filled.specs.Stream.{next_counted, AreFilledItems, no_more, and_then}
 use Rattle.gob_filled.proofs.Items.{one_filled_item}
 use Rattle.gob_salvage.specs.declared.gap.Gap.{Gap}
-use Rattle.gob_salvage.specs.Salvage.{Salvages, nothing_is_left, keeps, leaves_out, NoItemNext}
+use Rattle.gob_salvage.specs.Salvage.{Salvages, nothing_is_left, keeps, leaves_out}
 use Rattle.gob_salvage.specs.Laws.{KeepsAtLeast}
 
 -- an item has bytes

@@ -1,5 +1,5 @@
 -- What taking one item comes to, step by step.
-use Rattle.std.proofs.Common.{◌≡◌, ℕ, ◌+◌, ◌-◌, ◌<◌, ◌≤◌, List, [], ◌∷◌, ◌++◌, length, take, drop, Option, Some, None}
+use Rattle.std.proofs.Common.{◌≡◌, ℕ, ◌+◌, ◌<◌, ◌≤◌, List, [], ◌∷◌, ◌++◌, length, take, drop, Option, Some, None}
 use Rattle.std.proofs.Common.{Result, Ok, Err, arith, refl, sym, ap, ◌∙◌, subst}
 use Rattle.std.proofs.Common.{append_assoc, length-append, length-drop}
 use Rattle.std.proofs.Math.Seq.{take-add}
@@ -9,7 +9,7 @@ use Rattle.gob_types.specs.Table.{Table}
 use Rattle.gob_stream.specs.declared.fault.Fault.{Fault}
 use Rattle.gob_stream.specs.declared.fault.Fault.TheVariants as fault
 use Rattle.gob_stream.specs.declared.fault.Refusal.{Refusal}
-use Rattle.gob_stream.specs.Bounds.{Bounds, within_trees}
+use Rattle.gob_stream.specs.Bounds.{within_trees}
 use Rattle.gob_stream.specs.Honest.{OfRefusal}
 use Rattle.gob_filled.specs.Outcome.{FilledOutcome, refused}
 use Rattle.gob_filled.specs.Stream.{FilledItem, FilledStream}

@@ -1,8 +1,8 @@
 -- What is kept of bytes in which some are damaged: items that stand whole one behind another, under the definitions of
 -- those before them. Other bytes are left out, and only from a place on where no item stands that continues what was
--- kept.
--- (docs/FORMAT.md, What is kept of damaged bytes: this project's own.)
-use Rattle.std.specs.Prelude.{◌≡◌, ◌≢◌, ℕ, ◌+◌, ◌-◌, ◌<◌, ◌≤◌, List, [], ◌∷◌, ◌++◌, length}
+-- kept. (docs/FORMAT.md, What is kept of damaged bytes: this project's own.)
+use Rattle.std.specs.Prelude.{◌≡◌, ◌≢◌, ℕ, ◌+◌, ◌-◌, ◌<◌, ◌≤◌, List, [], ◌∷◌, ◌++◌, length, Bool, not}
+use Rattle.std.specs.List.{list_any, sum_by}
 use Rattle.gob_types.specs.Base.{base_table}
 use Rattle.gob_types.specs.Table.{Table}
 use Rattle.gob_types.specs.declared.reason.Reason.TheVariants as reason
@@ -56,3 +56,16 @@ pub record IsSalvage (L : Bounds) (bytes : List ℕ) (count : ℕ) (out : List �
   pub table : Table
   pub salvages : Salvages L base_table 0 0 bytes items out gaps table
   pub counted : count ≡ length items
+
+-- ---- what is told of the gaps
+-- how many bytes one leaves out
+abbrev pub gap_length : Gap → ℕ
+gap_length g = g.end - g.begin
+
+-- how many all of them do
+abbrev pub left_out : List Gap → ℕ
+left_out gaps = sum_by gap_length gaps
+
+-- whether one is more than a definition that is kept already
+abbrev pub is_damaged : List Gap → Bool
+is_damaged gaps = list_any (λ g. not g.is_repeated) gaps

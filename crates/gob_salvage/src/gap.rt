@@ -1,5 +1,8 @@
 //! What is left out.
 
+ghost use Rattle.std.specs.Prelude.{◌≡◌};
+ghost use Rattle.gob_salvage.specs.Salvage.{gap_length};
+
 use gob_types::Reason;
 
 /// Bytes that are left out. Offsets are those of the bytes that were given, from 0.
@@ -19,7 +22,9 @@ pub struct Gap {
 
 impl Gap {
     /// How many bytes they are.
-    pub fn length(&self) -> u64 {
+    pub fn length(&self) -> u64
+        ensures { result ≡ gap_length self.now }
+    {
         self.end.saturating_sub(self.begin)
     }
 }

@@ -29,17 +29,24 @@ pub struct Salvaged {
 }
 
 impl Salvaged {
-    /// How many bytes are left out.
-    pub fn left_out(&self) -> u64 {
+    ghost use Rattle.std.specs.Prelude.{◌≡◌, ◌-◌, min};
+    ghost use Rattle.gob_salvage.specs.Salvage.{is_damaged, left_out};
+
+    /// How many bytes are left out, as many as a `u64` can say.
+    pub fn left_out(&self) -> u64
+        ensures { result ≡ min (left_out self.now.gaps.items) (2 ^ 64 - 1) }
+    {
         let mut bytes = 0u64;
-        for gap in &self.gaps {
+        'gaps: for gap in &self.gaps {
             bytes = bytes.saturating_add(gap.length());
         }
         bytes
     }
 
     /// Whether anything is left out but definitions that are kept already.
-    pub fn is_damaged(&self) -> bool {
+    pub fn is_damaged(&self) -> bool
+        ensures { result ≡ is_damaged self.now.gaps.items }
+    {
         self.gaps.iter().any(|gap| !gap.is_repeated)
     }
 }

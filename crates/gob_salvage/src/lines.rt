@@ -9,8 +9,7 @@ use std::alloc::{AllocError, Global};
 const TOLD: usize = 20;
 
 /// The lines that tell what was left out, of the first twenty gaps and how many more there are, and at last how much
-/// was
-/// kept: all but the last line feed.
+/// was kept: all but the last line feed.
 pub fn report(alloc: Global, kept: &Salvaged) -> Result<String, AllocError> {
     let mut text = String::new(alloc);
     for gap in kept.gaps.iter().take(TOLD) {

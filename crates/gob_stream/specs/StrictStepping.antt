@@ -6,6 +6,7 @@ use Rattle.gob_stream.specs.Calls.Session.{HasFailed, HasRead, IsBetweenItems, l
 use Rattle.gob_stream.specs.Item.{StreamItem, ItemMeans}
 use Rattle.gob_stream.specs.Machine.SessionState.{SessionState}
 use Rattle.gob_stream.specs.Outcome.{strict}
+use Rattle.gob_stream.specs.Reading.{HasTypesBehind}
 use Rattle.gob_stream.specs.Stepping.{Stepping}
 use Rattle.gob_stream.specs.declared.item.Item as declared
 
@@ -25,5 +26,5 @@ strict_stepping {most = most} building = record {
   behind = λ s items bytes h. types_of s;
   means = λ T given i. ItemMeans building.means given i;
   told = λ i. i;
-  leads = λ L bytes items T. Unit {0};
+  leads = λ L bytes items T. HasTypesBehind L bytes items T;
 }

@@ -21,6 +21,7 @@ pub trait Steps: Drop {
     ghost use Rattle.gob_stream.specs.Grammar.{GivesIn};
     ghost use Rattle.gob_stream.specs.Honest.{OfRefusal};
     ghost use Rattle.gob_types.specs.Base.{base_table};
+    ghost use Rattle.gob_types.specs.declared.reason.Reason.TheVariants as reason;
 
     /// An item, as it is handed out.
     type Item: Drop;
@@ -56,13 +57,15 @@ pub trait Steps: Drop {
         ensures unread { IfErr result (λ fault. fault ≢ Fault.Read) }
         ensures limits { stepping.limits self.new ≡ stepping.limits self.old };
 
-    /// Says that no byte follows. Ok exactly between two items, and then nothing has changed. After a fault it answers
-    /// [`Fault::Failed`].
+    /// Says that no byte follows. Ok exactly between two items, and then nothing has changed, else the refusal `Ended`.
+    /// After a fault it answers [`Fault::Failed`].
     fn finish(&mut self) -> Result<(), Fault>
         ensures finished { (items : List Told) (bytes : List ℕ) (h : stepping.read self.old items bytes)
             → FinishAnswersBy stepping (stepping.behind self.old items bytes h) self.old self.new items bytes result }
         ensures whole { (items : List Told) (bytes : List ℕ) → stepping.read self.old items bytes
             → IfOk result (λ _. self.new ≡ self.old) }
+        ensures ended { (items : List Told) (bytes : List ℕ) → stepping.read self.old items bytes
+            → OfRefusal (λ refusal. refusal.reason ≡ reason.Ended) result }
         ensures failed { OnErr result (stepping.failed self.new) }
         ensures unread { IfErr result (λ fault. fault ≢ Fault.Read) }
         ensures types { stepping.table self.new ≡ stepping.table self.old }

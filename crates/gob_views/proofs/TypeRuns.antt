@@ -21,6 +21,7 @@ use Rattle.gob_filled.specs.Outcome.{FilledOutcome, refused}
 use Rattle.gob_filled.specs.Stream.{FilledItem, FilledStream}
 use Rattle.gob_go.specs.Calls.Reader.{EndsWith, HasReadFrom, KnowsTypes, PassesFrom, StepsOnFrom, StopsFrom, session_of}
 use Rattle.gob_go.specs.Calls.Session.{IsBetweenItems, limits_of, taken_of, types_of}
+use Rattle.gob_go.specs.Ids.{defined_ids}
 use Rattle.gob_go.specs.Reading.{LeadsBehind}
 use Rattle.gob_go.specs.Calls.Reader.{GoReader}
 use Rattle.gob_stream.specs.declared.session.Step.{Step}
@@ -35,7 +36,7 @@ use Rattle.gob_go_tool.specs.RunningGo.{BeginsGo, EndsWholeGo, IsRefusedGo}
 use Rattle.gob_views.specs.Machine.Gathered.{GathersAll, GathersNext, GathersSo, GathersUpTo, GathersWhole, IdsGiven}
 use Rattle.gob_views.specs.Machine.Gathered.{StopsGathering}
 use Rattle.gob_views.specs.Sending.{SendsText}
-use Rattle.gob_views.specs.Types.{OfSource, TypesAnswers, defined_ids}
+use Rattle.gob_views.specs.Types.{OfSource, TypesAnswers}
 use Rattle.gob_views.proofs.IdLaws.{defined_append, ids_given, none_defined_in}
 
 -- ---- from item to item

@@ -1,45 +1,19 @@
 -- What the run that writes the types of a stream answers, and what it has written then. (docs/FORMAT.md, Types as
 -- source; The program: this project's own.)
-use Rattle.std.specs.Prelude.{ℕ, List, [], ◌∷◌, ◌++◌, Option, Result, Ok, Err}
+use Rattle.std.specs.Prelude.{ℕ, List, [], Option, Result, Ok, Err}
 use Rattle.std.specs.Io.KnownBytes.{Appends}
-use Rattle.gob_types.specs.declared.id.TypeId.{TypeId}
 use Rattle.gob_types.specs.Table.{Table}
 use Rattle.gob_source.specs.Source.{go_source}
 use Rattle.gob_stream.specs.Bounds.{Bounds}
 use Rattle.gob_stream.specs.Reading.{SomeTaken}
-use Rattle.gob_filled.specs.Filled.{Definitions, no_definitions, definition, Filled, filled, Fillings, no_filling}
-use Rattle.gob_filled.specs.Filled.{filling}
-use Rattle.gob_filled.specs.Stream.{FilledItem, defining, putting}
+use Rattle.gob_filled.specs.Stream.{FilledItem}
+use Rattle.gob_go.specs.Ids.{defined_ids}
 use Rattle.gob_go.specs.Reading.{LeadsBehind}
 use Rattle.gob_tool.specs.declared.fault.ToolFault.{ToolFault}
 use Rattle.gob_tool.specs.declared.fault.ToolFault.TheVariants as fault
 use Rattle.gob_tool.specs.Showing.{AppendsPrefix}
 use Rattle.gob_go_tool.specs.RunningGo.{BeginsGo, EndsWholeGo, IsRefusedGo}
 
--- ---- the types that are defined, in the order of the stream
-abbrev pub definition_ids : Definitions → List TypeId
-definition_ids no_definitions = []
-definition_ids (definition id v ds) = id ∷ definition_ids ds
-
-abbrev mutual
-  -- those of the definitions that a value holds
-  pub inner_ids : Filled → List TypeId
-  inner_ids (filled v fs) = filling_ids fs
-
-  -- those of a filling, in front of those of the value that it holds, filling by filling
-  pub filling_ids : Fillings → List TypeId
-  filling_ids no_filling = []
-  filling_ids (filling place name ds u w fs) = definition_ids ds ++ (inner_ids w ++ filling_ids fs)
-
-abbrev pub item_ids : FilledItem → List TypeId
-item_ids (defining id v) = id ∷ []
-item_ids (putting id w) = inner_ids w
-
-abbrev pub defined_ids : List FilledItem → List TypeId
-defined_ids [] = []
-defined_ids (i ∷ items) = item_ids i ++ defined_ids items
-
--- ---- how the run ends
 -- this holds of the Go source of the types that the items define, by all types where those bytes lead that were read
 pub record OfSource (L : Bounds) (bytes : List ℕ) (now : Option (List ℕ)) (P : List ℕ → Type 0)
     (items : List FilledItem) : Type 0 where

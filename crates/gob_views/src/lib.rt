@@ -14,7 +14,6 @@
 //! `gob_why` and `gob_salvage`.
 #![tactic(auto)]
 
-mod ids;
 mod run;
 mod types;
 mod values;

@@ -14,8 +14,7 @@ ghost use Rattle.gob_views.specs.Machine.Gathered.{GathersAll, GathersNext, Gath
 ghost use Rattle.gob_views.specs.Sending.{SendsText};
 ghost use Rattle.gob_views.specs.Types.{TypesAnswers};
 
-use crate::ids::push_ids;
-use gob_go::{GoItem, GoReader};
+use gob_go::{GoItem, GoReader, push_ids};
 use gob_num::Memory;
 use gob_source::source_of;
 use gob_stream::{Fault, Input, Limits, Output};

@@ -1,6 +1,7 @@
 //! What the words of the command line ask to be shown to people and to other programs, beside the orders.
 
-ghost use Rattle.std.specs.Prelude.{◌≡◌, ◌≢◌, ℕ, Option, IfOk, MatchBool, MatchOption, MatchResult, map, string_bytes};
+ghost use Rattle.std.specs.Prelude.{◌≡◌, ◌≢◌, ◌⊎◌, ℕ, Option, IfOk, MatchBool, MatchOption, MatchResult, map};
+ghost use Rattle.std.specs.Prelude.{string_bytes};
 ghost use Rattle.clap.specs.Words.{subcommand_rows_of};
 ghost use Rattle.gob_words.specs.declared.view.View.{View};
 ghost use Rattle.gob_words.specs.declared.view.ViewCommand.{ViewCommand};
@@ -8,7 +9,7 @@ ghost use Rattle.gob_words.specs.Escaped.{IsUnobeyed};
 ghost use Rattle.gob_words.specs.Views.{AsksToView, IsFileOf, IsViewFaultOf, IsViewOf, RefusesToView, view_name};
 ghost use Rattle.gob_words.specs.Views.{IsAskedFor, IsFaultFlagOf, IsFlagOf, IsHoistFlagOf, IsPlaceIn, IsPlaceOf};
 ghost use Rattle.gob_words.specs.Views.{IsVersionView, IsWordAtFault};
-ghost use Rattle.gob_words.specs.Words.{text_of};
+ghost use Rattle.gob_words.specs.Words.{HasNoFault, text_of};
 
 use crate::command_line::program;
 use crate::decimal::number_of;
@@ -22,10 +23,13 @@ use std::alloc::{AllocError, Global};
 use std::fmt::Display;
 
 /// What the words ask to be shown, the program's name first. Words that [`crate::order_of`] takes ask for none of it.
-/// The words `help`, `-h` and `--help` are answered with [`OrderFault::Help`], as they are there.
+/// The words `help`, `-h` and `--help` are answered with [`OrderFault::Help`], as they are there. No other words in
+/// which clap finds a fault ask for anything, but for the option that asks for the version.
 pub fn view_of<'a>(alloc: Global, words: &'a [&'a str]) -> Result<View<'a>, ViewFault>
-    ensures { MatchResult result (AsksToView (map (λ word. word.now) words.entry.now))
+    ensures view { MatchResult result (AsksToView (map (λ word. word.now) words.entry.now))
         (RefusesToView (map (λ word. word.now) words.entry.now)) }
+    ensures accepted { IfOk result (λ view. HasNoFault (map (λ word. word.now) words.entry.now)
+        ⊎ IsVersionView view) }
 {
     match program(alloc)?.try_get_matches_from(words) {
         Ok(matches) => match view_in(&matches) {

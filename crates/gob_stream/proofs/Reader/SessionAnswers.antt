@@ -1,22 +1,24 @@
 -- What the session of the format answers, in the words of any session.
 use Rattle.std.proofs.Common.{◌≡◌, ◌<◌, ℕ, List, [], ◌∷◌, ◌++◌, length, Option, Ok, Err, Result, ◌∙◌, ap, sym}
 use Rattle.std.proofs.Common.{subst, refl, append-nil, append_assoc, arith, take, length-append, None, Some, IfOk, IfSome}
-use Rattle.std.proofs.Common.{Bool, true, false, IsTrue, MatchBool}
+use Rattle.std.proofs.Common.{Bool, true, false, IsTrue, MatchBool, OnErr}
 use Rattle.std.proofs.lemmas.List.{take-append-le, length-take-le}
 use Rattle.gob_types.specs.Base.{base_table}
+use Rattle.gob_types.specs.Defined.{types}
+use Rattle.gob_types.specs.declared.reason.Reason.TheVariants as reason
 use Rattle.gob_read.specs.Building.{Building}
 use Rattle.gob_stream.specs.Bounds.{Bounds, no_deeper}
 use Rattle.gob_stream.specs.Calls.Session.{FinishAnswers, HasBegunNext, HasFailed, HasItemNext, HasRead}
 use Rattle.gob_stream.specs.Calls.Session.{IsBetweenItems, ReadsItems}
 use Rattle.gob_stream.specs.Calls.Session.{ReadsOn, StepAnswers}
-use Rattle.gob_stream.specs.Calls.Session.{limits_of, types_of}
+use Rattle.gob_stream.specs.Calls.Session.{limits_of, table_of, types_of}
 use Rattle.gob_stream.specs.Item.{StreamItem, ItemMeans}
 use Rattle.gob_stream.specs.Machine.ReadParts.{AdvancesOver, over_some, over_item}
 use Rattle.gob_stream.specs.Machine.SessionState.{SessionState}
 use Rattle.gob_stream.specs.Grammar.{GivesIn}
 use Rattle.gob_stream.specs.Honest.{OfRefusal}
 use Rattle.gob_stream.specs.Outcome.{BeginsWithStream, EndsSo, the_end, at_the_end, strict}
-use Rattle.gob_stream.specs.Reading.{ShowsRefusal}
+use Rattle.gob_stream.specs.Reading.{HasTypesBehind, ShowsRefusal}
 use Rattle.gob_stream.specs.Stepping.{AdvancesBy, FinishAnswersBy, GivesAllBy, GivesNoMoreBy, HasItemNextBy}
 use Rattle.gob_stream.specs.Stepping.{ReadsItemsBy, ReadsOnBy, StandsBy}
 use Rattle.gob_stream.specs.Stepping.{StepAnswersBy, GivesItemsOf, gives_none, gives_one}
@@ -131,13 +133,26 @@ module _ {X O : Type 0} {most : ℕ} (building : Building X O most) where
     );
   }
 
+  -- where the types stay, they are those behind the items
+  types_stand : (s s' : SessionState X O) (items : List StreamItem) (bytes more : List ℕ) → table_of s' ≡ table_of s
+      → HasRead building s items bytes
+      → HasTypesBehind (no_deeper most (limits_of s)) (bytes ++ more) items (types_of s')
+  types_stand s s' items bytes more same h =
+      subst (λ T. HasTypesBehind (no_deeper most (limits_of s)) (bytes ++ more) items T)
+      (sym (ap (λ d. types d) same)) (record {
+        prefix = h.prefix;
+        rest = h.under_way ++ more;
+        stream = h.stream;
+        whole = ap (λ l. l ++ more) h.whole ∙ append_assoc h.prefix h.under_way more;
+      })
+
   -- a step
   pub steps : (s s' : SessionState X O) (items : List StreamItem) (bytes piece : List ℕ)
       (result : Result (Step (declared.Item O)) Fault) → HasRead building s items bytes
-      → StepAnswers building s s' items bytes piece result
+      → OnErr result (table_of s' ≡ table_of s) → StepAnswers building s s' items bytes piece result
       → StepAnswersBy (strict_stepping building) (types_of s) s s' items bytes piece result
-  steps s s' items bytes piece (Ok step) h a = advances step h refl a
-  steps s s' items bytes piece (Err (fault.Refused R)) h f = (
+  steps s s' items bytes piece (Ok step) h same a = advances step h refl a
+  steps s s' items bytes piece (Err (fault.Refused R)) h same f = (
     λ rest.
         let o = (shown_more rest f.0).outcome in
         record {
@@ -145,11 +160,11 @@ module _ {X O : Type 0} {most : ℕ} (building : Building X O most) where
           table = table_is s items bytes ((bytes ++ piece) ++ rest) (piece ++ rest)
               (append_assoc bytes piece rest) h o.gives.begins;
         },
-    tt,
+    types_stand s s' items bytes piece same h,
   )
-  steps s s' items bytes piece (Err fault.Read) h f = absurd f
-  steps s s' items bytes piece (Err fault.Memory) h f = gives_all s items bytes h
-  steps s s' items bytes piece (Err fault.Failed) h f = absurd f
+  steps s s' items bytes piece (Err fault.Read) h same f = absurd f
+  steps s s' items bytes piece (Err fault.Memory) h same f = gives_all s items bytes h
+  steps s s' items bytes piece (Err fault.Failed) h same f = absurd f
 
   -- what it refuses is shown by bytes of the piece
   pub step_shows : (s s' : SessionState X O) (items : List StreamItem) (bytes piece : List ℕ)
@@ -167,10 +182,18 @@ module _ {X O : Type 0} {most : ℕ} (building : Building X O most) where
   end_stays s s' items bytes (Ok u) a = a.1
   end_stays s s' items bytes (Err e) a = tt
 
+  pub end_reason : (s s' : SessionState X O) (items : List StreamItem) (bytes : List ℕ) (r : Result (Unit {0}) Fault)
+      → FinishAnswers building s s' items bytes r → OfRefusal (λ R. R.reason ≡ reason.Ended) r
+  end_reason s s' items bytes (Ok u) a = tt
+  end_reason s s' items bytes (Err (fault.Refused R)) a = a.1
+  end_reason s s' items bytes (Err fault.Read) a = tt
+  end_reason s s' items bytes (Err fault.Memory) a = tt
+  end_reason s s' items bytes (Err fault.Failed) a = tt
+
   pub finishes : (s s' : SessionState X O) (items : List StreamItem) (bytes : List ℕ) (r : Result (Unit {0}) Fault)
-      → HasRead building s items bytes → FinishAnswers building s s' items bytes r
+      → table_of s' ≡ table_of s → HasRead building s items bytes → FinishAnswers building s s' items bytes r
       → FinishAnswersBy (strict_stepping building) (types_of s) s s' items bytes r
-  finishes s s' items bytes (Ok u) a f = (whole f.0.ends, a.taken)
+  finishes s s' items bytes (Ok u) same a f = (whole f.0.ends, a.taken)
     where
       whole : EndsSo base_table (no_deeper most (limits_of s)) bytes items the_end
           → Stream base_table (no_deeper most (limits_of s)) items bytes (types_of s)
@@ -178,16 +201,17 @@ module _ {X O : Type 0} {most : ℕ} (building : Building X O most) where
           subst (λ U. Stream base_table (no_deeper most (limits_of s)) items bytes U)
           (table_is s items bytes bytes [] (sym (append-nil bytes)) a
           (record { prefix = bytes; rest = []; table = T; stream = p; whole = sym (append-nil bytes) })) p
-  finishes s s' items bytes (Err (fault.Refused R)) a f = (
+  finishes s s' items bytes (Err (fault.Refused R)) same a f = (
     record {
       outcome = f.0;
       table = table_is s items bytes bytes [] (sym (append-nil bytes)) a f.0.gives.begins;
     },
-    tt,
+    subst (λ b. HasTypesBehind (no_deeper most (limits_of s)) b items (types_of s')) (append-nil bytes)
+        (types_stand s s' items bytes [] same a),
   )
-  finishes s s' items bytes (Err fault.Read) a f = f
-  finishes s s' items bytes (Err fault.Memory) a f = f
-  finishes s s' items bytes (Err fault.Failed) a f = f
+  finishes s s' items bytes (Err fault.Read) same a f = f
+  finishes s s' items bytes (Err fault.Memory) same a f = f
+  finishes s s' items bytes (Err fault.Failed) same a f = f
 
   -- past one item
   pub item_next : (s : SessionState X O) {z : List ℕ} → HasItemNextBy (strict_stepping building) s z

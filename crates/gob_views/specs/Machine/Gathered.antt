@@ -16,7 +16,7 @@ use Rattle.gob_go.specs.Meaning.{ItemMeans}
 use Rattle.gob_go.specs.Reading.{LeadsBehind}
 use Rattle.gob_go.specs.declared.item.GoItem.{GoItem}
 use Rattle.gob_go.specs.Calls.Reader.{GoReader}
-use Rattle.gob_views.specs.Types.{defined_ids, item_ids}
+use Rattle.gob_go.specs.Ids.{defined_ids, item_ids}
 
 -- the ids of what is defined by what a step gave stand behind the old ones
 abbrev pub IdsGiven : Option GoItem → (old new : List TypeId) → Type 0

@@ -5,7 +5,8 @@ use Rattle.gob_stream.proofs.FaultSteps.{passed}
 use Rattle.gob_filled.specs.Filled.{cut}
 use Rattle.gob_go_writer.proofs.LetterLaws.{takes_then, takes_none}
 use Rattle.gob_go_writer.proofs.PartSteps.{definitions_from, first_definition, going_begins, going_on, going_ends}
-use Rattle.gob_go_writer.proofs.PartSteps.{item_left, no_definition_left}
+use Rattle.gob_go.proofs.IdLaws.{item_left}
+use Rattle.gob_go_writer.proofs.PartSteps.{no_definition_left}
 use Rattle.gob_go_writer.proofs.value.put_definitions.Goals as goal
 
 pub loop-definition-init : goal.loop-definition-init

@@ -2,7 +2,7 @@ use Rattle.std.proofs.Common.{arith, ◌+◌, ◌<◌, ◌∷◌, drop, get_or, 
 use Rattle.std.proofs.lemmas.List.{drop_all, get_or_default}
 use Rattle.std.proofs.lemmas.Result.{on_ok_weaker}
 use Rattle.gob_types.specs.Defined.{types}
-use Rattle.gob_handed.proofs.IdLaws.{item_left}
+use Rattle.gob_go.proofs.IdLaws.{item_left}
 use Rattle.gob_handed.proofs.FillingLaws.{AreLeft, one_put, all_put, value_put, held_put}
 use Rattle.gob_handed.proofs.flat.+flat.Goals as goal
 

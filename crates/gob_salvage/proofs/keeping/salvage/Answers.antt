@@ -1,4 +1,4 @@
-use Rattle.std.proofs.Common.{◌-◌, ◌<◌, arith, length}
+use Rattle.std.proofs.Common.{arith}
 use Rattle.gob_stream.specs.Bounds.{within_trees}
 use Rattle.gob_salvage.proofs.KeepingSteps.{keep_end}
 use Rattle.gob_salvage.proofs.keeping.salvage.Goals as goal

@@ -1,6 +1,5 @@
-use Rattle.std.proofs.Common.{◌∙◌, ◌≡◌, ℕ, List, Some, ap, refl, subst, sym}
+use Rattle.std.proofs.Common.{◌∙◌, ℕ, List, refl, subst, sym}
 use Rattle.std.specs.Io.KnownBytes.{Appends}
-use Rattle.std.proofs.KnownBytes.{Appends-nil}
 use Rattle.gob_stream.specs.Bounds.{within_trees}
 use Rattle.gob_stream.specs.Calls.Ends.{failed_reads, failed_writes, reader_of, writer_of}
 use Rattle.gob_stream.specs.Calls.Waiting.{waiting}
@@ -9,9 +8,8 @@ use Rattle.gob_stream.specs.Calls.Writing.{SentPrefix}
 use Rattle.gob_tool.specs.Ending.{CountsOnlyWrites}
 use Rattle.gob_tool.specs.Showing.{CountsReadFaults}
 use Rattle.gob_tool.specs.Fault.{writing_fault}
-use Rattle.gob_tool.specs.declared.fault.ToolFault.TheVariants as fault
 use Rattle.gob_tool.proofs.EndLaws.{at_error, sent_prefix}
-use Rattle.gob_salvage.specs.Running.{IsOf, SalvageAnswers, SendsSome}
+use Rattle.gob_salvage.specs.Running.{IsOf, SalvageAnswers}
 use Rattle.gob_salvage.proofs.RunLaws.{reading_reads, reading_writes, unread, whole_read}
 use Rattle.gob_salvage.proofs.run.send_kept.Goals as goal
 

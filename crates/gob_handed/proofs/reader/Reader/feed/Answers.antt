@@ -25,7 +25,7 @@ steps-preserved g c =
     ≡ drop n rest = ap (λ (k : ℕ). take k (drop n rest)) (sym (length-drop n rest)) ∙ take-length (drop n rest) in (
       λ items bytes h.
           let u = c.steps.invariant.0 items bytes h in
-          up_to d (g.S.Hands.leads _ _ _ d) n bytes c.args.piece.now rest (take (length rest - n) (drop n rest)) later u
+          up_to d n bytes c.args.piece.now rest (take (length rest - n) (drop n rest)) later u
           (c.in_ok-used.ensures.stepped u.goes.all (bytes ++ u.prefix) u.goes.so),
       c.in_ok-used.ensures.limits ∙ c.steps.invariant.1,
     )
@@ -44,8 +44,8 @@ returns-in_err-used-clause-fed g c = λ items bytes h.
     let d = g.S.Steps.stepping in
     let e = c.in_err-used.field-0.0 in
     let u = c.steps.invariant.0 items bytes h in
-    feeds_at d (g.S.Hands.leads _ _ _ d) bytes c.args.piece.now c.from_residual.result e c.from_residual.ensures.1
-    (stops_piece d (g.S.Hands.leads _ _ _ d) bytes c.args.piece.now c.steps.rest.now e c.steps.invariant.1 u
+    feeds_at d bytes c.args.piece.now c.from_residual.result e c.from_residual.ensures.1
+    (stops_piece d bytes c.args.piece.now c.steps.rest.now e c.steps.invariant.1 u
     (c.in_err-used.ensures.stepped u.goes.all (bytes ++ u.prefix) u.goes.so))
 
 pub returns-in_err-used-clause-shown : goal.returns-in_err-used-clause-shown

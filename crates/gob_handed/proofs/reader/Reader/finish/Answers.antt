@@ -8,18 +8,15 @@ returns-then-has_failed-clause-finished g c = λ items bytes h.
     absurd (c.if-has_failed.ensures.unread refl items bytes h.gave)
 
 pub returns-clause-finished : goal.returns-clause-finished
-returns-clause-finished g c = λ items bytes h. c.end.ensures.finished items bytes h.gave
+returns-clause-finished g c = λ items bytes h. c.finish.ensures.finished items bytes h.gave
 
 pub returns-clause-whole : goal.returns-clause-whole
 returns-clause-whole g c = λ items bytes h.
-    IfOk-weaker c.end.result (λ _. c.end.new.self ≡ c.args.self.now.session) _
-    (λ _ same. with_session c.args.self.now same) (c.end.ensures.whole items bytes h.gave)
+    IfOk-weaker c.finish.result (λ _. c.finish.new.self ≡ c.args.self.now.session) _
+    (λ _ same. with_session c.args.self.now same) (c.finish.ensures.whole items bytes h.gave)
 
 pub returns-clause-ended : goal.returns-clause-ended
-returns-clause-ended g c = λ items bytes h. c.end.ensures.ended items bytes h.gave
-
-pub returns-clause-leads : goal.returns-clause-leads
-returns-clause-leads g c = λ items bytes h. c.end.ensures.leads items bytes h.gave
+returns-clause-ended g c = λ items bytes h. c.finish.ensures.ended items bytes h.gave
 
 pub returns-clause-stays : goal.returns-clause-stays
 returns-clause-stays g c = λ f. absurd (c.if-has_failed.ensures.failed f)

@@ -7,10 +7,9 @@ pub returns-in_err-step-clause-stepped : goal.returns-in_err-step-clause-stepped
 returns-in_err-step-clause-stepped g c = λ items bytes h.
     let d = g.S.Steps.stepping in
     let e = c.in_err-step.field-0.0 in
-    steps_at d (g.S.Hands.leads _ _ _ d) bytes c.args.piece.now c.from_residual.result e c.from_residual.ensures.1
-    (steps_ill d (g.S.Hands.leads _ _ _ d) (d.behind c.args.self.now.session items bytes h.gave) bytes c.args.piece.now
-    e
-    (c.in_err-step.ensures.stepped items bytes h.gave) (c.in_err-step.ensures.leads items bytes h.gave) refl refl)
+    steps_at d bytes c.args.piece.now c.from_residual.result e c.from_residual.ensures.1
+    (steps_ill d (d.behind c.args.self.now.session items bytes h.gave) bytes c.args.piece.now e
+    (c.in_err-step.ensures.stepped items bytes h.gave) refl refl)
 
 pub returns-in_err-step-clause-shown : goal.returns-in_err-step-clause-shown
 returns-in_err-step-clause-shown g c = λ items bytes h.
@@ -25,21 +24,18 @@ returns-in_err-keep-clause-shown g c = λ items bytes h.
 pub returns-in_err-keep-clause-stepped : goal.returns-in_err-keep-clause-stepped
 returns-in_err-keep-clause-stepped g c = λ items bytes h.
     let d = g.S.Steps.stepping in
-    let mid = record (c.args.self.now) { session = c.advance.new.self; offset = c.saturating_add-offset.result } in
+    let mid = record (c.args.self.now) { session = c.step.new.self; offset = c.saturating_add-offset.result } in
     let e = c.in_err-keep.field-0.0 in
     let k = c.in_err-keep.ensures in
-    steps_at d (g.S.Hands.leads _ _ _ d) bytes c.args.piece.now c.from_residual-in_err-keep.result e
-    c.from_residual-in_err-keep.ensures.1
-    (keeps_ill d (g.S.Hands.leads _ _ _ d) mid bytes c.args.piece.now e k.memory
-    (c.in_ok-step.ensures.stepped items bytes h.gave)
+    steps_at d bytes c.args.piece.now c.from_residual-in_err-keep.result e c.from_residual-in_err-keep.ensures.1
+    (keeps_ill d mid bytes c.args.piece.now e k.memory (c.in_ok-step.ensures.stepped items bytes h.gave)
     c.in_ok-step.ensures.limits k.given k.begin k.waiting)
 
 pub returns-clause-stepped : goal.returns-clause-stepped
 returns-clause-stepped g c = λ items bytes h.
     let d = g.S.Steps.stepping in
-    let mid = record (c.args.self.now) { session = c.advance.new.self; offset = c.saturating_add-offset.result } in
+    let mid = record (c.args.self.now) { session = c.step.new.self; offset = c.saturating_add-offset.result } in
     let s = c.in_ok-step.ensures in
     let k = c.in_ok-keep.ensures in
-    steps_well d (g.S.Hands.leads _ _ _ d) mid bytes c.args.piece.now refl h
-    (s.stepped items bytes h.gave) s.used.1 s.stands s.limits
+    steps_well d mid bytes c.args.piece.now refl h (s.stepped items bytes h.gave) s.used.1 s.stands s.limits
     c.saturating_add-offset.ensures refl refl s.between k.kept k.session k.offset

@@ -1,6 +1,5 @@
-use Rattle.std.proofs.Common.{◌≤◌, ◌-◌, ◌∙◌, ap, arith, length, List, refl, subst, ℕ}
+use Rattle.std.proofs.Common.{◌∙◌, ap, arith, refl}
 use Rattle.gob_stream.specs.Bounds.{within_trees}
-use Rattle.gob_salvage.specs.Taking.{HasReadAll}
 use Rattle.gob_salvage.proofs.KeepingSteps.{gap_left}
 use Rattle.gob_salvage.proofs.keeping.Keeper.leave_out.Goals as goal
 

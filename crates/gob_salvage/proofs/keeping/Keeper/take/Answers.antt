@@ -1,4 +1,4 @@
-use Rattle.std.proofs.Common.{◌<◌, ◌+◌, ◌≤◌, ◌∙◌, ap, arith, drop, length, length-drop, List, refl, subst, ℕ}
+use Rattle.std.proofs.Common.{◌∙◌, ap, arith, length, length-drop, List, refl, subst, ℕ}
 use Rattle.std.proofs.lemmas.List.{take_rest}
 use Rattle.std.proofs.lemmas.Result.{on_ok_weaker}
 use Rattle.gob_types.specs.Defined.{Defined, IsTable, definition_count, types}

@@ -5,7 +5,7 @@ use Rattle.gob_stream.proofs.session_steps.SessionSteps.step.Goals as goal
 pub returns-clause-stepped : goal.returns-clause-stepped
 returns-clause-stepped g c = λ items bytes h.
     steps g.B.Builder.building c.args.self.now c.step.new.self items bytes c.args.piece.now c.step.result h
-    (c.step.ensures.advances items bytes h)
+    c.step.ensures.types (c.step.ensures.advances items bytes h)
 
 pub returns-clause-shown : goal.returns-clause-shown
 returns-clause-shown g c = λ items bytes h.

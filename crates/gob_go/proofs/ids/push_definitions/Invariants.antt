@@ -1,7 +1,7 @@
 use Rattle.std.proofs.Common.{◌≡◌, ◌++◌, drop}
 use Rattle.gob_go.specs.Meaning.{definitions_of}
-use Rattle.gob_handed.specs.Ids.{definition_ids}
-use Rattle.gob_handed.proofs.ids.push_definitions.Given as goal
+use Rattle.gob_go.specs.Ids.{definition_ids}
+use Rattle.gob_go.proofs.ids.push_definitions.Given as goal
 
 abbrev pub invariant-loop-definition : goal.invariant-loop-definition
 invariant-loop-definition l =

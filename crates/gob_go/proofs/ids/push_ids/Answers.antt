@@ -1,8 +1,8 @@
 use Rattle.std.proofs.Common.{rules, ◌≡◌}
 use Rattle.std.proofs.lemmas.Result.{on_ok_weaker}
 use Rattle.gob_go.specs.declared.item.GoItem.TheVariants as item
-use Rattle.gob_views.proofs.IdLaws.{definition_given, value_given}
-use Rattle.gob_views.proofs.ids.push_ids.Goals as goal
+use Rattle.gob_go.proofs.IdLaws.{definition_given, value_given}
+use Rattle.gob_go.proofs.ids.push_ids.Goals as goal
 
 pub returns-in_ok-push-in-Define : goal.returns-in_ok-push-in-Define
 returns-in_ok-push-in-Define c =
@@ -12,5 +12,5 @@ returns-in_ok-push-in-Define c =
 pub returns-in-Put : goal.returns-in-Put
 returns-in-Put c =
     let is : c.args.item.now ≡ item.Put c.in-Put.id c.in-Put.value = search rules in
-    on_ok_weaker c.push_inner.result (λ kept. value_given _ _ c.args.item.now c.in-Put.id c.in-Put.value is kept)
-    c.push_inner.ensures
+    on_ok_weaker c.push_inner_ids.result (λ kept. value_given _ _ c.args.item.now c.in-Put.id c.in-Put.value is kept)
+    c.push_inner_ids.ensures

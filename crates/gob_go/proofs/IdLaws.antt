@@ -4,13 +4,18 @@ use Rattle.std.proofs.Common.{refl, append_assoc, append-nil}
 use Rattle.std.proofs.lemmas.List.{drop_more}
 use Rattle.gob_types.specs.Table.{Table}
 use Rattle.gob_types.specs.declared.id.TypeId.{TypeId}
+use Rattle.gob_value.specs.declared.value.Value.{Value}
 use Rattle.gob_filled.specs.Filled.{Definitions, Fillings, no_filling, filling}
 use Rattle.gob_filled.specs.Filled as spelled
+use Rattle.gob_filled.specs.Stream.{FilledItem}
+use Rattle.gob_go.specs.Ids.{definition_ids, inner_ids, filling_ids, item_ids}
 use Rattle.gob_go.specs.Meaning.{IsFilled, is_filled, AreFillings, no_fillings, filling_then, definitions_of}
+use Rattle.gob_go.specs.Meaning.{ItemMeans, means_definition, means_value}
 use Rattle.gob_go.specs.declared.filled.Definition.{Definition}
 use Rattle.gob_go.specs.declared.filled.Filled.{Filled, out-Filled}
 use Rattle.gob_go.specs.declared.filled.Filling.{Filling, out-Filling}
-use Rattle.gob_handed.specs.Ids.{definition_ids, inner_ids, filling_ids}
+use Rattle.gob_go.specs.declared.item.GoItem.{GoItem}
+use Rattle.gob_go.specs.declared.item.GoItem.TheVariants as item
 
 -- the items of a list from this one on
 pub item_left : {X : Type 0} (xs : List X) (i : ℕ) (x : X) → x ≡ get_or xs i x → i < length xs
@@ -90,3 +95,23 @@ pub inner_kept : {T : Table} {kept : Filled} {t : TypeId} {w : spelled.Filled} {
     → ((fs : Fillings) → AreFillings T (out-Filled kept).fillings.items fs → AreKept T kept fs number old new)
     → IsFilled T t kept w → new ≡ old ++ inner_ids w
 inner_kept same none m (is_filled {fs = fs} top a) = all_kept same none (m fs a)
+
+-- ---- of an item
+pub definition_given : (old new : List TypeId) (given : GoItem) (id : TypeId) (described : Value)
+    → given ≡ item.Define id described → new ≡ old ++ id ∷ [] → (T : Table) (i : FilledItem) → ItemMeans T given i
+    → new ≡ old ++ item_ids i
+definition_given old new given id described e kept T i m =
+    by (subst (λ g. ItemMeans T g i) e m)
+  where
+    by : {i : FilledItem} → ItemMeans T (item.Define id described) i → new ≡ old ++ item_ids i
+    by means_definition = kept
+
+pub value_given : (old new : List TypeId) (given : GoItem) (id : TypeId) (value : Filled)
+    → given ≡ item.Put id value
+    → ((T : Table) (t : TypeId) (w : spelled.Filled) → IsFilled T t value w → new ≡ old ++ inner_ids w)
+    → (T : Table) (i : FilledItem) → ItemMeans T given i → new ≡ old ++ item_ids i
+value_given old new given id value e kept T i m =
+    by (subst (λ g. ItemMeans T g i) e m)
+  where
+    by : {i : FilledItem} → ItemMeans T (item.Put id value) i → new ≡ old ++ item_ids i
+    by (means_value {w = w} f) = kept T id w f

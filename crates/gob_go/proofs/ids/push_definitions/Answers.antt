@@ -1,6 +1,6 @@
 use Rattle.std.proofs.Math.ListN.{drop_of_length-le}
-use Rattle.gob_views.proofs.IdLaws.{definition_kept, definitions_kept}
-use Rattle.gob_views.proofs.ids.push_definitions.Goals as goal
+use Rattle.gob_go.proofs.IdLaws.{definition_kept, definitions_kept}
+use Rattle.gob_go.proofs.ids.push_definitions.Goals as goal
 
 pub loop-definition-preserved : goal.loop-definition-preserved
 loop-definition-preserved c =

@@ -6,28 +6,30 @@ ghost use Rattle.gob_types.specs.Table.{Table};
 ghost use Rattle.gob_types.specs.declared.id.TypeId.{TypeId};
 ghost use Rattle.gob_filled.specs.Filled as spelled;
 ghost use Rattle.gob_filled.specs.Stream.{FilledItem};
+ghost use Rattle.gob_go.specs.Ids.{definition_ids, inner_ids, item_ids};
 ghost use Rattle.gob_go.specs.Meaning.{IsFilled, ItemMeans, definitions_of};
 ghost use Rattle.gob_go.specs.declared.filled.Filling.{out-Filling};
-ghost use Rattle.gob_views.specs.Types.{definition_ids, inner_ids, item_ids};
 
-use gob_go::{Definition, Filled, Filling, GoItem};
+use crate::filled::{Definition, Filled, Filling};
+use crate::item::GoItem;
 use gob_num::Memory;
 use gob_types::TypeId;
 
-/// Appends the ids of the types that the item defines, in the order of the stream.
-pub(crate) fn push_ids(item: &GoItem, ids: &mut Vec<TypeId>) -> Result<(), Memory>
+/// Appends the ids of the types that an item defines, in the order of the stream. Without memory some may be.
+pub fn push_ids(item: &GoItem, ids: &mut Vec<TypeId>) -> Result<(), Memory>
     ensures { OnOk result ((T : Table) (i : FilledItem) → ItemMeans T item.now i
         → ids.new.items ≡ ids.old.items ++ item_ids i) }
 {
     match item {
         GoItem::Define { id, .. } => Ok(ids.push(*id)?),
-        GoItem::Put { value, .. } => push_inner(value, ids),
+        GoItem::Put { value, .. } => push_inner_ids(value, ids),
     }
 }
 
-/// Appends those of the definitions that a value holds.
+/// Appends the ids of the types whose definitions stand in a value, in the order of the stream. Without memory some may
+/// be.
 #[cycle(inner)]
-fn push_inner(value: &Filled, ids: &mut Vec<TypeId>) -> Result<(), Memory>
+pub fn push_inner_ids(value: &Filled, ids: &mut Vec<TypeId>) -> Result<(), Memory>
     ensures { OnOk result ((T : Table) (t : TypeId) (w : spelled.Filled) → IsFilled T t value.now w
         → ids.new.items ≡ ids.old.items ++ inner_ids w) }
 {
@@ -46,7 +48,7 @@ fn push_filling(filling: &Filling, ids: &mut Vec<TypeId>) -> Result<(), Memory>
         ++ inner_ids w)) }
 {
     push_definitions(&filling.definitions, ids)?;
-    push_inner(&filling.value, ids)
+    push_inner_ids(&filling.value, ids)
 }
 
 /// Appends those of definitions.
