@@ -1,8 +1,17 @@
 // Types as Go source: what `gob types` prints, as docs/FORMAT.md says under Types as source.
 
 const RESERVED = new Set(("break case chan const continue default defer else fallthrough for func go goto if import " +
-    "interface map package range return select struct switch type var bool int uint float64 byte string complex128 _ " +
-    "init main").split(" "));
+    "interface map package range return select struct switch type var bool int uint float64 byte string complex128 " +
+    "error nil big netip time url value data _ init main").split(" "));
+// a longer name counts as none, in bytes
+const LONGEST = 255;
+// the types of Go's library that encode themselves, by how and their names, and the packages by their paths
+const LIBRARY = {
+    gob: new Map([["Time", "time"], ["Int", "math/big"], ["Float", "math/big"], ["Rat", "math/big"]]),
+    binary: new Map([["URL", "net/url"], ["Addr", "net/netip"], ["AddrPort", "net/netip"], ["Prefix", "net/netip"]]),
+    text: new Map(),
+};
+const DECODERS = { gob: "GobDecode", binary: "UnmarshalBinary", text: "UnmarshalText" };
 
 /** The source of the types that are defined, in the order of the stream. `base` has the types 16 to 23. */
 class Source {
@@ -17,13 +26,28 @@ class Source {
     }
 
     text() {
-        return "package types\n" + [...this.types.values()].map((type) => this.definition(type)).join("");
+        const types = [...this.types.values()];
+        return "package types\n" + imports(types) + types.map((type) => this.definition(type)).join("");
     }
 
     definition(type) {
         const how = type.kind === "opaque" ? `, which encodes itself by ${METHOD[type.marshal]}` : "";
-        const what = type.kind === "struct" ? `struct {\n${this.fields(type)}}` : this.parts(type, type.id, 2);
-        return `\n// type ${type.id}${how}\ntype ${this.ownName(type)} ${what}\n`;
+        return `\n// type ${type.id}${how}\ntype ${this.ownName(type)} ${this.what(type)}\n${this.methods(type)}`;
+    }
+
+    what(type) {
+        if (type.kind === "struct") return `struct {\n${this.fields(type)}}`;
+        if (type.kind === "opaque") return packageOf(type) ? "= " + libraryName(type) : "string";
+        return this.parts(type, type.id, 2);
+    }
+
+    // the methods by which Go encodes and decodes a type that isn't of its library: they give and keep the bytes
+    methods(type) {
+        if (type.kind !== "opaque" || packageOf(type)) return "";
+        const name = this.ownName(type);
+        return `\nfunc (value ${name}) ${METHOD[type.marshal]}() ([]byte, error) {\n\treturn []byte(value), nil\n}\n` +
+            `\nfunc (value *${name}) ${DECODERS[type.marshal]}(data []byte) error {\n` +
+            `\t*value = ${name}(data)\n\treturn nil\n}\n`;
     }
 
     fields(type) {
@@ -33,9 +57,11 @@ class Source {
             (takes ? declared : others).push(field);
             seen.add(field.name.hex);
         }
-        const width = Math.max(0, ...declared.map((field) => field.name.text.length));
+        const widthOf = (field) => [...field.name.text].length;
+        const width = declared.reduce((most, field) => Math.max(most, widthOf(field)), 0);
         const typed = (field) => this.pointer(field.type, type.id) + this.named(field.type, type.id, 3);
-        return declared.map((field) => `\t${field.name.text.padEnd(width)} ${typed(field)}\n`).join("") +
+        const padded = (field) => field.name.text + " ".repeat(width - widthOf(field));
+        return declared.map((field) => `\t${padded(field)} ${typed(field)}\n`).join("") +
             others.map((field) => `\t// ${printed(field.name)} ${typed(field)}\n`).join("");
     }
 
@@ -53,7 +79,8 @@ class Source {
         const type = this.types.get(id);
         if (type === undefined) return "struct{}";
         const hasParts = type.elem !== undefined && !isIdentifier(type.name);
-        return levels === 0 || !hasParts ? this.ownName(type) : this.parts(type, of, levels - 1);
+        if (levels > 0 && hasParts) return this.parts(type, of, levels - 1);
+        return packageOf(type) ? libraryName(type) : this.ownName(type);
     }
 
     parts(type, of, levels) {
@@ -76,14 +103,30 @@ class Source {
         const isBasic = (part) => part <= 8 && part !== 5;
         if (id <= 8) return isBasic(id);
         const type = this.types.get(id) ?? this.base.get(id);
-        if (type === undefined || type.kind === "opaque") return true;
+        if (type === undefined) return true;
+        if (type.kind === "opaque") return packageOf(type) !== "math/big";
         if (type.kind === "array") return isBasic(type.elem);
         return type.kind === "struct" && type.fields.every((field) => isBasic(field.type));
     }
 }
 
+// whether Go takes the name: letters and digits of Unicode, no digit first
 function isIdentifier(name) {
-    return name.text !== null && /^[A-Za-z_][A-Za-z0-9_]*$/.test(name.text);
+    return name.text !== null && name.hex.length <= 2 * LONGEST && /^[\p{L}_][\p{L}\p{Nd}_]*$/u.test(name.text);
+}
+
+// the path of the package of Go's library that has the type, or undefined
+function packageOf(type) {
+    return type.kind === "opaque" ? LIBRARY[type.marshal].get(type.name.text) : undefined;
+}
+
+function libraryName(type) {
+    return `${packageOf(type).split("/").pop()}.${type.name.text}`;
+}
+
+function imports(types) {
+    const paths = [...new Set(types.map(packageOf).filter((path) => path !== undefined))].sort();
+    return paths.length > 0 ? `\nimport (\n${paths.map((path) => `\t"${path}"\n`).join("")})\n` : "";
 }
 
 // a name as a comment may hold it

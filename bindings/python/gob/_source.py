@@ -2,15 +2,24 @@
 from __future__ import annotations
 
 import re
+import unicodedata
 from typing import Mapping
 
 from ._types import BASIC, Field, Type
 
 _RESERVED = frozenset("""
     break case chan const continue default defer else fallthrough for func go goto if import interface map package range
-    return select struct switch type var bool int uint float64 byte string complex128 _ init main
+    return select struct switch type var bool int uint float64 byte string complex128 error nil big
+    netip time url value data _ init main
 """.split())
-_IDENTIFIER = re.compile("[A-Za-z_][A-Za-z0-9_]*")
+# a longer name counts as none, in bytes of UTF-8
+_LONGEST = 255
+# the types of Go's library that encode themselves, by how and their names, and the packages by their paths
+_LIBRARY = {
+    "GobEncode": {"Time": "time", "Int": "math/big", "Float": "math/big", "Rat": "math/big"},
+    "MarshalBinary": {"URL": "net/url", "Addr": "net/netip", "AddrPort": "net/netip", "Prefix": "net/netip"},
+}
+_DECODERS = {"GobEncode": "GobDecode", "MarshalBinary": "UnmarshalBinary", "MarshalText": "UnmarshalText"}
 _MADE = re.compile("T[0-9]{2,}|.*_[0-9]{2,}")
 # CommonType and fieldType, of the types of which descriptions are made: a name and a number
 _COMPARABLE_IN_DESCRIPTIONS = (18, 21)
@@ -29,15 +38,35 @@ class Source:
 
     def text(self) -> str:
         """A file that declares all of them."""
-        return "package types\n" + "".join(map(self._commented, self.types.values()))
+        return "package types\n" + self._imports() + "".join(map(self._commented, self.types.values()))
+
+    def _imports(self) -> str:
+        paths = sorted({path for path in map(_package, self.types.values()) if path})
+        lines = "".join(f'\t"{path}"\n' for path in paths)
+        return f"\nimport (\n{lines})\n" if lines else ""
 
     def _commented(self, type: Type) -> str:
         how = f", which encodes itself by {type.marshal}" if type.kind == "opaque" else ""
-        return f"\n// type {type.id}{how}\n{self.declaration(type)}\n"
+        return f"\n// type {type.id}{how}\n{self.declaration(type)}\n{self._methods(type)}"
 
     def declaration(self, type: Type) -> str:
-        what = f"struct {{\n{self._fields(type)}}}" if type.kind == "struct" else self._parts(type, type.id, 2)
-        return f"type {self._own_name(type)} {what}"
+        return f"type {self._own_name(type)} {self._what(type)}"
+
+    def _what(self, type: Type) -> str:
+        if type.kind == "struct":
+            return f"struct {{\n{self._fields(type)}}}"
+        if type.kind == "opaque":
+            return f"= {_library_name(type)}" if _package(type) else "string"
+        return self._parts(type, type.id, 2)
+
+    def _methods(self, type: Type) -> str:
+        """The methods by which Go encodes and decodes a type that isn't its library's: they give and keep the bytes."""
+        if type.kind != "opaque" or _package(type):
+            return ""
+        name = self._own_name(type)
+        return (f"\nfunc (value {name}) {type.marshal}() ([]byte, error) {{\n\treturn []byte(value), nil\n}}\n"
+                f"\nfunc (value *{name}) {_DECODERS[type.marshal]}(data []byte) error {{\n"
+                f"\t*value = {name}(data)\n\treturn nil\n}}\n")
 
     def _fields(self, type: Type) -> str:
         declared: list[Field] = []
@@ -70,7 +99,9 @@ class Source:
         if type is None:
             return "struct{}"
         has_parts = type.kind in _WITH_PARTS and not _is_identifier(type.name)
-        return self._parts(type, of, levels - 1) if has_parts and levels else self._own_name(type)
+        if has_parts and levels:
+            return self._parts(type, of, levels - 1)
+        return _library_name(type) if _package(type) else self._own_name(type)
 
     def _parts(self, type: Type, of: int, levels: int) -> str:
         if type.kind not in _WITH_PARTS:
@@ -97,7 +128,9 @@ class Source:
             return _is_plain(id) or id in _COMPARABLE_IN_DESCRIPTIONS or id > 8 and not 16 <= id <= 24
         if type.kind == "array":
             return _is_plain(type.elem)
-        return type.kind == "opaque" or type.kind == "struct" and all(_is_plain(field.type) for field in type.fields)
+        if type.kind == "opaque":
+            return _package(type) != "math/big"
+        return type.kind == "struct" and all(_is_plain(field.type) for field in type.fields)
 
 
 def _is_plain(id: int) -> bool:
@@ -105,7 +138,23 @@ def _is_plain(id: int) -> bool:
 
 
 def _is_identifier(name: str) -> bool:
-    return _IDENTIFIER.fullmatch(name) is not None
+    """Whether Go takes the name: letters and digits of Unicode, no digit first."""
+    if not name or len(name.encode("utf-8", "surrogateescape")) > _LONGEST:
+        return False
+    return _is_letter(name[0]) and all(_is_letter(c) or unicodedata.category(c) == "Nd" for c in name)
+
+
+def _is_letter(character: str) -> bool:
+    return character == "_" or unicodedata.category(character).startswith("L")
+
+
+def _package(type: Type) -> str:
+    """The path of the package of Go's library that has the type, or nothing."""
+    return _LIBRARY.get(type.marshal, {}).get(type.name, "") if type.kind == "opaque" else ""
+
+
+def _library_name(type: Type) -> str:
+    return f"{_package(type).rpartition('/')[2]}.{type.name}"
 
 
 def _printed(name: str) -> str:

@@ -5,9 +5,8 @@ use Rattle.std.proofs.lemmas.List.{at_drop_more, take_more}
 use Rattle.gob_types.specs.declared.id.TypeId.{TypeId}
 use Rattle.gob_types.specs.declared.kind.Shape.{Shape}
 use Rattle.gob_types.specs.Table.{Table, shape_of}
-use Rattle.gob_source.specs.Names.{own_name}
 use Rattle.gob_source.specs.Source.{basic_text, named_text, shape_text, type_text, defined_text, parts_text}
-use Rattle.gob_source.specs.Source.{pointer_text, key_text, is_among, has_parts}
+use Rattle.gob_source.specs.Source.{pointer_text, key_text, is_among, has_parts, used_name}
 
 pub basic_type : (levels : ℕ) (T : Table) (ts : List TypeId) (of t : TypeId) (name : List ℕ)
     → basic_text t.0 ≡ Some name
@@ -31,11 +30,11 @@ unknown_type (suc l) T ts of t e =
 pub outer_type : (levels : ℕ) (T : Table) (ts : List TypeId) (of t : TypeId) (s : Shape) → shape_of T t ≡ Some s
     → is_among t ts ≡ false → defined_text levels T ts of t ≡ codes "struct{}"
 outer_type zero T ts of t s e f =
-    ap (shape_text T ts t None) e ∙ ap (λ b. if b then own_name T ts t s.name else codes "struct{}") f
+    ap (shape_text T ts t None) e ∙ ap (λ b. if b then used_name T ts t s else codes "struct{}") f
 outer_type (suc l) T ts of t s e f =
     let parts = parts_text (pointer_text T ts of) (key_text T) (type_text l T ts of) in
     ap (shape_text T ts t (Some parts)) e
-    ∙ ap (λ b. if b then (if has_parts s then parts s.kind else own_name T ts t s.name) else codes "struct{}") f
+    ∙ ap (λ b. if b then (if has_parts s then parts s.kind else used_name T ts t s) else codes "struct{}") f
 
 pub parts_type : (l : ℕ) (T : Table) (ts : List TypeId) (of t : TypeId) (s : Shape) → shape_of T t ≡ Some s
     → is_among t ts ≡ true → has_parts s ≡ true
@@ -43,23 +42,23 @@ pub parts_type : (l : ℕ) (T : Table) (ts : List TypeId) (of t : TypeId) (s : S
 parts_type l T ts of t s e f h =
     let parts = parts_text (pointer_text T ts of) (key_text T) (type_text l T ts of) in
     ap (shape_text T ts t (Some parts)) e
-    ∙ ap (λ b. if b then (if has_parts s then parts s.kind else own_name T ts t s.name) else codes "struct{}") f
-    ∙ ap (λ b. if b then parts s.kind else own_name T ts t s.name) h
+    ∙ ap (λ b. if b then (if has_parts s then parts s.kind else used_name T ts t s) else codes "struct{}") f
+    ∙ ap (λ b. if b then parts s.kind else used_name T ts t s) h
 
 pub deepest_type : (levels : ℕ) (T : Table) (ts : List TypeId) (of t : TypeId) (s : Shape) → levels ≡ 0
-    → shape_of T t ≡ Some s → is_among t ts ≡ true → defined_text levels T ts of t ≡ own_name T ts t s.name
+    → shape_of T t ≡ Some s → is_among t ts ≡ true → defined_text levels T ts of t ≡ used_name T ts t s
 deepest_type zero T ts of t s z e f =
-    ap (shape_text T ts t None) e ∙ ap (λ b. if b then own_name T ts t s.name else codes "struct{}") f
+    ap (shape_text T ts t None) e ∙ ap (λ b. if b then used_name T ts t s else codes "struct{}") f
 deepest_type (suc l) T ts of t s z e f = absurd (omega arith)
 
 pub whole_type : (levels : ℕ) (T : Table) (ts : List TypeId) (of t : TypeId) (s : Shape) → shape_of T t ≡ Some s
-    → is_among t ts ≡ true → has_parts s ≡ false → defined_text levels T ts of t ≡ own_name T ts t s.name
+    → is_among t ts ≡ true → has_parts s ≡ false → defined_text levels T ts of t ≡ used_name T ts t s
 whole_type zero T ts of t s e f h = deepest_type zero T ts of t s refl e f
 whole_type (suc l) T ts of t s e f h =
     let parts = parts_text (pointer_text T ts of) (key_text T) (type_text l T ts of) in
     ap (shape_text T ts t (Some parts)) e
-    ∙ ap (λ b. if b then (if has_parts s then parts s.kind else own_name T ts t s.name) else codes "struct{}") f
-    ∙ ap (λ b. if b then parts s.kind else own_name T ts t s.name) h
+    ∙ ap (λ b. if b then (if has_parts s then parts s.kind else used_name T ts t s) else codes "struct{}") f
+    ∙ ap (λ b. if b then parts s.kind else used_name T ts t s) h
 
 -- one more of a list was appended, whose text rests on those before it
 pub appended_more : {X : Type 0} (one : List X → X → List ℕ) (text : List X → List X → List ℕ)

@@ -1,34 +1,43 @@
--- The names of types and fields in Go source. (The Go Programming Language Specification, Identifiers and Keywords;
--- docs/FORMAT.md, Types as source: this project's own.)
+-- The names of types and fields in Go source. (The Go Programming Language Specification, Letters and digits,
+-- Identifiers and Keywords; docs/FORMAT.md, Types as source: this project's own.)
 use Rattle.std.specs.Prelude.{ℕ, ◌+◌, ◌/◌, ◌%◌, List, [], ◌∷◌, ◌++◌, length, Bool, true, false, ◌==◌, ◌&&◌, ◌||◌, not}
 use Rattle.std.specs.Prelude.{nat_le, nat_lt, if◌then◌else◌, codes, Option, Some, None}
 use Rattle.std.specs.Fmt.{decimal}
-use Rattle.std.specs.Str.{bytes_eq}
+use Rattle.std.specs.Str.{bytes_eq, chars, is_utf8}
 use Rattle.std.specs.List.{list_all, list_any, flat_map}
+use Rattle.ucd_category.specs.declared.GeneralCategory.TheVariants as category
+use Rattle.ucd_category.specs.declared.GeneralCategoryGroup.TheVariants as group
+use Rattle.ucd_category.specs.GeneralCategory.{general_category, general_category_eq}
+use Rattle.ucd_category.specs.GeneralCategoryGroup.{in_group}
 use Rattle.gob_types.specs.declared.id.TypeId.{TypeId}
 use Rattle.gob_types.specs.declared.kind.Shape.{Shape}
 use Rattle.gob_types.specs.Table.{Table, shape_of}
 
 -- ---- identifiers
 
--- a letter of ASCII or the underline
+-- a letter of Unicode or the underline
 abbrev pub is_letter : ℕ → Bool
-is_letter c = (nat_le 65 c && nat_le c 90) || ((nat_le 97 c && nat_le c 122) || (c == 95))
+is_letter c = in_group group.Letter (general_category c) || (c == 95)
 
-abbrev pub is_digit : ℕ → Bool
-is_digit c = nat_le 48 c && nat_le c 57
-
+-- one of these or a decimal digit of Unicode
 abbrev pub is_letter_or_digit : ℕ → Bool
-is_letter_or_digit c = is_letter c || is_digit c
+is_letter_or_digit c = is_letter c || general_category_eq (general_category c) category.DecimalNumber
 
-abbrev pub are_letters_or_digits : List ℕ → Bool
-are_letters_or_digits cs = list_all is_letter_or_digit cs
+-- the characters are letters and digits, no digit first
+abbrev pub is_identifier_text : List ℕ → Bool
+is_identifier_text [] = false
+is_identifier_text (c ∷ cs) = is_letter c && list_all is_letter_or_digit cs
 
+-- Go takes the name as an identifier, and it isn't too long to stand wherever it is referred to
 abbrev pub is_identifier : List ℕ → Bool
-is_identifier [] = false
-is_identifier (c ∷ cs) = is_letter c && are_letters_or_digits cs
+is_identifier name = nat_le (length name) 255 && (is_utf8 name && is_identifier_text (chars name))
 
--- Go's keywords; the names that this source gives Go's own types; and those that no type of a program may have
+-- the columns in which gofmt reckons with a name: one for each character
+abbrev pub name_width : List ℕ → ℕ
+name_width name = if is_utf8 name then length (chars name) else length name
+
+-- Go's keywords; the names of Go's own that this source uses, of types, packages and values; those of the values of its
+-- methods; and those that no type of a program may have
 abbrev pub reserved : List (List ℕ)
 reserved =
     codes "break" ∷ codes "case" ∷ codes "chan" ∷ codes "const" ∷ codes "continue" ∷ codes "default" ∷ codes "defer" ∷
@@ -36,12 +45,16 @@ reserved =
     codes "import" ∷ codes "interface" ∷ codes "map" ∷ codes "package" ∷ codes "range" ∷ codes "return" ∷
     codes "select" ∷ codes "struct" ∷ codes "switch" ∷ codes "type" ∷ codes "var" ∷
     codes "bool" ∷ codes "int" ∷ codes "uint" ∷ codes "float64" ∷ codes "byte" ∷ codes "string" ∷ codes "complex128" ∷
-    codes "_" ∷ codes "init" ∷ codes "main" ∷ []
+    codes "error" ∷ codes "nil" ∷ codes "big" ∷ codes "netip" ∷ codes "time" ∷ codes "url" ∷
+    codes "value" ∷ codes "data" ∷ codes "_" ∷ codes "init" ∷ codes "main" ∷ []
 
 abbrev pub is_reserved : List ℕ → Bool
 is_reserved name = list_any (λ word. bytes_eq word name) reserved
 
 -- ---- names with an id
+
+abbrev pub is_digit : ℕ → Bool
+is_digit c = nat_le 48 c && nat_le c 57
 
 abbrev pub is_two_digits : List ℕ → Bool
 is_two_digits cs = nat_le 2 (length cs) && list_all is_digit cs

@@ -3,17 +3,24 @@
 ghost use Rattle.std.specs.Prelude.{◌≡◌, IfOk};
 ghost use Rattle.gob_types.specs.Table.{shape_of};
 ghost use Rattle.gob_source.specs.Adds.{Adds};
-ghost use Rattle.gob_source.specs.Source.{definition_text, encoded_text, go_source, kind_text, marshal_text};
+ghost use Rattle.gob_source.specs.Names.{own_name};
+ghost use Rattle.gob_source.specs.Source.{declaration_text, decoder_name, decoder_text, definition_text, encoded_text};
+ghost use Rattle.gob_source.specs.Source.{encoder_name, encoder_text, go_source, kind_text, marshal_text, methods_text};
+ghost use Rattle.gob_source.specs.Source.{opaque_text};
 
+use crate::declared::Declared;
 use crate::fields::push_fields;
+use crate::library::{Package, package_of, push_imports, push_library_name};
 use crate::names::push_own;
 use crate::text::{push_number, push_text};
-use crate::types::{Place, push_parts};
-use gob_types::{Kind, Marshal, Shapes, TypeId};
+use crate::types::push_parts;
+use gob_types::{Kind, Marshal, Shape, Shapes, TypeId};
 use std::alloc::{AllocError, Global};
 
-/// A file of Go source that declares these types of the table, in order. The name of each is that which the stream
-/// gave it, where Go lets it have that. A type that isn't among them is `struct{}` where another holds it.
+/// A file of Go source that declares these types of the table, in order: Go's decoder takes into them what the stream
+/// has. The name of each is that which the stream gave it, where Go lets it have that. A type that isn't among them is
+/// `struct{}` where another holds it. A type that encodes itself is that of Go's library which has its name, else a
+/// string of its bytes.
 pub fn source_of<S: Shapes>(
     alloc: Global,
     shapes: &S,
@@ -23,32 +30,49 @@ pub fn source_of<S: Shapes>(
 {
     let mut out = Vec::new(alloc);
     push_text(b"package types\n", &mut out)?;
+    push_imports(shapes, ids, &mut out)?;
+    let types = Declared::new(alloc, shapes, ids)?;
     for id in ids {
-        push_definition(shapes, ids, *id, &mut out)?;
+        push_definition(&types, *id, &mut out)?;
     }
     Ok(out)
 }
 
 // Appends the definition of a type.
 fn push_definition<S: Shapes>(
-    shapes: &S,
-    ids: &[TypeId],
-    id: TypeId,
+    types: &Declared<'_, S>,
+    of: TypeId,
     out: &mut Vec<u8>,
 ) -> Result<(), AllocError>
     ensures { Adds result out.old.items out.new.items
-        (definition_text (S.table shapes.now) ids.now id (shape_of (S.table shapes.now) id)) }
+        (definition_text (S.table types.now.shapes.now) types.now.ids.now of
+        (shape_of (S.table types.now.shapes.now) of)) }
 {
-    let Some(shape) = shapes.shape_of(id) else {
+    let Some(shape) = types.shapes.shape_of(of) else {
         return Ok(());
     };
+    push_declaration(types, of, shape, out)?;
+    push_methods(types, of, shape.name.as_bytes(), &shape.kind, out)
+}
+
+// Appends a comment with the type's id, and its declaration.
+fn push_declaration<S: Shapes>(
+    types: &Declared<'_, S>,
+    of: TypeId,
+    shape: &Shape,
+    out: &mut Vec<u8>,
+) -> Result<(), AllocError>
+    ensures { Adds result out.old.items out.new.items
+        (declaration_text (S.table types.now.shapes.now) types.now.ids.now of shape.now) }
+{
+    let name = shape.name.as_bytes();
     push_text(b"\n// type ", out)?;
-    push_number(id.0, out)?;
+    push_number(of.0, out)?;
     push_encoded(&shape.kind, out)?;
     push_text(b"\ntype ", out)?;
-    push_own(shapes, ids, id, shape.name.as_bytes(), out)?;
+    push_own(types, of, name, out)?;
     push_text(b" ", out)?;
-    push_kind(shapes, Place { ids, of: id }, &shape.kind, out)?;
+    push_kind(types, of, name, &shape.kind, out)?;
     push_text(b"\n", out)
 }
 
@@ -73,22 +97,118 @@ fn push_marshal(marshal: Marshal, out: &mut Vec<u8>) -> Result<(), AllocError>
     }
 }
 
-// Appends what a type of this kind is.
+// Appends what a type of this name and kind is.
 fn push_kind<S: Shapes>(
-    shapes: &S,
-    place: Place<'_>,
+    types: &Declared<'_, S>,
+    of: TypeId,
+    name: &[u8],
     kind: &Kind,
     out: &mut Vec<u8>,
 ) -> Result<(), AllocError>
     ensures { Adds result out.old.items out.new.items
-        (kind_text (S.table shapes.now) place.entry.ids.now place.entry.of kind.now) }
+        (kind_text (S.table types.now.shapes.now) types.now.ids.now of name.now kind.now) }
 {
     match kind {
         Kind::Struct { fields } => {
             push_text(b"struct {\n", out)?;
-            push_fields(shapes, place, fields.as_slice(), out)?;
+            push_fields(types, of, fields.as_slice(), out)?;
             push_text(b"}", out)
         }
-        _ => push_parts(shapes, place, kind, 2, out),
+        Kind::Opaque(marshal) => push_opaque(package_of(name, *marshal), name, out),
+        _ => push_parts(types, of, kind, 2, out),
+    }
+}
+
+// Appends what a type is that encodes itself: another name for one of Go's library, else a string of its bytes.
+fn push_opaque(owner: Option<Package>, name: &[u8], out: &mut Vec<u8>) -> Result<(), AllocError>
+    ensures { Adds result out.old.items out.new.items (opaque_text owner name.now) }
+{
+    let Some(owner) = owner else {
+        return push_text(b"string", out);
+    };
+    push_text(b"= ", out)?;
+    push_library_name(owner, name, out)
+}
+
+// Appends the methods of a type that encodes itself, where Go's library doesn't have it.
+fn push_methods<S: Shapes>(
+    types: &Declared<'_, S>,
+    of: TypeId,
+    name: &[u8],
+    kind: &Kind,
+    out: &mut Vec<u8>,
+) -> Result<(), AllocError>
+    ensures { Adds result out.old.items out.new.items
+        (methods_text name.now (own_name (S.table types.now.shapes.now) types.now.ids.now of name.now) kind.now) }
+{
+    match kind {
+        Kind::Opaque(marshal) if package_of(name, *marshal).is_none() => {
+            push_encoder(types, of, name, *marshal, out)?;
+            push_decoder(types, of, name, *marshal, out)
+        }
+        _ => Ok(()),
+    }
+}
+
+// Appends the method that gives the bytes of a value.
+fn push_encoder<S: Shapes>(
+    types: &Declared<'_, S>,
+    of: TypeId,
+    name: &[u8],
+    marshal: Marshal,
+    out: &mut Vec<u8>,
+) -> Result<(), AllocError>
+    ensures { Adds result out.old.items out.new.items
+        (encoder_text marshal (own_name (S.table types.now.shapes.now) types.now.ids.now of name.now)) }
+{
+    push_text(b"\nfunc (value ", out)?;
+    push_own(types, of, name, out)?;
+    push_text(b") ", out)?;
+    push_text(encoder_name(marshal), out)?;
+    push_text(
+        b"() ([]byte, error) {\n\treturn []byte(value), nil\n}\n",
+        out,
+    )
+}
+
+// Appends the method that keeps the bytes of a value.
+fn push_decoder<S: Shapes>(
+    types: &Declared<'_, S>,
+    of: TypeId,
+    name: &[u8],
+    marshal: Marshal,
+    out: &mut Vec<u8>,
+) -> Result<(), AllocError>
+    ensures { Adds result out.old.items out.new.items
+        (decoder_text marshal (own_name (S.table types.now.shapes.now) types.now.ids.now of name.now)) }
+{
+    push_text(b"\nfunc (value *", out)?;
+    push_own(types, of, name, out)?;
+    push_text(b") ", out)?;
+    push_text(decoder_name(marshal), out)?;
+    push_text(b"(data []byte) error {\n\t*value = ", out)?;
+    push_own(types, of, name, out)?;
+    push_text(b"(data)\n\treturn nil\n}\n", out)
+}
+
+// The method by which Go encodes a type that marshals itself in this way.
+fn encoder_name(marshal: Marshal) -> &'static [u8]
+    ensures { result.now ≡ encoder_name marshal }
+{
+    match marshal {
+        Marshal::Gob => b"GobEncode",
+        Marshal::Binary => b"MarshalBinary",
+        Marshal::Text => b"MarshalText",
+    }
+}
+
+// The method by which Go decodes it.
+fn decoder_name(marshal: Marshal) -> &'static [u8]
+    ensures { result.now ≡ decoder_name marshal }
+{
+    match marshal {
+        Marshal::Gob => b"GobDecode",
+        Marshal::Binary => b"UnmarshalBinary",
+        Marshal::Text => b"UnmarshalText",
     }
 }

@@ -1,148 +1,172 @@
 //! The fields of a struct.
 
-ghost use Rattle.std.specs.Prelude.{◌≡◌, []};
+ghost use Rattle.std.specs.Prelude.{◌≡◌, ◌++◌, ◌∷◌, [], IfOk, List};
+ghost use Rattle.gob_types.specs.declared.kind.Field.{Field};
 ghost use Rattle.gob_source.specs.Adds.{Adds};
-ghost use Rattle.gob_source.specs.Source.{comment_text, comments_text, declared_text, field_text, fields_text};
-ghost use Rattle.gob_source.specs.Source.{is_declared, is_field_name, type_of_text, width};
+ghost use Rattle.gob_source.specs.Machine.{AddsField, KnowsNames};
+ghost use Rattle.gob_source.specs.Source.{comment_line, comment_text, comments_text, declared_width, declared_text};
+ghost use Rattle.gob_source.specs.Source.{field_line, field_text, fields_text, type_of_text, width};
 
-use crate::names::{is_identifier, is_reserved};
+use crate::declared::Declared;
+use crate::field_names::FieldNames;
+use crate::names::name_width;
 use crate::text::{push_escaped, push_spaces, push_text};
-use crate::types::{Place, push_pointer, push_type};
+use crate::types::{push_pointer, push_type};
 use gob_types::{Field, Shapes, TypeId};
-use std::alloc::AllocError;
+use std::alloc::{AllocError, Global};
 
 /// Appends the fields, a line each: those that Go lets a struct have, in order, and then the others in comments.
 pub(crate) fn push_fields<S: Shapes>(
-    shapes: &S,
-    place: Place<'_>,
+    types: &Declared<'_, S>,
+    of: TypeId,
     fields: &[Field],
     out: &mut Vec<u8>,
 ) -> Result<(), AllocError>
     ensures { Adds result out.old.items out.new.items
-        (fields_text (S.table shapes.now) place.entry.ids.now place.entry.of fields.now) }
+        (fields_text (S.table types.now.shapes.now) types.now.ids.now of fields.now) }
 {
-    push_declared(shapes, place, fields, out)?;
-    push_comments(shapes, place, fields, out)
+    push_declared(types, of, fields, out)?;
+    push_comments(types, of, fields, out)
 }
 
 // Appends those that are declared.
 fn push_declared<S: Shapes>(
-    shapes: &S,
-    place: Place<'_>,
+    types: &Declared<'_, S>,
+    of: TypeId,
     fields: &[Field],
     out: &mut Vec<u8>,
 ) -> Result<(), AllocError>
     ensures { Adds result out.old.items out.new.items
-        (declared_text (S.table shapes.now) place.entry.ids.now place.entry.of (width [] fields.now) [] fields.now) }
+        (declared_text (S.table types.now.shapes.now) types.now.ids.now of (width [] fields.now) [] fields.now) }
 {
-    let width = width_of(fields);
-    for index in 0..fields.len() {
-        push_field(shapes, place, width, &fields[..index], &fields[index], out)?;
+    let width = width_of(types.alloc, fields)?;
+    let mut seen = FieldNames::new(types.alloc);
+    for field in fields {
+        push_field(types, of, width, &mut seen, field, out)?;
     }
     Ok(())
 }
 
 // Appends the others.
 fn push_comments<S: Shapes>(
-    shapes: &S,
-    place: Place<'_>,
+    types: &Declared<'_, S>,
+    of: TypeId,
     fields: &[Field],
     out: &mut Vec<u8>,
 ) -> Result<(), AllocError>
     ensures { Adds result out.old.items out.new.items
-        (comments_text (S.table shapes.now) place.entry.ids.now place.entry.of [] fields.now) }
+        (comments_text (S.table types.now.shapes.now) types.now.ids.now of [] fields.now) }
 {
-    for index in 0..fields.len() {
-        push_comment(shapes, place, &fields[..index], &fields[index], out)?;
+    let mut seen = FieldNames::new(types.alloc);
+    for field in fields {
+        push_comment(types, of, &mut seen, field, out)?;
     }
     Ok(())
 }
 
-// The length of the longest name of those that are declared.
-fn width_of(fields: &[Field]) -> usize
-    ensures { result ≡ width [] fields.now }
+// The columns of the longest name of those that are declared.
+fn width_of(alloc: Global, fields: &[Field]) -> Result<usize, AllocError>
+    ensures { IfOk result (λ most. most ≡ width [] fields.now) }
 {
+    let mut seen = FieldNames::new(alloc);
     let mut width = 0;
-    for index in 0..fields.len() {
-        if is_declared(&fields[..index], &fields[index]) {
-            width = width.max(fields[index].name.as_bytes().len());
-        }
-    }
-    width
-}
-
-// Whether a field can be declared behind these.
-fn is_declared(seen: &[Field], field: &Field) -> bool
-    ensures { result ≡ is_declared seen.now field.now }
-{
-    let name = field.name.as_bytes();
-    is_identifier(name) && !is_reserved(name) && !is_field_name(name, seen)
-}
-
-fn is_field_name(name: &[u8], fields: &[Field]) -> bool
-    ensures { result ≡ is_field_name name.now fields.now }
-{
     for field in fields {
-        if field.name.as_bytes() == name {
-            return true;
-        }
+        width = width.max(declared_width(&mut seen, field)?);
     }
-    false
+    Ok(width)
 }
 
-// Appends the line of a field behind these, where it is declared. Its type stands behind the longest name.
-fn push_field<S: Shapes>(
-    shapes: &S,
-    place: Place<'_>,
+// The columns of the name of a field behind those that were seen, where it is declared.
+fn declared_width<'a>(seen: &mut FieldNames<'a>, field: &'a Field) -> Result<usize, AllocError>
+    ensures { IfOk result (λ count. (before : List Field) → KnowsNames seen.old before
+        → (count ≡ declared_width before field.now) × KnowsNames seen.new (before ++ field.now ∷ [])) }
+{
+    if !seen.declares(field)? {
+        return Ok(0);
+    }
+    Ok(name_width(field.name.as_bytes()))
+}
+
+// Appends the line of a field behind those that were seen, where it is declared.
+fn push_field<'a, S: Shapes>(
+    types: &Declared<'_, S>,
+    of: TypeId,
     width: usize,
-    seen: &[Field],
+    seen: &mut FieldNames<'a>,
+    field: &'a Field,
+    out: &mut Vec<u8>,
+) -> Result<(), AllocError>
+    ensures { AddsField result out.old.items out.new.items seen.old seen.new field.now
+        (λ before. field_text (S.table types.now.shapes.now) types.now.ids.now of width before field.now) }
+{
+    if seen.declares(field)? {
+        return push_field_line(types, of, width, field, out);
+    }
+    Ok(())
+}
+
+// Appends the line of a field. Its type stands behind the longest name.
+fn push_field_line<S: Shapes>(
+    types: &Declared<'_, S>,
+    of: TypeId,
+    width: usize,
     field: &Field,
     out: &mut Vec<u8>,
 ) -> Result<(), AllocError>
     ensures { Adds result out.old.items out.new.items
-        (field_text (S.table shapes.now) place.entry.ids.now place.entry.of width seen.now field.now) }
+        (field_line (S.table types.now.shapes.now) types.now.ids.now of width field.now) }
 {
-    if !is_declared(seen, field) {
-        return Ok(());
-    }
     let name = field.name.as_bytes();
     push_text(b"\t", out)?;
     push_text(name, out)?;
-    push_spaces(width.saturating_sub(name.len()), out)?;
-    push_type_of(shapes, place, field.id, out)
+    push_spaces(width.saturating_sub(name_width(name)), out)?;
+    push_type_of(types, of, field.id, out)
 }
 
-// Appends a field behind these in a comment, where it isn't declared.
-fn push_comment<S: Shapes>(
-    shapes: &S,
-    place: Place<'_>,
-    seen: &[Field],
+// Appends a field behind those that were seen in a comment, where it isn't declared.
+fn push_comment<'a, S: Shapes>(
+    types: &Declared<'_, S>,
+    of: TypeId,
+    seen: &mut FieldNames<'a>,
+    field: &'a Field,
+    out: &mut Vec<u8>,
+) -> Result<(), AllocError>
+    ensures { AddsField result out.old.items out.new.items seen.old seen.new field.now
+        (λ before. comment_text (S.table types.now.shapes.now) types.now.ids.now of before field.now) }
+{
+    if seen.declares(field)? {
+        return Ok(());
+    }
+    push_comment_line(types, of, field, out)
+}
+
+// Appends a field in a comment.
+fn push_comment_line<S: Shapes>(
+    types: &Declared<'_, S>,
+    of: TypeId,
     field: &Field,
     out: &mut Vec<u8>,
 ) -> Result<(), AllocError>
     ensures { Adds result out.old.items out.new.items
-        (comment_text (S.table shapes.now) place.entry.ids.now place.entry.of seen.now field.now) }
+        (comment_line (S.table types.now.shapes.now) types.now.ids.now of field.now) }
 {
-    if is_declared(seen, field) {
-        return Ok(());
-    }
     push_text(b"\t// ", out)?;
     push_escaped(field.name.as_bytes(), out)?;
-    push_type_of(shapes, place, field.id, out)
+    push_type_of(types, of, field.id, out)
 }
 
 // Appends the type of a field, and the end of the line.
 fn push_type_of<S: Shapes>(
-    shapes: &S,
-    place: Place<'_>,
+    types: &Declared<'_, S>,
+    of: TypeId,
     id: TypeId,
     out: &mut Vec<u8>,
 ) -> Result<(), AllocError>
     ensures { Adds result out.old.items out.new.items
-        (type_of_text (S.table shapes.now) place.entry.ids.now place.entry.of id) }
+        (type_of_text (S.table types.now.shapes.now) types.now.ids.now of id) }
 {
     push_text(b" ", out)?;
-    push_pointer(shapes, place, id, out)?;
-    push_type(shapes, place, id, 3, out)?;
+    push_pointer(types, of, id, out)?;
+    push_type(types, of, id, 3, out)?;
     push_text(b"\n", out)
 }

@@ -1,21 +1,29 @@
-//! The types of a stream as Go source: a file that gofmt leaves as it is and that compiles.
+//! The types of a stream as Go source: a file that gofmt leaves as it is, that compiles, and whose types Go decodes the
+//! stream into.
 //!
 //! ```text
 //! package types
 //!
+//! import (
+//!     "time"
+//! )
+//!
 //! // type 65
 //! type Rec struct {
 //!     ID   int
-//!     When Time
+//!     When time.Time
 //! }
 //!
 //! // type 66, which encodes itself by GobEncode
-//! type Time struct{}
+//! type Time = time.Time
 //! ```
 #![tactic(auto)]
 
+mod declared;
 mod definitions;
+mod field_names;
 mod fields;
+mod library;
 mod names;
 mod text;
 mod types;

@@ -1,20 +1,26 @@
 //! Names of types.
 
-ghost use Rattle.std.specs.Prelude.{◌≡◌, bytes_eq};
+ghost use Rattle.std.specs.Prelude.{◌≡◌, ◌&&◌, bytes_eq, chars, if◌then◌else◌, length};
 ghost use Rattle.std.specs.List.{list_all, list_any};
-ghost use Rattle.gob_types.specs.Table.{shape_of};
 ghost use Rattle.gob_source.specs.Adds.{Adds};
-ghost use Rattle.gob_source.specs.Names.{are_letters_or_digits, ends_in_number, is_digit, is_identifier, is_letter};
-ghost use Rattle.gob_source.specs.Names.{is_letter_or_digit, is_named, is_numbered, is_reserved, is_taken};
-ghost use Rattle.gob_source.specs.Names.{is_two_digits};
-ghost use Rattle.gob_source.specs.Names.{own_name};
+ghost use Rattle.gob_source.specs.Names.{ends_in_number, is_digit, is_identifier, is_identifier_text, is_letter};
+ghost use Rattle.gob_source.specs.Names.{is_letter_or_digit, is_numbered, is_reserved};
+ghost use Rattle.gob_source.specs.Names.{is_two_digits, name_width, own_name};
 
+use crate::declared::Declared;
 use crate::text::{push_number, push_text};
 use gob_types::{Shapes, TypeId};
 use std::alloc::AllocError;
+use std::str;
+use ucd_category::{GeneralCategory, GeneralCategoryGroup};
 
-// Go's keywords; the names that this source gives Go's own types; and those that no type of a program may have.
-const RESERVED: [&[u8]; 35] = [
+// A longer name is no identifier: a name stands wherever its type is referred to, and the types of a struct's fields
+// stand behind the longest name.
+const LONGEST: usize = 255;
+
+// Go's keywords; the names of Go's own that this source uses, of types, packages and values; those of the values of its
+// methods; and those that no type of a program may have.
+const RESERVED: [&[u8]; 43] = [
     b"break",
     b"case",
     b"chan",
@@ -47,19 +53,84 @@ const RESERVED: [&[u8]; 35] = [
     b"byte",
     b"string",
     b"complex128",
+    b"error",
+    b"nil",
+    b"big",
+    b"netip",
+    b"time",
+    b"url",
+    b"value",
+    b"data",
     b"_",
     b"init",
     b"main",
 ];
 
-/// Whether the name is letters, digits and underlines of ASCII, no digit first.
+/// Whether Go takes the name as an identifier: letters and digits of Unicode, and underlines, no digit first.
 pub(crate) fn is_identifier(name: &[u8]) -> bool
     ensures { result ≡ is_identifier name.now }
 {
-    match name {
-        [] => false,
-        [first, rest @ ..] => is_letter(*first) && are_letters_or_digits(rest),
+    if name.len() > LONGEST {
+        return false;
     }
+    match str::from_utf8(name) {
+        Ok(text) => is_identifier_text(text),
+        Err(_) => false,
+    }
+}
+
+// Whether the text is a letter, and then letters and digits.
+fn is_identifier_text(text: &str) -> bool
+    ensures { result ≡ is_identifier_text (chars text.now) }
+{
+    let mut begun = false;
+    let mut fits = false;
+    for character in text.chars() {
+        fits = fits_behind(begun, fits, character);
+        begun = true;
+    }
+    fits
+}
+
+// Whether a character is a letter, or behind others that fit a letter or a digit.
+fn fits_behind(begun: bool, fits: bool, character: char) -> bool
+    ensures { result ≡ (if begun then fits && is_letter_or_digit character else is_letter character) }
+{
+    if begun {
+        fits && is_letter_or_digit(character)
+    } else {
+        is_letter(character)
+    }
+}
+
+fn is_letter(character: char) -> bool
+    ensures { result ≡ is_letter character }
+{
+    GeneralCategoryGroup::Letter.contains(GeneralCategory::for_char(character)) || character == '_'
+}
+
+fn is_letter_or_digit(character: char) -> bool
+    ensures { result ≡ is_letter_or_digit character }
+{
+    let category = GeneralCategory::for_char(character);
+    is_letter(character) || category.number() == GeneralCategory::DecimalNumber.number()
+}
+
+/// The columns in which gofmt reckons with a name: one for each character.
+pub(crate) fn name_width(name: &[u8]) -> usize
+    ensures { result ≡ name_width name.now }
+{
+    match str::from_utf8(name) {
+        Ok(text) => count_of(text),
+        Err(_) => name.len(),
+    }
+}
+
+// How many characters the text has.
+fn count_of(text: &str) -> usize
+    ensures { result ≡ length (chars text.now) }
+{
+    text.chars().count()
 }
 
 /// Whether Go has another use for the name.
@@ -69,7 +140,8 @@ pub(crate) fn is_reserved(name: &[u8]) -> bool
     is_word(name, &RESERVED)
 }
 
-fn is_word(name: &[u8], words: &[&[u8]]) -> bool
+/// Whether the name is one of the words.
+pub(crate) fn is_word(name: &[u8], words: &[&[u8]]) -> bool
     ensures { result ≡ list_any (λ word. bytes_eq word.now name.now) words.now }
 {
     for word in words {
@@ -82,48 +154,24 @@ fn is_word(name: &[u8], words: &[&[u8]]) -> bool
 
 /// Appends the name under which the type of this name is declared.
 pub(crate) fn push_own<S: Shapes>(
-    shapes: &S,
-    ids: &[TypeId],
+    types: &Declared<'_, S>,
     id: TypeId,
     name: &[u8],
     out: &mut Vec<u8>,
 ) -> Result<(), AllocError>
-    ensures { Adds result out.old.items out.new.items (own_name (S.table shapes.now) ids.now id name.now) }
+    ensures { Adds result out.old.items out.new.items
+        (own_name (S.table types.now.shapes.now) types.now.ids.now id name.now) }
 {
     if !is_identifier(name) {
         push_text(b"T", out)?;
         return push_number(id.0, out);
     }
     push_text(name, out)?;
-    if is_reserved(name) || is_numbered(name) || is_taken(shapes, ids, id, name) {
+    if is_reserved(name) || is_numbered(name) || types.is_taken(id, name) {
         push_text(b"_", out)?;
         return push_number(id.0, out);
     }
     Ok(())
-}
-
-// Whether a type that stands before this one among these has the name.
-fn is_taken<S: Shapes>(shapes: &S, ids: &[TypeId], id: TypeId, name: &[u8]) -> bool
-    ensures { result ≡ is_taken (S.table shapes.now) ids.now id name.now }
-{
-    for other in ids {
-        if other.0 == id.0 {
-            return false;
-        }
-        if is_named(shapes, *other, name) {
-            return true;
-        }
-    }
-    false
-}
-
-fn is_named<S: Shapes>(shapes: &S, id: TypeId, name: &[u8]) -> bool
-    ensures { result ≡ is_named (shape_of (S.table shapes.now) id) name.now }
-{
-    match shapes.shape_of(id) {
-        Some(shape) => shape.name.as_bytes() == name,
-        None => false,
-    }
 }
 
 // Whether the name looks like one that was made with an id: T66, or Point_66.
@@ -160,26 +208,8 @@ fn are_digits(text: &[u8]) -> bool
     text.iter().all(|c| is_digit(*c))
 }
 
-fn are_letters_or_digits(text: &[u8]) -> bool
-    ensures { result ≡ are_letters_or_digits text.now }
-{
-    text.iter().all(|c| is_letter_or_digit(*c))
-}
-
-fn is_letter(c: u8) -> bool
-    ensures { result ≡ is_letter c }
-{
-    (65 <= c && c <= 90) || (97 <= c && c <= 122) || c == 95
-}
-
 fn is_digit(c: u8) -> bool
     ensures { result ≡ is_digit c }
 {
     48 <= c && c <= 57
-}
-
-fn is_letter_or_digit(c: u8) -> bool
-    ensures { result ≡ is_letter_or_digit c }
-{
-    is_letter(c) || is_digit(c)
 }

@@ -3,36 +3,29 @@
 ghost use Rattle.std.specs.Prelude.{◌≡◌};
 ghost use Rattle.gob_types.specs.Table.{shape_of};
 ghost use Rattle.gob_source.specs.Adds.{Adds};
-ghost use Rattle.gob_source.specs.Source.{are_basic_keys, comes_by, defined_text, has_parts, is_among, is_basic_key};
+ghost use Rattle.gob_source.specs.Source.{are_basic_keys, defined_text, has_parts, is_basic_key};
 ghost use Rattle.gob_source.specs.Source.{is_holder, is_key, is_key_kind};
-ghost use Rattle.gob_source.specs.Source.{key_text, parts_text, pointer_text, type_text};
+ghost use Rattle.gob_source.specs.Source.{key_text, parts_text, pointer_text, type_text, used_name};
 
+use crate::declared::Declared;
+use crate::library::{Package, is_of_package, package_of, package_of_shape, push_library_name};
 use crate::names::{is_identifier, push_own};
 use crate::text::{push_number, push_text};
 use gob_types::{Field, Kind, Shape, Shapes, TypeId};
 use std::alloc::AllocError;
 
-/// Where a type is named: in the definition of one of these types.
-#[derive(Clone, Copy)]
-pub(crate) struct Place<'a> {
-    /// The types that are defined, in order.
-    pub ids: &'a [TypeId],
-    /// The one that is being defined.
-    pub of: TypeId,
-}
-
 /// Appends the type as Go source names it in the definition of another, written out so many levels down where it has
 /// no name.
 #[cycle(source)]
 pub(crate) fn push_type<S: Shapes>(
-    shapes: &S,
-    place: Place<'_>,
+    types: &Declared<'_, S>,
+    of: TypeId,
     id: TypeId,
     levels: u64,
     out: &mut Vec<u8>,
 ) -> Result<(), AllocError>
     ensures { Adds result out.old.items out.new.items
-        (type_text levels (S.table shapes.now) place.entry.ids.now place.entry.of id) }
+        (type_text levels (S.table types.now.shapes.now) types.now.ids.now of id) }
 {
     match id.0 {
         1 => push_text(b"bool", out),
@@ -43,66 +36,82 @@ pub(crate) fn push_type<S: Shapes>(
         6 => push_text(b"string", out),
         7 => push_text(b"complex128", out),
         8 => push_text(b"interface{}", out),
-        _ => push_defined(shapes, place, id, levels, out),
+        _ => push_defined(types, of, id, levels, out),
     }
 }
 
 // Appends a type that isn't basic.
 #[cycle(source)]
 fn push_defined<S: Shapes>(
-    shapes: &S,
-    place: Place<'_>,
+    types: &Declared<'_, S>,
+    of: TypeId,
     id: TypeId,
     levels: u64,
     out: &mut Vec<u8>,
 ) -> Result<(), AllocError>
     ensures { Adds result out.old.items out.new.items
-        (defined_text levels (S.table shapes.now) place.entry.ids.now place.entry.of id) }
+        (defined_text levels (S.table types.now.shapes.now) types.now.ids.now of id) }
 {
-    let Some(shape) = shapes.shape_of(id) else {
+    let Some(shape) = types.shapes.shape_of(id) else {
         return push_text(b"struct{}", out);
     };
-    if !is_among(id, place.ids) {
+    if !types.declares(id) {
         return push_text(b"struct{}", out);
     }
     if levels == 0 || !has_parts(shape) {
-        return push_own(shapes, place.ids, id, shape.name.as_bytes(), out);
+        return push_used(types, id, shape, out);
     }
-    push_parts(shapes, place, &shape.kind, levels - 1, out)
+    push_parts(types, of, &shape.kind, levels - 1, out)
+}
+
+// Appends the name by which other types refer to one.
+fn push_used<S: Shapes>(
+    types: &Declared<'_, S>,
+    id: TypeId,
+    shape: &Shape,
+    out: &mut Vec<u8>,
+) -> Result<(), AllocError>
+    ensures { Adds result out.old.items out.new.items
+        (used_name (S.table types.now.shapes.now) types.now.ids.now id shape.now) }
+{
+    match package_of_shape(shape) {
+        Some(owner) => push_library_name(owner, shape.name.as_bytes(), out),
+        None => push_own(types, id, shape.name.as_bytes(), out),
+    }
 }
 
 /// Appends a list or a map by its parts, written out so many levels down.
 #[cycle(source)]
 pub(crate) fn push_parts<S: Shapes>(
-    shapes: &S,
-    place: Place<'_>,
+    types: &Declared<'_, S>,
+    of: TypeId,
     kind: &Kind,
     levels: u64,
     out: &mut Vec<u8>,
 ) -> Result<(), AllocError>
     ensures { Adds result out.old.items out.new.items
-        (parts_text (pointer_text (S.table shapes.now) place.entry.ids.now place.entry.of)
-        (key_text (S.table shapes.now))
-        (type_text levels (S.table shapes.now) place.entry.ids.now place.entry.of) kind.now) }
+        (parts_text (pointer_text (S.table types.now.shapes.now) types.now.ids.now of)
+        (key_text (S.table types.now.shapes.now))
+        (type_text levels (S.table types.now.shapes.now) types.now.ids.now of) kind.now) }
 {
     match kind {
         Kind::Array { elem, len } => {
             push_text(b"[", out)?;
             push_number(*len, out)?;
             push_text(b"]", out)?;
-            push_pointer(shapes, place, *elem, out)?;
-            push_type(shapes, place, *elem, levels, out)
+            push_pointer(types, of, *elem, out)?;
+            push_type(types, of, *elem, levels, out)
         }
         Kind::Slice { elem } => {
             push_text(b"[]", out)?;
-            push_type(shapes, place, *elem, levels, out)
+            push_type(types, of, *elem, levels, out)
         }
         Kind::Map { key, elem } => {
             push_text(b"map[", out)?;
-            push_key(shapes, *key, out)?;
-            push_type(shapes, place, *key, levels, out)?;
+            push_key(types.shapes, *key, out)?;
+            push_type(types, of, *key, levels, out)?;
             push_text(b"]", out)?;
-            push_type(shapes, place, *elem, levels, out)
+            push_type(types, of, *elem, levels, out)
         }
         _ => push_text(b"struct{}", out),
     }
@@ -110,15 +119,15 @@ pub(crate) fn push_parts<S: Shapes>(
 
 /// Appends the star of a type that stands behind a pointer in the definition of another.
 pub(crate) fn push_pointer<S: Shapes>(
-    shapes: &S,
-    place: Place<'_>,
+    types: &Declared<'_, S>,
+    of: TypeId,
     id: TypeId,
     out: &mut Vec<u8>,
 ) -> Result<(), AllocError>
     ensures { Adds result out.old.items out.new.items
-        (pointer_text (S.table shapes.now) place.entry.ids.now place.entry.of id) }
+        (pointer_text (S.table types.now.shapes.now) types.now.ids.now of id) }
 {
-    if comes_by(place.ids, place.of, id) && is_holder(shapes, id) {
+    if types.comes_by(of, id) && is_holder(types.shapes, id) {
         return push_text(b"*", out);
     }
     Ok(())
@@ -142,18 +151,18 @@ fn is_key<S: Shapes>(shapes: &S, id: TypeId) -> bool
         return id.0 != 5;
     }
     match shapes.shape_of(id) {
-        Some(shape) => is_key_kind(&shape.kind),
+        Some(shape) => is_key_kind(shape.name.as_bytes(), &shape.kind),
         None => true,
     }
 }
 
-fn is_key_kind(kind: &Kind) -> bool
-    ensures { result ≡ is_key_kind kind.now }
+fn is_key_kind(name: &[u8], kind: &Kind) -> bool
+    ensures { result ≡ is_key_kind name.now kind.now }
 {
     match kind {
         Kind::Array { elem, .. } => is_basic_key(*elem),
         Kind::Struct { fields } => are_basic_keys(fields.as_slice()),
-        Kind::Opaque(_) => true,
+        Kind::Opaque(marshal) => !is_of_package(Package::Big, package_of(name, *marshal)),
         _ => false,
     }
 }
@@ -181,27 +190,6 @@ fn has_parts(shape: &Shape) -> bool
         }
         _ => false,
     }
-}
-
-// Whether the type stands among these, and not behind the other.
-fn comes_by(ids: &[TypeId], of: TypeId, id: TypeId) -> bool
-    ensures { result ≡ comes_by ids.now of id }
-{
-    for other in ids {
-        if other.0 == id.0 {
-            return true;
-        }
-        if other.0 == of.0 {
-            return false;
-        }
-    }
-    false
-}
-
-fn is_among(id: TypeId, ids: &[TypeId]) -> bool
-    ensures { result ≡ is_among id ids.now }
-{
-    ids.iter().any(|other| other.0 == id.0)
 }
 
 // Whether the type is a struct, or an array with a name: it may hold itself.

@@ -28,8 +28,12 @@ type Point struct {
 
 const TIME: &str = "package types
 
+import (
+>\"time\"
+)
+
 // type 65, which encodes itself by GobEncode
-type Time struct{}
+type Time = time.Time
 ";
 
 const LIST: &str = "package types

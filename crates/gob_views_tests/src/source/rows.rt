@@ -12,7 +12,7 @@ pub(crate) struct Row {
 }
 
 /// The rows.
-pub(crate) const ROWS: [Row; 14] = [
+pub(crate) const ROWS: [Row; 17] = [
     Row {
         what: "no definition",
         stream: "03 04 00 06",
@@ -59,12 +59,16 @@ type Point struct {
 0d ff 82 01 02 04 02 02 00 00 02 00 00 00",
         source: "package types
 
+import (
+>\"time\"
+)
+
 // type 65
 type Rec struct {
 >ID    int
 >Tags  []string
 >ByNum map[int]string
->When  Time
+>When  time.Time
 >Grid  [2][2]float64
 >Odd   map[T71]bool
 >Any   interface{}
@@ -81,7 +85,7 @@ type T66 []string
 type T67 map[int]string
 
 // type 68, which encodes itself by GobEncode
-type Time struct{}
+type Time = time.Time
 
 // type 70
 type T70 [2][2]float64
@@ -176,8 +180,8 @@ type T65 struct {
         source: "package types
 
 // type 65
-type T65 struct {
->// L\\xc3\\xa4nge int
+type Größe struct {
+>Länge int
 }
 ",
     },
@@ -301,6 +305,130 @@ type type_65 struct {
 >// X int
 >// go uint
 >//  bool
+}
+",
+    },
+    // the fields are Länge, X and an Arabic 3, Y, and three whose names Go takes for none
+    Row {
+        what: "names as Go takes them",
+        stream: "
+41 ff 81 03 01 01 06 e5 af b8 e6 b3 95 01 ff 82 00 01 06 01 06 4c c3 a4 6e 67 65 01 04 00 01 03 58 d9 a3 01 06 00 01 01
+59 01 04 00 01 02 41 ff 01 04 00 01 02 41 2d 01 04 00 01 01 39 01 04 00 00 00",
+        source: "package types
+
+// type 65
+type 寸法 struct {
+>Länge int
+>X٣    uint
+>Y     int
+>// A\\xff int
+>// A- int
+>// 9 int
+}
+",
+    },
+    Row {
+        what: "types of Go's library, and keys of math/big",
+        stream: "
+39 ff 81 03 01 01 04 50 61 67 65 01 ff 82 00 01 04 01 02 41 74 01 ff 84 00 01 05 57 68 65 72 65 01 ff 86 00 01 04 46 72
+6f 6d 01 ff 88 00 01 04 53 65 65 6e 01 ff 8a 00 00 00
+10 ff 83 05 01 01 04 54 69 6d 65 01 ff 84 00 00 00
+0f ff 85 06 01 01 03 55 52 4c 01 ff 86 00 00 00
+14 ff 87 06 01 01 08 41 64 64 72 50 6f 72 74 01 ff 88 00 00 00
+2b ff 89 04 01 01 19 6d 61 70 5b 2a 62 69 67 2e 49 6e 74 5d 6e 65 74 69 70 2e 50 72 65 66 69 78 01 ff 8a 00 01 ff 8c 01
+ff 8e 00 00
+0f ff 8b 05 01 01 03 49 6e 74 01 ff 8c 00 00 00
+12 ff 8d 06 01 01 06 50 72 65 66 69 78 01 ff 8e 00 00 00",
+        source: "package types
+
+import (
+>\"math/big\"
+>\"net/netip\"
+>\"net/url\"
+>\"time\"
+)
+
+// type 65
+type Page struct {
+>At    time.Time
+>Where url.URL
+>From  netip.AddrPort
+>Seen  map[*big.Int]netip.Prefix
+}
+
+// type 66, which encodes itself by GobEncode
+type Time = time.Time
+
+// type 67, which encodes itself by MarshalBinary
+type URL = url.URL
+
+// type 68, which encodes itself by MarshalBinary
+type AddrPort = netip.AddrPort
+
+// type 69
+type T69 map[*big.Int]netip.Prefix
+
+// type 70, which encodes itself by GobEncode
+type Int = big.Int
+
+// type 71, which encodes itself by MarshalBinary
+type Prefix = netip.Prefix
+",
+    },
+    Row {
+        what: "types that encode themselves, of no library: a name by another marshal, one taken, and one in text",
+        stream: "
+20 ff 81 03 01 01 04 4b 65 70 74 01 ff 82 00 01 02 01 01 41 01 ff 84 00 01 01 42 01 ff 8a 00 00 00
+0f ff 83 05 01 01 03 55 52 4c 01 ff 84 00 00 00
+2b ff 89 04 01 01 19 6d 61 70 5b 6d 61 69 6e 2e 76 61 6c 75 65 5d 6d 61 69 6e 2e 65 72 72 6f 72 01 ff 8a 00 01 ff 86 01
+ff 88 00 00
+11 ff 85 06 01 01 05 76 61 6c 75 65 01 ff 86 00 00 00
+11 ff 87 07 01 01 05 65 72 72 6f 72 01 ff 88 00 00 00",
+        source: "package types
+
+// type 65
+type Kept struct {
+>A URL
+>B map[value_67]error_68
+}
+
+// type 66, which encodes itself by GobEncode
+type URL string
+
+func (value URL) GobEncode() ([]byte, error) {
+>return []byte(value), nil
+}
+
+func (value *URL) GobDecode(data []byte) error {
+>*value = URL(data)
+>return nil
+}
+
+// type 69
+type T69 map[value_67]error_68
+
+// type 67, which encodes itself by MarshalBinary
+type value_67 string
+
+func (value value_67) MarshalBinary() ([]byte, error) {
+>return []byte(value), nil
+}
+
+func (value *value_67) UnmarshalBinary(data []byte) error {
+>*value = value_67(data)
+>return nil
+}
+
+// type 68, which encodes itself by MarshalText
+type error_68 string
+
+func (value error_68) MarshalText() ([]byte, error) {
+>return []byte(value), nil
+}
+
+func (value *error_68) UnmarshalText(data []byte) error {
+>*value = error_68(data)
+>return nil
 }
 ",
     },

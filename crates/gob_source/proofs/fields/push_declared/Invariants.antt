@@ -1,10 +1,13 @@
--- What is appended, and what the rest would append, is all.
+-- What is appended, and what the rest would append, is all, and the names are those of the fields before.
 use Rattle.std.proofs.Common.{◌≡◌, ◌++◌, [], drop, take}
+use Rattle.gob_source.specs.Machine.{KnowsNames}
 use Rattle.gob_source.specs.Source.{declared_text}
 use Rattle.gob_source.proofs.fields.push_declared.Given as goal
 
-abbrev pub invariant-loop-index : goal.invariant-loop-index
-invariant-loop-index g l =
-    l.out.items ++ declared_text (g.S.Shapes.table l.shapes) l.place.ids.now l.place.of l.width (take l.index l.fields)
-    (drop l.index l.fields)
-    ≡ l.fn.out.items ++ declared_text (g.S.Shapes.table l.shapes) l.place.ids.now l.place.of l.width [] l.fields
+abbrev pub invariant-loop-field : goal.invariant-loop-field
+invariant-loop-field g l = record {
+  text : l.out.items ++ declared_text (g.S.Shapes.table l.types.shapes.now) l.types.ids.now l.of l.width
+      (take l.field-index l.fields) (drop l.field-index l.fields)
+      ≡ l.fn.out.items ++ declared_text (g.S.Shapes.table l.types.shapes.now) l.types.ids.now l.of l.width [] l.fields;
+  known : KnowsNames l.seen (take l.field-index l.fields);
+}
