@@ -61,13 +61,13 @@ func init() {
 	streams["zones"] = func() {
 		india := time.FixedZone("IST", 5*3600+1800)
 		pacific := time.FixedZone("PST", -8*3600)
-		seconds := time.FixedZone("LMT", 3600+60+1)
+		seconds := time.FixedZone("LMT", 3600+60+59)
 		at := time.Date(2026, 11, 27, 7, 33, 5, 120000000, india)
 		encode(os.Stdout, Zones{
 			At: at,
 			Before: []time.Time{
 				at.UTC(), at.In(pacific), time.Date(1969, 12, 31, 23, 59, 59, 999999999, time.UTC), {},
-				time.Date(9999, 12, 30, 0, 0, 0, 0, time.UTC),
+				time.Date(9999, 12, 31, 23, 59, 59, 999999999, time.UTC),
 			},
 			Named: map[string]time.Time{"new year": time.Date(2000, 1, 1, 0, 0, 0, 1, pacific)},
 		}, at, time.Date(1880, 1, 1, 0, 0, 0, 0, seconds))
@@ -146,12 +146,6 @@ func plain(value interface{}) interface{} {
 			[2]float64{float64(real(v.Pair)), float64(imag(v.Pair))}, [2]float64{real(v.Complex), imag(v.Complex)},
 			v.Text, v.Bytes,
 		}
-	case netip.Addr:
-		b, err := v.MarshalBinary()
-		if err != nil {
-			log.Fatal(err)
-		}
-		return b
 	case Numbers:
 		bigs := []*big.Int{}
 		for i := range v.Bigs {

@@ -10,7 +10,8 @@ use std::alloc::Global;
 use std::test::Fail;
 
 // What, the stream, and the JSON of its last item: plain, tagged, and plain with the zeros that Go leaves out. The
-// bytes are those of interop/filled, but for the last two streams. An empty line stands between two rows.
+// bytes are those of interop/filled, but for the last six streams. The last four are what Go sends, and their plain
+// JSON is that of Go's encoding/json. An empty line stands between two rows.
 const ROWS: &str = r#"
 an int | 0a 10 00 03 69 6e 74 04 02 00 0a | 5 | {"int":5} | 5
 
@@ -30,6 +31,20 @@ zeros, and a nil before and behind what is held | 0c ff 81 02 01 02 ff 82 00 01 
 a name that is no text, and parts before the nil | 25 ff 81 03 01 01 05 4f 75 74 65 72 01 ff 82 00 01 03 01 01 4e 01
 04 00 01 01 49 01 10 00 01 01 4d 01 04 00 00 00 0d ff 82 02 02 ff 80 04 02 00 0a 01 08
 00 | {"I":5,"M":4} | {"I":{"0xff80":5},"M":4} | {"N":0,"I":5,"M":4}
+
+a time behind a pointer, as Go sends it | 17 ff 85 03 01 01 01 50 01 ff 86 00 01 01 01 02 41 74 01 ff 82 00 00 00 0a ff
+81 05 01 02 ff 88 00 00 00 14 ff 86 01 0f 01 00 00 00 0e c2 8b e7 70 00 00 00 00 ff ff
+00 | {"At":"2009-11-10T23:00:00Z"} | {"At":"2009-11-10T23:00:00Z"} | {"At":"2009-11-10T23:00:00Z"}
+
+a whole number behind a pointer, as Go sends it | 16 ff 89 03 01 01 01 4e 01 ff 8a 00 01 01 01 01 4e 01 ff 8c 00 00 00
+0a ff 8b 05 01 02 ff 8e 00 00 00 07 ff 8a 01 02 03 ff 00 | {"N":-255} | {"N":-255} | {"N":-255}
+
+a time in an interface | 16 10 00 09 74 69 6d 65 2e 54 69 6d 65 ff 81 05 01 02 ff 82 00 00 00 14 ff 82 11 00 0f 01 00 00
+00 0e c2 8b e7 70 00 00 00 00 ff
+ff | "2009-11-10T23:00:00Z" | {"time.Time":"2009-11-10T23:00:00Z"} | "2009-11-10T23:00:00Z"
+
+a whole number in an interface | 15 10 00 08 2a 62 69 67 2e 49 6e 74 ff 8b 05 01 02 ff 8e 00 00 00 07 ff 8c 04 00 02 03
+07 | -7 | {"*big.Int":-7} | -7
 "#;
 
 // The style in which the column has the values.

@@ -1,5 +1,5 @@
 -- What a nil says that a text fills, and which is the next.
-use Rattle.std.proofs.Common.{◌≡◌, ℕ, zero, suc, ◌+◌, ◌<◌, ◌≤◌, List, [], ◌∷◌, Option, Some, None, refl, sym, subst, ap}
+use Rattle.std.proofs.Common.{◌≡◌, ℕ, zero, suc, ◌+◌, ◌<◌, ◌≤◌, List, [], ◌∷◌, Option, Some, None, refl, sym, subst}
 use Rattle.std.proofs.Common.{get_or, length, arith, ◌∙◌}
 use Rattle.std.specs.Prelude.{slice_get, string_bytes}
 use Rattle.std.proofs.lemmas.Option.{slice_get_past, slice_get_read}
@@ -9,7 +9,7 @@ use Rattle.json.specs.Lex.{tokens}
 use Rattle.json.specs.Tree.{json_tokens}
 use Rattle.gob_types.proofs.PublicLaws.{some_injective}
 use Rattle.gob_plain.specs.declared.fillers.Filler.{Filler}
-use Rattle.gob_plain.specs.Fillers.{FillerSays, SaysFiller, SaysMaybeNamed, HasJson, IsFiller, AreFillers}
+use Rattle.gob_plain.specs.Fillers.{FillerSays, SaysFiller, SaysMaybeNamed, IsFiller, AreFillers}
 use Rattle.gob_plain.specs.Plain.{name_text}
 use Rattle.std.specs.Borrow.{Bor}
 

@@ -1,5 +1,6 @@
 //! Streams of opaque values, and the JSON of their last values, in the usual style and raw. The bytes of times are
-//! those of Go's Time.MarshalBinary, and those of whole numbers of Go's big.Int.GobEncode, worked out by hand.
+//! those of Go's Time.MarshalBinary, and those of whole numbers of Go's big.Int.GobEncode, worked out by hand. The JSON
+//! of types without a name, of addresses and of UUIDs is that of Go's encoding/json, where it isn't base64.
 
 /// The rows of the usual style.
 pub(crate) const OPAQUE: &str = r#"
@@ -20,7 +21,7 @@ a time at an offset of nothing | TIME 13 ff 82 00 0f 01 00 00 00 0e c2 8b e7 70 
 00 | "2009-11-10T23:00:00+00:00"
 
 a time ahead by minutes and seconds | TIME 14 ff 82 00 10 02 00 00 00 0d f3 e7 73 ec 00 00 00 00 00 13
-20 | "1900-01-01T00:00:00+00:20"
+20 | "1900-01-01T00:00:00+00:19"
 
 a time behind by minutes and seconds | TIME 14 ff 82 00 10 02 00 00 00 0d f3 e7 7e 71 00 00 00 00 ff e7
 eb | "1900-01-01T00:00:00-00:25"
@@ -87,6 +88,147 @@ the bytes of a whole number in a type of another name | 0f ff 81 05 01 01 03 52 
 
 the bytes of a whole number in a binary type | 0f ff 81 06 01 01 03 49 6e 74 01 ff 82 00 00 00 06 ff 82 00 02 02
 07 | "Agc="
+
+a map of times, whose type has no name | 0f ff 83 04 01 02 ff 84 00 01 0c 01 ff 82 00 00 0a ff 81 05 01 02 ff 82 00 00
+00 16 ff 84 00 01 01 61 0f 01 00 00 00 0e c2 8b e7 70 00 00 00 00 ff ff | {"a":"2009-11-10T23:00:00Z"}
+
+a time behind a pointer | 17 ff 85 03 01 01 01 50 01 ff 86 00 01 01 01 02 41 74 01 ff 82 00 00 00 0a ff 81 05 01 02 ff
+82 00 00 00 14 ff 86 01 0f 01 00 00 00 0e c2 8b e7 70 00 00 00 00 ff ff 00 | {"At":"2009-11-10T23:00:00Z"}
+
+a whole number behind a pointer | 16 ff 89 03 01 01 01 4e 01 ff 8a 00 01 01 01 01 4e 01 ff 8c 00 00 00 0a ff 8b 05 01 02
+ff 8c 00 00 00 07 ff 8a 01 02 03 ff 00 | {"N":-255}
+
+a slice of whole numbers | 0d ff 8f 02 01 02 ff 90 00 01 ff 8c 00 00 0a ff 8b 05 01 02 ff 8c 00 00 00 07 ff 90 00 01 02
+02 07 | [7]
+
+the last time in UTC | 0a ff 81 05 01 02 ff 82 00 00 00 13 ff 82 00 0f 01 00 00 00 49 77 86 38 7f 3b 9a c9 ff ff
+ff | "9999-12-31T23:59:59.999999999Z"
+
+the last time on a clock behind UTC | 0a ff 81 05 01 02 ff 82 00 00 00 13 ff 82 00 0f 01 00 00 00 49 77 86 7e cf 00 00
+00 00 fe d4 | "9999-12-31T23:59:59-05:00"
+
+the first time on a clock ahead of UTC | 0a ff 81 05 01 02 ff 82 00 00 00 13 ff 82 00 0f 01 00 00 00 00 00 00 00 00 00
+00 00 00 00 3c | "0001-01-01T01:00:00+01:00"
+
+the first time on a clock behind UTC, which shows the year 0 | 0a ff 81 05 01 02 ff 82 00 00 00 13 ff 82 00 0f 01 00 00
+00 00 00 00 00 00 00 00 00 00 ff c4 | "AQAAAAAAAAAAAAAAAP/E"
+
+the year 10000 | 0a ff 81 05 01 02 ff 82 00 00 00 13 ff 82 00 0f 01 00 00 00 49 77 86 38 80 00 00 00 00 ff
+ff | "AQAAAEl3hjiAAAAAAP//"
+
+a second before the first time | 0a ff 81 05 01 02 ff 82 00 00 00 13 ff 82 00 0f 01 ff ff ff ff ff ff ff ff 00 00 00 00
+00 3c | "Af//////////AAAAAAA8"
+
+a time ahead by seconds | 0a ff 81 05 01 02 ff 82 00 00 00 14 ff 82 00 10 02 00 00 00 0d f3 e7 78 60 00 00 00 00 00 00
+20 | "1900-01-01T00:00:00+00:00"
+
+a time behind by seconds | 0a ff 81 05 01 02 ff 82 00 00 00 14 ff 82 00 10 02 00 00 00 0d f3 e7 78 a0 00 00 00 00 00 00
+e0 | "1900-01-01T00:00:00+00:00"
+
+a time almost a day ahead | 0a ff 81 05 01 02 ff 82 00 00 00 14 ff 82 00 10 02 00 00 00 0e af fd e9 01 00 00 00 00 05 9f
+3b | "2000-01-01T00:00:00+23:59"
+
+a time almost a day behind | 0a ff 81 05 01 02 ff 82 00 00 00 14 ff 82 00 10 02 00 00 00 0e b0 00 8b ff 00 00 00 00 fa
+61 c5 | "2000-01-01T00:00:00-23:59"
+
+a time a day ahead | 0a ff 81 05 01 02 ff 82 00 00 00 13 ff 82 00 0f 01 00 00 00 0e af fd e9 00 00 00 00 00 05
+a0 | "AQAAAA6v/ekAAAAAAAWg"
+
+a time of version 2 without seconds | 0a ff 81 05 01 02 ff 82 00 00 00 14 ff 82 00 10 02 00 00 00 0d f3 e7 73 ec 00 00
+00 00 00 13 00 | "AgAAAA3z53PsAAAAAAATAA=="
+
+a time of version 2 with a minute of seconds | 0a ff 81 05 01 02 ff 82 00 00 00 14 ff 82 00 10 02 00 00 00 0d f3 e7 73
+ec 00 00 00 00 00 13 3c | "AgAAAA3z53PsAAAAAAATPA=="
+
+a time whose seconds go back from its minutes | 0a ff 81 05 01 02 ff 82 00 00 00 14 ff 82 00 10 02 00 00 00 0d f3 e7 73
+ec 00 00 00 00 00 13 e0 | "AgAAAA3z53PsAAAAAAAT4A=="
+
+a time whose seconds go on from minutes behind | 0a ff 81 05 01 02 ff 82 00 00 00 14 ff 82 00 10 02 00 00 00 0d f3 e7 73
+ec 00 00 00 00 ff e7 15 | "AgAAAA3z53PsAAAAAP/nFQ=="
+
+UTC with seconds | 0a ff 81 05 01 02 ff 82 00 00 00 14 ff 82 00 10 02 00 00 00 0d f3 e7 73 ec 00 00 00 00 ff ff
+eb | "AgAAAA3z53PsAAAAAP//6w=="
+
+bytes without a name that are neither | 0a ff 81 05 01 02 ff 82 00 00 00 07 ff 82 00 03 02 00 07 | "AgAH"
+
+no bytes without a name | 0a ff 81 05 01 02 ff 82 00 00 00 04 ff 82 00 00 | ""
+
+a whole number of 15 bytes without a name | 0a ff 81 05 01 02 ff 82 00 00 00 14 ff 82 00 10 02 ff 00 00 00 00 00 00 00
+00 00 00 00 00 00 00 | 1324035698926381045275276563951124480
+
+a whole number of 0 without a name | 0a ff 81 05 01 02 ff 82 00 00 00 05 ff 82 00 01 02 | 0
+
+an address of IPv4 | 10 ff 81 06 01 01 04 41 64 64 72 01 ff 82 00 00 00 08 ff 82 00 04 0a 00 00 01 | "10.0.0.1"
+
+an address of IPv6 | 10 ff 81 06 01 01 04 41 64 64 72 01 ff 82 00 00 00 14 ff 82 00 10 20 01 0d b8 00 00 00 00 00 00 00
+00 00 00 00 01 | "2001:db8::1"
+
+an address of IPv6 with a zone | 10 ff 81 06 01 01 04 41 64 64 72 01 ff 82 00 00 00 18 ff 82 00 14 fe 80 00 00 00 00 00
+00 00 00 00 00 00 00 00 01 65 74 68 30 | "fe80::1%eth0"
+
+an address of IPv4 in IPv6 | 10 ff 81 06 01 01 04 41 64 64 72 01 ff 82 00 00 00 14 ff 82 00 10 00 00 00 00 00 00 00 00
+00 00 ff ff 0a 00 00 01 | "::ffff:10.0.0.1"
+
+an address of IPv4 in IPv6 with a zone | 10 ff 81 06 01 01 04 41 64 64 72 01 ff 82 00 00 00 18 ff 82 00 14 00 00 00 00
+00 00 00 00 00 00 ff ff 0a 00 00 01 65 74 68 30 | "::ffff:10.0.0.1%eth0"
+
+an address of IPv6 with two runs of zeros | 10 ff 81 06 01 01 04 41 64 64 72 01 ff 82 00 00 00 14 ff 82 00 10 00 01 00
+00 00 00 00 02 00 00 00 00 00 00 00 03 | "1:0:0:2::3"
+
+an address with one zero | 10 ff 81 06 01 01 04 41 64 64 72 01 ff 82 00 00 00 14 ff 82 00 10 00 01 00 00 00 02 00 03 00
+04 00 05 00 06 00 07 | "1:0:2:3:4:5:6:7"
+
+the address of zeros | 10 ff 81 06 01 01 04 41 64 64 72 01 ff 82 00 00 00 14 ff 82 00 10 00 00 00 00 00 00 00 00 00 00
+00 00 00 00 00 00 | "::"
+
+no address | 10 ff 81 06 01 01 04 41 64 64 72 01 ff 82 00 00 00 04 ff 82 00 00 | ""
+
+an address of IPv4 and a port | 14 ff 81 06 01 01 08 41 64 64 72 50 6f 72 74 01 ff 82 00 00 00 0a ff 82 00 06 0a 00 00
+01 90 1f | "10.0.0.1:8080"
+
+an address of IPv6, its zone and a port | 14 ff 81 06 01 01 08 41 64 64 72 50 6f 72 74 01 ff 82 00 00 00 1a ff 82 00 16
+fe 80 00 00 00 00 00 00 00 00 00 00 00 00 00 01 65 74 68 30 bb 01 | "[fe80::1%eth0]:443"
+
+an address of IPv6 and a port | 14 ff 81 06 01 01 08 41 64 64 72 50 6f 72 74 01 ff 82 00 00 00 16 ff 82 00 12 00 00 00
+00 00 00 00 00 00 00 00 00 00 00 00 01 ff ff | "[::1]:65535"
+
+a prefix of IPv4 | 12 ff 81 06 01 01 06 50 72 65 66 69 78 01 ff 82 00 00 00 09 ff 82 00 05 0a 00 00 00 08 | "10.0.0.0/8"
+
+a prefix of IPv6 | 12 ff 81 06 01 01 06 50 72 65 66 69 78 01 ff 82 00 00 00 15 ff 82 00 11 20 01 0d b8 00 00 00 00 00 00
+00 00 00 00 00 00 20 | "2001:db8::/32"
+
+a prefix of all bits | 12 ff 81 06 01 01 06 50 72 65 66 69 78 01 ff 82 00 00 00 15 ff 82 00 11 00 00 00 00 00 00 00 00
+00 00 00 00 00 00 00 01 80 | "::1/128"
+
+a UUID | 10 ff 81 06 01 01 04 55 55 49 44 01 ff 82 00 00 00 14 ff 82 00 10 6b a7 b8 10 9d ad 11 d1 80 b4 00 c0 4f d4 30
+c8 | "6ba7b810-9dad-11d1-80b4-00c04fd430c8"
+
+no address and no port | 14 ff 81 06 01 01 08 41 64 64 72 50 6f 72 74 01 ff 82 00 00 00 06 ff 82 00 02 00 00 | "AAA="
+
+no prefix | 12 ff 81 06 01 01 06 50 72 65 66 69 78 01 ff 82 00 00 00 05 ff 82 00 01 00 | "AA=="
+
+an address of 3 bytes | 10 ff 81 06 01 01 04 41 64 64 72 01 ff 82 00 00 00 07 ff 82 00 03 0a 00 00 | "CgAA"
+
+an address of 15 bytes | 10 ff 81 06 01 01 04 41 64 64 72 01 ff 82 00 00 00 13 ff 82 00 0f 00 00 00 00 00 00 00 00 00 00
+00 00 00 00 00 | "AAAAAAAAAAAAAAAAAAAA"
+
+an address whose zone is no UTF-8 | 10 ff 81 06 01 01 04 41 64 64 72 01 ff 82 00 00 00 15 ff 82 00 11 00 00 00 00 00 00
+00 00 00 00 00 00 00 00 00 00 ff | "AAAAAAAAAAAAAAAAAAAAAP8="
+
+a prefix of more bits than IPv4 has | 12 ff 81 06 01 01 06 50 72 65 66 69 78 01 ff 82 00 00 00 09 ff 82 00 05 0a 00 00
+00 21 | "CgAAACE="
+
+a prefix of more bits than IPv6 has | 12 ff 81 06 01 01 06 50 72 65 66 69 78 01 ff 82 00 00 00 15 ff 82 00 11 00 00 00
+00 00 00 00 00 00 00 00 00 00 00 00 00 81 | "AAAAAAAAAAAAAAAAAAAAAIE="
+
+a prefix with a zone | 12 ff 81 06 01 01 06 50 72 65 66 69 78 01 ff 82 00 00 00 16 ff 82 00 12 00 00 00 00 00 00 00 00
+00 00 00 00 00 00 00 00 65 20 | "AAAAAAAAAAAAAAAAAAAAAGUg"
+
+an address of IPv4 and half a port | 14 ff 81 06 01 01 08 41 64 64 72 50 6f 72 74 01 ff 82 00 00 00 09 ff 82 00 05 0a 00
+00 01 90 | "CgAAAZA="
+
+a UUID of 15 bytes | 10 ff 81 06 01 01 04 55 55 49 44 01 ff 82 00 00 00 13 ff 82 00 0f 00 00 00 00 00 00 00 00 00 00 00
+00 00 00 00 | "AAAAAAAAAAAAAAAAAAAA"
 "#;
 
 /// The rows of the raw style.

@@ -130,8 +130,13 @@ fn values_want_memory(rt: HostRuntime) {
         let is_right = is_due(rt.alloc(), row, style_of(false, false));
         assert!(rt; is_right != Ok(false), "{row}");
     }
-    // A time, a whole number, and zeros.
-    for row in [row_at(OPAQUE, 0), row_at(OPAQUE, 25), row_at(ZEROS, 0)] {
+    // A time, a whole number, an address with a port, and zeros.
+    for row in [
+        row_at(OPAQUE, 0),
+        row_at(OPAQUE, 25),
+        row_at(OPAQUE, 68),
+        row_at(ZEROS, 0),
+    ] {
         let is_right = is_due(rt.alloc(), row, style_of(true, false));
         assert!(rt; is_right != Ok(false), "{row}");
     }

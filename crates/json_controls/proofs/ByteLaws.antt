@@ -66,6 +66,10 @@ held_read held.Punctuation =
 held_read held.Isolates =
     both_read (plain_read 0xe2 (λ e. omega arith) (λ e. omega arith) (omega arith))
     (plain_read 0x81 (λ e. omega arith) (λ e. omega arith) (omega arith))
+held_read held.High = plain_read 0xef (λ e. omega arith) (λ e. omega arith) (omega arith)
+held_read held.Forms =
+    both_read (plain_read 0xef (λ e. omega arith) (λ e. omega arith) (omega arith))
+    (plain_read 0xbb (λ e. omega arith) (λ e. omega arith) (omega arith))
 
 -- ---- bytes below a bound, one by one
 
@@ -336,13 +340,18 @@ latin_read = (
   ),
 )
 
-left_read : ControlReads held.Punctuation 0x8e
+wide_read : Each (λ k. ControlReads held.Punctuation (139 + k)) 5
 unfolding content lex code_unit encode
-left_read = record { read = λ r. refl; lexed = λ r. refl }
-
-right_read : ControlReads held.Punctuation 0x8f
-unfolding content lex code_unit encode
-right_read = record { read = λ r. refl; lexed = λ r. refl }
+wide_read = (
+  record { read = λ r. refl; lexed = λ r. refl },
+  (
+    record { read = λ r. refl; lexed = λ r. refl },
+    (
+      record { read = λ r. refl; lexed = λ r. refl },
+      (record { read = λ r. refl; lexed = λ r. refl }, (record { read = λ r. refl; lexed = λ r. refl }, tt)),
+    ),
+  ),
+)
 
 line_read : Each (λ k. ControlReads held.Punctuation (168 + k)) 7
 unfolding content lex code_unit encode
@@ -376,6 +385,10 @@ isolate_read = (
   ),
 )
 
+order_read : ControlReads held.Forms 0xbf
+unfolding content lex code_unit encode
+order_read = record { read = λ r. refl; lexed = λ r. refl }
+
 in_range : (P : ℕ → Type 0) (low n x : ℕ) → Each (λ k. P (low + k)) n → low ≤ x → x < low + n → P x
 in_range P low n x h a b =
     let is : low + (x - low) ≡ x = omega arith in subst P is (each_sound (λ k. P (low + k)) n h (x - low) (omega arith))
@@ -389,22 +402,24 @@ control_read held.Latin x e =
     in_range (ControlReads held.Latin) 128 32 x latin_read (omega arith) (omega arith)
 control_read held.Arabic x e = subst (ControlReads held.Arabic) (sym (eqb-true x 0x9c e)) mark_read
 control_read held.General x e = absurd (true≢false (sym e))
-control_read held.Punctuation x e = by (or_cases (x == 0x8e) _ e)
+control_read held.Punctuation x e = by (or_cases (nat_le 0x8b x && nat_le x 0x8f) _ e)
   where
-    last : ((x == 0x8f) ≡ true) ⊎ ((nat_le 0xa8 x && nat_le x 0xae) ≡ true) → ControlReads held.Punctuation x
-    last (inl e) = subst (ControlReads held.Punctuation) (sym (eqb-true x 0x8f e)) right_read
-    last (inr e) =
+    by : ((nat_le 0x8b x && nat_le x 0x8f) ≡ true) ⊎ ((nat_le 0xa8 x && nat_le x 0xae) ≡ true)
+        → ControlReads held.Punctuation x
+    by (inl e) =
+        let p = and_parts _ _ e in
+        let low = leb-true 0x8b x p.0 in
+        let high = leb-true x 0x8f p.1 in
+        in_range (ControlReads held.Punctuation) 139 5 x wide_read (omega arith) (omega arith)
+    by (inr e) =
         let p = and_parts _ _ e in
         let low = leb-true 0xa8 x p.0 in
         let high = leb-true x 0xae p.1 in
         in_range (ControlReads held.Punctuation) 168 7 x line_read (omega arith) (omega arith)
-
-    by : ((x == 0x8e) ≡ true) ⊎ (((x == 0x8f) || (nat_le 0xa8 x && nat_le x 0xae)) ≡ true)
-        → ControlReads held.Punctuation x
-    by (inl e) = subst (ControlReads held.Punctuation) (sym (eqb-true x 0x8e e)) left_read
-    by (inr e) = last (or_cases (x == 0x8f) _ e)
 control_read held.Isolates x e =
     let p = and_parts _ _ e in
     let low = leb-true 0xa6 x p.0 in
     let high = leb-true x 0xa9 p.1 in
     in_range (ControlReads held.Isolates) 166 4 x isolate_read (omega arith) (omega arith)
+control_read held.High x e = absurd (true≢false (sym e))
+control_read held.Forms x e = subst (ControlReads held.Forms) (sym (eqb-true x 0xbf e)) order_read

@@ -14,7 +14,12 @@ use Rattle.json_controls.specs.Controls.{AreBelowControls, emitted, shown, shown
 
 small_begun : (x : ℕ) → x < 127 → begun x ≡ held.Nothing
 small_begun x h =
-    rw (ne_eqb x 0xc2 (λ e. omega arith), ne_eqb x 0xd8 (λ e. omega arith), ne_eqb x 0xe2 (λ e. omega arith)) refl
+    rw (
+      ne_eqb x 0xc2 (λ e. omega arith),
+      ne_eqb x 0xd8 (λ e. omega arith),
+      ne_eqb x 0xe2 (λ e. omega arith),
+      ne_eqb x 0xef (λ e. omega arith),
+    ) refl
 
 small_control : (h : Held) (x : ℕ) → x < 127 → is_control h x ≡ false
 small_control held.Nothing x l = ne_eqb x 0x7f (λ e. omega arith)
@@ -22,8 +27,10 @@ small_control held.Latin x l = ap (λ b. b && nat_le x 0x9f) (lt-leb 0x80 x (ome
 small_control held.Arabic x l = ne_eqb x 0x9c (λ e. omega arith)
 small_control held.General x l = refl
 small_control held.Punctuation x l =
-    rw (ne_eqb x 0x8e (λ e. omega arith), ne_eqb x 0x8f (λ e. omega arith), lt-leb 0xa8 x (omega arith)) refl
+    rw (lt-leb 0x8b x (omega arith), lt-leb 0xa8 x (omega arith)) refl
 small_control held.Isolates x l = ap (λ b. b && nat_le x 0xa9) (lt-leb 0xa6 x (omega arith))
+small_control held.High x l = refl
+small_control held.Forms x l = ne_eqb x 0xbf (λ e. omega arith)
 
 small_next : (h : Held) (x : ℕ) → x < 127 → next h x ≡ held.Nothing
 small_next held.Nothing x l = small_begun x l
@@ -32,6 +39,8 @@ small_next held.Arabic x l = refl
 small_next held.General x l = rw (ne_eqb x 0x80 (λ e. omega arith), ne_eqb x 0x81 (λ e. omega arith)) refl
 small_next held.Punctuation x l = refl
 small_next held.Isolates x l = refl
+small_next held.High x l = rw (ne_eqb x 0xbb (λ e. omega arith)) refl
+small_next held.Forms x l = refl
 
 -- ---- the three ways of a byte
 
@@ -53,14 +62,16 @@ small_shown h x r l = shown_copied h x r (small_control h x l) (small_next h x l
 
 -- what is held back next are the bytes so far
 held_begun : (x : ℕ) → is_nothing (begun x) ≡ false → held_bytes (begun x) ≡ x ∷ []
-held_begun x n = by (cases_Bool (x == 0xc2)) (cases_Bool (x == 0xd8)) (cases_Bool (x == 0xe2))
+held_begun x n = by (cases_Bool (x == 0xc2)) (cases_Bool (x == 0xd8)) (cases_Bool (x == 0xe2)) (cases_Bool (x == 0xef))
   where
     by : ((x == 0xc2) ≡ true) ⊎ ((x == 0xc2) ≡ false) → ((x == 0xd8) ≡ true) ⊎ ((x == 0xd8) ≡ false)
-        → ((x == 0xe2) ≡ true) ⊎ ((x == 0xe2) ≡ false) → held_bytes (begun x) ≡ x ∷ []
-    by (inl a) b c = rw a (ap (λ y. y ∷ []) (sym (eqb-true x 0xc2 a)))
-    by (inr a) (inl b) c = rw (a, b) (ap (λ y. y ∷ []) (sym (eqb-true x 0xd8 b)))
-    by (inr a) (inr b) (inl c) = rw (a, b, c) (ap (λ y. y ∷ []) (sym (eqb-true x 0xe2 c)))
-    by (inr a) (inr b) (inr c) = absurd (true≢false (sym (rw (a, b, c) refl) ∙ n))
+        → ((x == 0xe2) ≡ true) ⊎ ((x == 0xe2) ≡ false) → ((x == 0xef) ≡ true) ⊎ ((x == 0xef) ≡ false)
+        → held_bytes (begun x) ≡ x ∷ []
+    by (inl a) b c d = rw a (ap (λ y. y ∷ []) (sym (eqb-true x 0xc2 a)))
+    by (inr a) (inl b) c d = rw (a, b) (ap (λ y. y ∷ []) (sym (eqb-true x 0xd8 b)))
+    by (inr a) (inr b) (inl c) d = rw (a, b, c) (ap (λ y. y ∷ []) (sym (eqb-true x 0xe2 c)))
+    by (inr a) (inr b) (inr c) (inl d) = rw (a, b, c, d) (ap (λ y. y ∷ []) (sym (eqb-true x 0xef d)))
+    by (inr a) (inr b) (inr c) (inr d) = absurd (true≢false (sym (rw (a, b, c, d) refl) ∙ n))
 
 held_general : (x : ℕ) → is_nothing (next held.General x) ≡ false → held_bytes (next held.General x) ≡ 0xe2 ∷ x ∷ []
 held_general x n = by (cases_Bool (x == 0x80)) (cases_Bool (x == 0x81))
@@ -71,6 +82,13 @@ held_general x n = by (cases_Bool (x == 0x80)) (cases_Bool (x == 0x81))
     by (inr a) (inl b) = rw (a, b) (ap (λ y. 0xe2 ∷ y ∷ []) (sym (eqb-true x 0x81 b)))
     by (inr a) (inr b) = absurd (true≢false (sym (rw (a, b) refl) ∙ n))
 
+held_high : (x : ℕ) → is_nothing (next held.High x) ≡ false → held_bytes (next held.High x) ≡ 0xef ∷ x ∷ []
+held_high x n = by (cases_Bool (x == 0xbb))
+  where
+    by : ((x == 0xbb) ≡ true) ⊎ ((x == 0xbb) ≡ false) → held_bytes (next held.High x) ≡ 0xef ∷ x ∷ []
+    by (inl a) = rw a (ap (λ y. 0xef ∷ y ∷ []) (sym (eqb-true x 0xbb a)))
+    by (inr a) = absurd (true≢false (sym (rw a refl) ∙ n))
+
 pub next_bytes : (h : Held) (x : ℕ) → is_nothing (next h x) ≡ false → held_bytes (next h x) ≡ held_bytes h ++ x ∷ []
 next_bytes held.Nothing x n = held_begun x n
 next_bytes held.Latin x n = absurd (true≢false n)
@@ -78,6 +96,8 @@ next_bytes held.Arabic x n = absurd (true≢false n)
 next_bytes held.General x n = held_general x n
 next_bytes held.Punctuation x n = absurd (true≢false n)
 next_bytes held.Isolates x n = absurd (true≢false n)
+next_bytes held.High x n = held_high x n
+next_bytes held.Forms x n = absurd (true≢false n)
 
 pub nothing_is : (h : Held) → is_nothing h ≡ true → h ≡ held.Nothing
 nothing_is held.Nothing e = refl
@@ -86,6 +106,8 @@ nothing_is held.Arabic e = absurd (true≢false (sym e))
 nothing_is held.General e = absurd (true≢false (sym e))
 nothing_is held.Punctuation e = absurd (true≢false (sym e))
 nothing_is held.Isolates e = absurd (true≢false (sym e))
+nothing_is held.High e = absurd (true≢false (sym e))
+nothing_is held.Forms e = absurd (true≢false (sym e))
 
 -- ---- lists of such bytes
 

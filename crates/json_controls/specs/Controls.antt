@@ -1,5 +1,5 @@
--- JSON text whose control characters are escaped: those that aren't printed, that end a line, or that turn the
--- direction of what stands around them. (RFC 8259, section 7; the Unicode Bidirectional Algorithm, section 2.)
+-- JSON text whose control characters are escaped: those that aren't printed or have no width, that end a line, or that
+-- turn the direction of what stands around them. (RFC 8259, section 7; the Unicode Bidirectional Algorithm, section 2.)
 use Rattle.std.specs.Prelude.{ℕ, ◌+◌, ◌-◌, ◌/◌, ◌%◌, List, [], ◌∷◌, ◌++◌, Bool, true, false, ◌==◌, ◌&&◌, ◌||◌, nat_le}
 use Rattle.std.specs.Prelude.{if◌then◌else◌, ◌<◌, length, slice_index}
 use Rattle.std.specs.Char.{digit_char}
@@ -18,15 +18,20 @@ held_bytes held.Arabic = 0xd8 ∷ []
 held_bytes held.General = 0xe2 ∷ []
 held_bytes held.Punctuation = 0xe2 ∷ 0x80 ∷ []
 held_bytes held.Isolates = 0xe2 ∷ 0x81 ∷ []
+held_bytes held.High = 0xef ∷ []
+held_bytes held.Forms = 0xef ∷ 0xbb ∷ []
 
--- they and this byte are U+007F; U+0080 to U+009F; U+061C; U+200E, U+200F or U+2028 to U+202E; U+2066 to U+2069
+-- they and this byte are U+007F; U+0080 to U+009F; U+061C; U+200B to U+200F or U+2028 to U+202E; U+2066 to U+2069;
+-- U+FEFF
 abbrev pub is_control : Held → ℕ → Bool
 is_control held.Nothing x = x == 0x7f
 is_control held.Latin x = nat_le 0x80 x && nat_le x 0x9f
 is_control held.Arabic x = x == 0x9c
 is_control held.General x = false
-is_control held.Punctuation x = (x == 0x8e) || ((x == 0x8f) || (nat_le 0xa8 x && nat_le x 0xae))
+is_control held.Punctuation x = (nat_le 0x8b x && nat_le x 0x8f) || (nat_le 0xa8 x && nat_le x 0xae)
 is_control held.Isolates x = nat_le 0xa6 x && nat_le x 0xa9
+is_control held.High x = false
+is_control held.Forms x = x == 0xbf
 
 -- that character
 abbrev pub code : Held → ℕ → ℕ
@@ -36,16 +41,19 @@ code held.Arabic x = 0x600 + (x - 0x80)
 code held.General x = 0
 code held.Punctuation x = 0x2000 + (x - 0x80)
 code held.Isolates x = 0x2040 + (x - 0x80)
+code held.High x = 0
+code held.Forms x = 0xfec0 + (x - 0x80)
 
 -- what is held back behind a byte with which no such character ends
 abbrev pub begun : ℕ → Held
 begun x =
     if x == 0xc2 then held.Latin else if x == 0xd8 then held.Arabic else if x == 0xe2 then held.General else
-    held.Nothing
+    if x == 0xef then held.High else held.Nothing
 
 abbrev pub next : Held → ℕ → Held
 next held.Nothing x = begun x
 next held.General x = if x == 0x80 then held.Punctuation else if x == 0x81 then held.Isolates else held.Nothing
+next held.High x = if x == 0xbb then held.Forms else held.Nothing
 next _ x = held.Nothing
 
 abbrev pub after : Held → ℕ → Held

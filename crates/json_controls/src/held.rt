@@ -18,6 +18,10 @@ pub(crate) enum Held {
     Punctuation,
     /// e2 81: U+2040 to U+207F.
     Isolates,
+    /// ef: U+F000 to U+FFFF.
+    High,
+    /// ef bb: U+FEC0 to U+FEFF.
+    Forms,
 }
 
 impl Held {
@@ -32,6 +36,8 @@ impl Held {
             Held::General => &[0xe2],
             Held::Punctuation => &[0xe2, 0x80],
             Held::Isolates => &[0xe2, 0x81],
+            Held::High => &[0xef],
+            Held::Forms => &[0xef, 0xbb],
         }
     }
 
@@ -44,8 +50,10 @@ impl Held {
             Held::Latin => 0x80 <= byte && byte <= 0x9f,
             Held::Arabic => byte == 0x9c,
             Held::General => false,
-            Held::Punctuation => byte == 0x8e || byte == 0x8f || (0xa8 <= byte && byte <= 0xae),
+            Held::Punctuation => (0x8b <= byte && byte <= 0x8f) || (0xa8 <= byte && byte <= 0xae),
             Held::Isolates => 0xa6 <= byte && byte <= 0xa9,
+            Held::High => false,
+            Held::Forms => byte == 0xbf,
         }
     }
 
@@ -60,6 +68,8 @@ impl Held {
             Held::General => 0,
             Held::Punctuation => 0x2000 + (byte as u16).saturating_sub(0x80),
             Held::Isolates => 0x2040 + (byte as u16).saturating_sub(0x80),
+            Held::High => 0,
+            Held::Forms => 0xfec0 + (byte as u16).saturating_sub(0x80),
         }
     }
 
@@ -81,6 +91,7 @@ impl Held {
             Held::Nothing => Held::begun(byte),
             Held::General if byte == 0x80 => Held::Punctuation,
             Held::General if byte == 0x81 => Held::Isolates,
+            Held::High if byte == 0xbb => Held::Forms,
             _ => Held::Nothing,
         }
     }
@@ -93,6 +104,7 @@ impl Held {
             0xc2 => Held::Latin,
             0xd8 => Held::Arabic,
             0xe2 => Held::General,
+            0xef => Held::High,
             _ => Held::Nothing,
         }
     }
