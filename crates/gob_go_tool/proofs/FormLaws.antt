@@ -1,6 +1,6 @@
 -- The tidy forms of items, in the places of the items; and their bytes.
 use Rattle.std.proofs.Common.{◌≡◌, ◌∙◌, ℕ, ◌+◌, ◌^◌, ◌<◌, ◌≤◌, List, [], ◌∷◌, ◌++◌, length, drop, arith, refl, sym, ap}
-use Rattle.std.proofs.Common.{subst, append_assoc, append-nil, length-append, Bool, true, false, Option, Some, get_or}
+use Rattle.std.proofs.Common.{subst, append_assoc, append-nil, length-append, Bool, true, false, Some, get_or}
 use Rattle.gob_num.specs.Spelled.{IsSpelled}
 use Rattle.gob_num.specs.Unsigned.{AreBytes}
 use Rattle.gob_num.proofs.PublicLaws.{bytes-append, bytes_rest, signed_unsigned, unsigned_bytes}
@@ -18,8 +18,9 @@ use Rattle.gob_filled.specs.Filled.{cut, filled, no_filling, as_it_stands, with_
 use Rattle.gob_filled.specs.Stream.{FilledItem, putting, IsFilledItem, of_value, AreCounted, last_counted, next_counted}
 use Rattle.gob_filled.specs.Stream.{AreFilledItems, no_more, and_then}
 use Rattle.gob_filled.proofs.Strict.{contained}
-use Rattle.gob_go.specs.Calls.Reader.{GivesItems, gives_one, HasReadFrom, StepsOnFrom, session_of}
-use Rattle.gob_go.specs.Calls.Session.{IsBetweenItems, limits_of, taken_of, types_of}
+use Rattle.gob_go.specs.Calls.Reader.{session_of}
+use Rattle.gob_go.specs.Calls.Session.{limits_of, taken_of, types_of}
+use Rattle.gob_go.specs.GoStepping.{go_stepping}
 use Rattle.gob_go.specs.Meaning.{AreFillings, ItemMeans, ItemsMean, is_filled, mean_none, mean_more, means_value}
 use Rattle.gob_go.specs.Meaning.{no_fillings}
 use Rattle.gob_go.specs.declared.filled.Filled.{Filled, out-Filled}
@@ -27,7 +28,6 @@ use Rattle.gob_go.specs.declared.filled.Filling.{Filling}
 use Rattle.gob_go.specs.declared.item.GoItem.{GoItem}
 use Rattle.gob_go.specs.declared.item.GoItem.TheVariants as item
 use Rattle.gob_go.specs.Calls.Reader.{GoReader}
-use Rattle.gob_stream.specs.declared.session.Step.{Step}
 use Rattle.gob_go.proofs.GoReaderLaws.{table_between}
 use Rattle.gob_go.proofs.ItemsLaws.{grown_keeps, items_grown, last_of}
 use Rattle.gob_go_tidy.specs.TidyItem.{BecomesTidy, tidies_filled, tidies_none, tidies_value}
@@ -41,34 +41,28 @@ use Rattle.gob_go_tool.specs.Machine.Forms.{AreItemsOf, no_items, item_then, IsF
 use Rattle.gob_go_tool.specs.Machine.Forms.{IsTidyText, IsWholeForm}
 use Rattle.gob_go_tool.specs.RewritingGo.{AreAnywhere, IsRewritten}
 use Rattle.gob_go_tool.specs.Texts.{IsWholeText}
+use Rattle.gob_go_tool.proofs.TextLaws.{whole_text}
+use Rattle.gob_tool.specs.Texts.{IsGiven}
 
 -- ---- an item that was given is one of a stream
-pub item_given : {r r' : GoReader} {read now : Option (List ℕ)} {given : List FilledItem} {step : Step GoItem}
-    {kept : GoItem} → StepsOnFrom r r' read now given step → step.item ≡ Some kept → IsBetweenItems (session_of r')
-    → IsSpelled (IsItemOf (types_of (session_of r')) kept)
-item_given {r' = r'} {read = read} {now = now} {given = given} {kept = kept} st is between =
-    by st.takes.after (subst (λ (o : Option GoItem). GivesItems (types_of (session_of r')) o st.more) is st.gives)
-  where
-    by : {more : List FilledItem} → HasReadFrom r' read now (given ++ more)
-        → GivesItems (types_of (session_of r')) (Some kept) more
-        → IsSpelled (IsItemOf (types_of (session_of r')) kept)
-    by h (gives_one {i = i} m) =
-        let last = last_of given h.gave.stream in
-        let here = table_between h.gave between in
-        record {
-          bytes = last.bytes;
-          spelled = record {
-            limits = within_trees (limits_of (session_of r'));
-            before = last.table;
-            behind = h.gave.table;
-            offset = 0 + length last.before;
-            item = i;
-            means = m;
-            is = last.item;
-            grown = λ t s e. subst (λ (U : Table). shape_of U t ≡ Some s) here e;
-            shallow = omega arith;
-          };
-        }
+pub item_of : {T : Table} {kept : GoItem} → IsGiven go_stepping T kept → IsSpelled (IsItemOf T kept)
+item_of {T = T} {kept = kept} given =
+    let last = last_of given.items given.read.stream in
+    let here = table_between given.read given.between in
+    record {
+      bytes = last.bytes;
+      spelled = record {
+        limits = within_trees (limits_of given.session);
+        before = last.table;
+        behind = given.read.table;
+        offset = 0 + length last.before;
+        item = given.item;
+        means = given.means;
+        is = last.item;
+        grown = λ t s e. subst (λ (U : Table). shape_of U t ≡ Some s) (here ∙ given.types) e;
+        shallow = omega arith;
+      };
+    }
 
 -- ---- the tidy form of an item
 pub tidy_given : {T : Table} {old new : GoItem} → IsSpelled (IsItemOf T old) → BecomesTidy T old new
@@ -340,11 +334,7 @@ module _ {T : Table} {id : TypeId} {limit : ℕ} {body text : List ℕ} {kept : 
 pub whole_rewritten : {r : GoReader} {used : ℕ} {kept : GoItem} {text : List ℕ} (w : IsWholeForm r used kept)
     → ((bytes : List ℕ) → IsItemOf (types_of (session_of r)) kept bytes → text ≡ bytes) → (hoist : Bool)
     → IsWholeText (IsRewritten hoist) r used text
-whole_rewritten w written hoist = record {
-  id = w.id;
-  body = w.body;
-  between = w.between;
-  next = w.next;
-  whole = record { value = w.is.whole.value; spelled = w.is.whole.spelled; within = w.is.whole.within };
-  is = form_rewritten w.is written hoist;
-}
+whole_rewritten w written hoist =
+    whole_text (IsRewritten hoist) w.between w.next
+    (record { value = w.is.whole.value; spelled = w.is.whole.spelled; within = w.is.whole.within })
+    (form_rewritten w.is written hoist)

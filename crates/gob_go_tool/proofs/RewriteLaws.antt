@@ -13,8 +13,10 @@ use Rattle.gob_tool.specs.Showing.{AppendsPrefix}
 use Rattle.gob_tool.specs.declared.fault.ToolFault.{ToolFault}
 use Rattle.gob_go_tool.specs.RewritingGo.{AreTidied, none_tidied, then_tidied, all_hoisted, IsRewritten, IsStreamOf}
 use Rattle.gob_go_tool.specs.RewritingGo.{OfTidyStream, RewriteGoAnswers}
-use Rattle.gob_go_tool.specs.Texts.{HaveTexts, no_texts, texts_then, OfTexts, TextsAnswers}
-use Rattle.gob_go_tool.proofs.TextLaws.{runs_as}
+use Rattle.gob_go_tool.specs.Texts.{TextsAnswers}
+use Rattle.gob_tool.specs.Texts.{HaveTexts, no_texts, texts_then, OfTexts}
+use Rattle.gob_tool.proofs.TextLaws.{runs_as}
+use Rattle.gob_filled.specs.Outcome.{profile}
 
 -- ---- the next item
 record NextItem (L : Bounds) (T : Table) (i : FilledItem) (prefix all : List ℕ) (U : Table) : Type 0 where
@@ -110,15 +112,15 @@ stream_on {L = L} {text = text} {more = more} {i = i} true shallow s b w =
     }
 
 texts_stream : (hoist : Bool) {L : Bounds} {bytes text : List ℕ} {items : List FilledItem} → L.depth ≤ greatest_depth
-    → HaveTexts (IsRewritten hoist) L bytes items text → TidyStream hoist L bytes items text
+    → HaveTexts profile (IsRewritten hoist) L bytes items text → TidyStream hoist L bytes items text
 texts_stream hoist {L = L} {bytes = bytes} shallow no_texts = first_stream hoist L bytes
 texts_stream hoist shallow (texts_then i more h b w) =
     stream_on hoist shallow (texts_stream hoist shallow h) b w
 
 of_stream : {L : Bounds} {bytes : List ℕ} {P : List ℕ → Type 0} (hoist : Bool) → L.depth ≤ greatest_depth
-    → (items : List FilledItem) → OfTexts (IsRewritten hoist) L bytes P items
+    → (T : Table) (items : List FilledItem) → OfTexts profile (IsRewritten hoist) L bytes P items
     → OfTidyStream hoist L bytes P items
-of_stream hoist shallow items o =
+of_stream hoist shallow T items o =
     let s = texts_stream hoist shallow o.texts in
     record {
       begins = s.begins;
@@ -133,6 +135,8 @@ pub rewritten_so : (hoist : Bool) (L : Bounds) (bytes : List ℕ) (now old new :
     (r : Result (Unit {0}) ToolFault) → L.depth ≤ greatest_depth
     → TextsAnswers (IsRewritten hoist) L bytes now old new r → RewriteGoAnswers hoist L bytes now old new r
 rewritten_so hoist L bytes now old new r shallow h =
-    runs_as L bytes now (OfTexts (IsRewritten hoist) L bytes (Appends old new))
-    (OfTidyStream hoist L bytes (Appends old new)) (OfTexts (IsRewritten hoist) L bytes (AppendsPrefix old new))
-    (OfTidyStream hoist L bytes (AppendsPrefix old new)) r h (of_stream hoist shallow) (of_stream hoist shallow)
+    runs_as profile L bytes now (λ T items. OfTexts profile (IsRewritten hoist) L bytes (Appends old new) items)
+    (λ T items. OfTidyStream hoist L bytes (Appends old new) items)
+    (λ T items. OfTexts profile (IsRewritten hoist) L bytes (AppendsPrefix old new) items)
+    (λ T items. OfTidyStream hoist L bytes (AppendsPrefix old new) items) r h (of_stream hoist shallow)
+    (of_stream hoist shallow)

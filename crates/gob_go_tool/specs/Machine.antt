@@ -1,4 +1,3 @@
 -- Where a run over a stream of Go's encoder stands.
 pub mod Forms
 pub mod Lines
-pub mod Texts

@@ -5,9 +5,6 @@ use Rattle.gob_stream.specs.Bounds.{Bounds}
 use Rattle.gob_tool.specs.declared.fault.ToolFault.{ToolFault}
 use Rattle.gob_go_tool.specs.LineGo.{IsLinesOf}
 use Rattle.gob_go_tool.specs.Texts.{TextsAnswers}
--- how any run ends that writes something of each item
-pub use Rattle.gob_go_tool.specs.RunningGo.{BeginsGo, EndsWholeGo, GivesLongestGo, GivesTakenGo, IsRefusedGo}
-pub use Rattle.gob_go_tool.specs.RunningGo.{RunGoAnswers}
 
 -- how the run that shows a stream ends, over an input with these bytes left and an output with the old bytes: the lines
 -- went out, and nothing else, or after a failed write a prefix of them

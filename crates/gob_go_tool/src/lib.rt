@@ -6,8 +6,6 @@
 //! {"type":8,"value":{"interface":{"name":"int","type":2,"value":5}}}      its line
 //! 0a 10 00 03 69 6e 74 04 02 00 0a        its tidy form: it was tidy
 //! ```
-//!
-//! [`run_texts`] is a run that writes a text of each item, as [`ItemTexts`] makes it.
 #![tactic(auto)]
 
 mod check;
@@ -16,10 +14,8 @@ mod item_lines;
 pub mod laws;
 mod rewrite;
 mod show;
-mod texts;
 mod whole_form;
 
 pub use check::run_check_go;
 pub use rewrite::run_rewrite_go;
 pub use show::run_show_go;
-pub use texts::{ItemTexts, run_texts};

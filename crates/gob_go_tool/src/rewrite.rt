@@ -5,14 +5,14 @@ ghost use Rattle.gob_stream.specs.Bounds.{within_trees};
 ghost use Rattle.gob_stream.specs.Calls.Ends.{failed_reads, failed_writes, reader_of, writer_of};
 ghost use Rattle.gob_tool.specs.Showing.{CountsReadFaults, CountsWriteFaults, IsFlushedSince};
 ghost use Rattle.gob_go_tool.specs.RewritingGo.{IsRewritten, RewriteGoAnswers};
+ghost use Rattle.gob_go_tool.specs.Texts.{of_given, of_value};
 
 use crate::forms::{push_hoisted, push_tidied};
-use crate::texts::{ItemTexts, run_texts};
 use crate::whole_form::push_whole_form;
-use gob_go::{GoItem, GoReader};
+use gob_go::{GoItem, GoReader, GoSession};
 use gob_num::Memory;
 use gob_stream::{Input, Limits, Output};
-use gob_tool::ToolFault;
+use gob_tool::{ItemTexts, ToolFault, run_texts};
 use gob_types::Table;
 use std::alloc::Global;
 use std::io::{Read, Write};
@@ -41,7 +41,7 @@ pub fn run_rewrite_go<R: Read, W: Write>(
     ensures writes { CountsWriteFaults (failed_writes output.old) (failed_writes output.new) result }
     ensures flushed { IsFlushedSince (failed_writes output.old) output.new }
 {
-    run_texts(alloc, input, output, limits, &TidyForms { hoist })
+    run_texts::<GoSession, R, W, TidyForms>(alloc, input, output, limits, &TidyForms { hoist })
 }
 
 /// The bytes of the tidy forms of items, hoisted or not.
@@ -50,8 +50,10 @@ struct TidyForms {
     hoist: bool,
 }
 
-impl ItemTexts for TidyForms {
-    ghost is = { λ forms. IsRewritten forms.hoist };
+impl ItemTexts<GoSession> for TidyForms {
+    ghost of_item = { λ forms. of_given (IsRewritten forms.hoist) };
+
+    ghost of_value = { λ forms. of_value (IsRewritten forms.hoist) };
 
     fn push_item(
         &self,

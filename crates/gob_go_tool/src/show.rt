@@ -1,20 +1,19 @@
 //! The run that prints a stream of Go's encoder.
 
-ghost use Rattle.std.specs.Prelude.{◌≡◌, ℕ, List, [], IfOk, MatchOption, Some};
+ghost use Rattle.std.specs.Prelude.{◌≡◌, ℕ, List, Some};
 ghost use Rattle.gob_stream.specs.Bounds.{within_trees};
 ghost use Rattle.gob_stream.specs.Calls.Ends.{failed_reads, failed_writes, reader_of, writer_of};
 ghost use Rattle.gob_tool.specs.Showing.{CountsReadFaults, CountsWriteFaults, IsFlushedSince};
 ghost use Rattle.gob_go_tool.specs.Machine.Lines.{ShowsInLines};
 ghost use Rattle.gob_go_tool.specs.ShowingGo.{ShowGoAnswers};
-ghost use Rattle.gob_go_tool.specs.Texts.{IsWholeText};
+ghost use Rattle.gob_go_tool.specs.Texts.{of_given, of_value};
 
 use crate::item_lines::push_lines;
-use crate::texts::{ItemTexts, run_texts, whole_depth};
-use gob_go::{GoItem, GoReader};
-use gob_json::line_of_whole;
+use crate::whole_form::whole_depth;
+use gob_go::{GoItem, GoReader, GoSession};
 use gob_num::Memory;
 use gob_stream::{Input, Limits, Output};
-use gob_tool::ToolFault;
+use gob_tool::{ItemTexts, ToolFault, push_whole_line, run_texts};
 use gob_types::Table;
 use std::alloc::Global;
 use std::io::{Read, Write};
@@ -38,15 +37,17 @@ pub fn run_show_go<R: Read, W: Write>(
     ensures writes { CountsWriteFaults (failed_writes output.old) (failed_writes output.new) result }
     ensures flushed { IsFlushedSince (failed_writes output.old) output.new }
 {
-    run_texts(alloc, input, output, limits, &Lines)
+    run_texts::<GoSession, R, W, Lines>(alloc, input, output, limits, &Lines)
 }
 
 /// The JSON lines of items.
 #[derive(Drop)]
 struct Lines;
 
-impl ItemTexts for Lines {
-    ghost is = { λ lines. ShowsInLines };
+impl ItemTexts<GoSession> for Lines {
+    ghost of_item = { λ lines. of_given ShowsInLines };
+
+    ghost of_value = { λ lines. of_value ShowsInLines };
 
     fn push_item(
         &self,
@@ -66,28 +67,6 @@ impl ItemTexts for Lines {
         reader: &GoReader,
         text: &mut Vec<u8>,
     ) -> Result<Option<usize>, Memory> {
-        push_whole_line(alloc, reader, text)
+        push_whole_line(alloc, reader, whole_depth(reader), usize::MAX, text)
     }
-}
-
-/// Makes the line of the item of a value that waits as a whole, and in which no interface holds another, in `text`,
-/// which is empty, straight from its bytes, and answers how many bytes the item has. None says nothing of what waits.
-fn push_whole_line(
-    alloc: Global,
-    reader: &GoReader,
-    text: &mut Vec<u8>,
-) -> Result<Option<usize>, Memory>
-    requires { text.old.items ≡ [] }
-    ensures { IfOk result (λ found. MatchOption found (text.new.items ≡ [])
-        (λ used. IsWholeText ShowsInLines reader.now used text.new.items)) }
-{
-    let Some(item) = reader.whole() else {
-        return Ok(None);
-    };
-    let depth = whole_depth(reader);
-    let mut room = Vec::new(alloc);
-    if !line_of_whole(reader.table(), item.id, item.body, depth, &mut room, text)? {
-        return Ok(None);
-    }
-    Ok(Some(item.used))
 }

@@ -1,17 +1,20 @@
 //! The tidy form of a value that waits as a whole, straight from its bytes.
 
-ghost use Rattle.std.specs.Prelude.{◌≡◌, [], Bool, IfOk, IfSome, IsTrue, MatchOption};
+ghost use Rattle.std.specs.Prelude.{◌≡◌, [], Bool, IfOk, IfSome, IsTrue, MatchOption, min};
 ghost use Rattle.gob_num.specs.Unsigned.{AreBytes};
 ghost use Rattle.gob_types.specs.Defined.{types};
 ghost use Rattle.gob_tidy.specs.TidiedWhole.{TidiesWhole};
+ghost use Rattle.gob_stream.specs.Bounds.{greatest_depth};
+ghost use Rattle.gob_go.specs.Calls.Reader.{session_of};
+ghost use Rattle.gob_go.specs.Calls.Session.{limits_of};
 ghost use Rattle.gob_go_tool.specs.Machine.Forms.{IsFormOf, IsUnfilled, IsWholeForm};
 ghost use Rattle.gob_go_tool.specs.RewritingGo.{IsRewritten};
 ghost use Rattle.gob_go_tool.specs.Texts.{IsWholeText};
 
-use crate::texts::whole_depth;
 use gob_go::{Filled, GoItem, GoReader};
 use gob_go_writer::write_item;
 use gob_num::Memory;
+use gob_stream::Limits;
 use gob_tidy::tidy_whole;
 use gob_types::{Table, TypeId};
 use std::alloc::Global;
@@ -106,4 +109,11 @@ fn unfilled(alloc: Global, id: TypeId, skeleton: Vec<u8>) -> GoItem
         fillings: Vec::new(alloc),
     };
     GoItem::Put { id, value }
+}
+
+/// How deep a value that waits as a whole may be: no deeper than one that the session reads.
+pub(crate) fn whole_depth(reader: &GoReader) -> u64
+    ensures { result ≡ min (limits_of (session_of reader.now)).depth greatest_depth }
+{
+    reader.limits().depth().min(Limits::GREATEST_DEPTH)
 }

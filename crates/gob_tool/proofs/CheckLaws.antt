@@ -4,7 +4,7 @@ use Rattle.std.proofs.Common.{Bool, true, Result, Ok, Err, ◌∙◌, ap, sym, s
 use Rattle.std.specs.Io.KnownBytes.{Keeps}
 use Rattle.std.specs.Result.{IsErrAnd}
 use Rattle.std.proofs.KnownBytes.{Appends-kept}
-use Rattle.gob_types.specs.Defined.{types, definition_count}
+use Rattle.gob_types.specs.Defined.{definition_count}
 use Rattle.gob_types.specs.Table.{Table}
 use Rattle.gob_read.specs.Calls.Builders.{skip_building}
 use Rattle.gob_read.specs.declared.skip_builder.SkipBuilder.{SkipBuilder}

@@ -8,6 +8,7 @@ use Rattle.std.specs.Io.KnownBytes.{Appends, Keeps}
 use Rattle.std.proofs.KnownBytes.{Appends-kept}
 use Rattle.gob_stream.specs.Calls.Writing.{CountsWriterFaults, SentPrefix}
 use Rattle.gob_stream.specs.Devices.{counts_up, FlushCounted, Rose}
+use Rattle.gob_stream.specs.Reading.{CountsReads}
 use Rattle.gob_stream.specs.declared.fault.Fault.{Fault}
 use Rattle.gob_stream.specs.declared.fault.Fault.TheVariants as reading
 use Rattle.gob_stream.specs.declared.fault.WriteFault.{WriteFault}
@@ -123,3 +124,11 @@ pub ended_wanted : (P : Type 0) {answer result : Result (Unit {0}) ToolFault} �
 ended_wanted P (ends_so e) h = subst (λ (r : Result (Unit {0}) ToolFault). IfErr r (λ f. IsOfWanted f → P)) (sym e) h
 ended_wanted P (flush_fails a e) h =
     subst (λ (r : Result (Unit {0}) ToolFault). IfErr r (λ f. IsOfWanted f → P)) (sym e) (λ w. absurd w)
+
+-- ---- what a read counts
+pub stop_faults : (A : Type 0) (old mid new : ℕ) (e : Fault) → mid ≡ old → CountsReads {A = A} mid new (Err e)
+    → CountsReadFaults old new (Err (reading_fault e))
+stop_faults A old mid new (reading.Refused R) same h = h ∙ same
+stop_faults A old mid new reading.Read same h = h.0 ∙ ap (λ n. counts_up n 1) same
+stop_faults A old mid new reading.Memory same h = h ∙ same
+stop_faults A old mid new reading.Failed same h = h ∙ same

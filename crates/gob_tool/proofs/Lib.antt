@@ -4,8 +4,8 @@ pub mod ReceivedLaws
 pub mod TakeRuns
 pub mod WantedLaws
 pub mod EndLaws
-pub mod ShowRuns
-pub mod NextLines
+pub mod ShowLaws
+pub mod TextLaws
 pub mod CheckLaws
 pub mod TallyLaws
 pub mod TidyStays

@@ -2,7 +2,11 @@
 use Rattle.std.proofs.Common.{◌≡◌, ℕ, ◌+◌, ◌-◌, ◌<◌, arith, List, [], ◌∷◌, ◌++◌, take, Option, Some}
 use Rattle.std.proofs.Common.{Bool, true, false, min}
 use Rattle.std.proofs.Common.{Result, Ok, Err, ◌∙◌, ap, sym, subst, refl, append_assoc, append-nil, inl, inr}
+use Rattle.std.proofs.Common.{length, length-append}
+use Rattle.std.proofs.lemmas.List.{length-take-le}
 use Rattle.std.specs.Io.KnownBytes.{Appends, Keeps}
+use Rattle.gob_num.proofs.PublicLaws.{unsigned_length}
+use Rattle.gob_stream.specs.Whole.{HasBody}
 use Rattle.std.proofs.KnownBytes.{Appends-nil, Appends-trans, Appends-kept, Keeps-refl}
 use Rattle.gob_types.specs.Base.{base_table}
 use Rattle.gob_types.specs.Ready.{IsReady}
@@ -46,10 +50,9 @@ use Rattle.gob_tool.specs.declared.receiver.Receiver.{Receiver}
 use Rattle.gob_tool.specs.Ending.{CountsOnlyWrites, EndsRun, ends_so, flush_fails}
 use Rattle.gob_tool.specs.Fault.{matching_fault, reading_fault, writing_fault}
 use Rattle.gob_tool.specs.Line.{line}
-use Rattle.gob_tool.specs.Machine.Lines.{Trees}
+use Rattle.gob_tool.specs.Machine.Lines.{IsWholeItem, Trees}
 use Rattle.gob_tool.specs.Machine.Receiver.{IsReceiver}
 use Rattle.gob_tool.specs.Showing.{AppendsPrefix, CountsReadFaults}
-use Rattle.gob_tool.specs.Machine.Sending.{IsWholeItem}
 use Rattle.gob_tool.specs.Machine.Taken.{AreSent, CountsWanted, IsUntouched, StaysReceiver, Takes, TakesBody}
 use Rattle.gob_tool.specs.Machine.Taken.{TakesItems, TakesNext}
 use Rattle.gob_tool.specs.Machine.Taken.{TakesWhole, WritesText, sent, views_given}
@@ -62,8 +65,14 @@ use Rattle.gob_tool.proofs.EndLaws.{prefix_kept, reads_nothing}
 use Rattle.gob_tool.proofs.LinesStay.{keeps_itself, stream_keeps}
 use Rattle.gob_tool.proofs.ReaderRuns.{GoesOn, TakesBehind, goes_by, nothing_given, read_alone, reads_behind}
 use Rattle.gob_tool.proofs.ReaderRuns.{takes_behind}
-use Rattle.gob_tool.proofs.ShowRuns.{body_some}
 use Rattle.gob_tool.proofs.ReceivedLaws.{received_append, received_on, stream_sent}
+
+-- a whole item has a byte at least
+body_some : {L : Bounds} {T : Table} {offset : ℕ} {id : TypeId} {body : List ℕ} {used : ℕ} {piece : List ℕ}
+    → HasBody L T offset id body used piece → 0 < used
+body_some {body = body} {used = used} {piece = piece} b =
+    let some = (unsigned_length b.counts).0 in
+    omega (arith, ap length b.whole, length-take-le used piece b.within, length-append b.count (b.number ++ body))
 
 -- ---- what a step gave
 pub given_views : {o : Option (declared.Item Value)} {more : List StreamItem} → GivesItems tree_building.means o more

@@ -1,3 +1,4 @@
+pub mod Answering
 pub mod Line
 pub mod Ending
 pub mod Fault
@@ -6,4 +7,6 @@ pub mod Taking
 pub mod Checking
 pub mod Rewriting
 pub mod Running
+pub mod Sending
+pub mod Texts
 pub mod Machine

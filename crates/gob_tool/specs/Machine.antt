@@ -1,7 +1,7 @@
 -- Where a run stands, piece by piece, and what is gathered or kept then. No clause of a public call names these.
 pub mod Receiver
 pub mod Lines
-pub mod Sending
+pub mod Texts
 pub mod Counting
 pub mod Tallying
 pub mod Rewritten

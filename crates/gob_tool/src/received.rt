@@ -16,8 +16,7 @@ ghost use Rattle.gob_stream.specs.Calls.Session.{limits_of, types_of};
 ghost use Rattle.std.specs.Prelude.{◌≡◌, ◌↔◌, ◌<◌, ◌≤◌, ℕ, Option, List, IfErr, IsTrue, Ok, OnOk, false, length};
 
 use crate::fault::ToolFault;
-use crate::large::{send_item, shown_depth, whole_item};
-use crate::next_lines::given_line;
+use crate::item_line::{given_line, line_depth, send_item, whole_item};
 use crate::receiver::Receiver;
 use gob_read::TreeBuilder;
 use gob_stream::{Item, Output, StreamReader, Whole};
@@ -79,7 +78,7 @@ fn take_whole<W: Write>(
     ensures own { IfErr result (λ fault. IsOfWanted fault → ⊥) }
     ensures writes { CountsOnlyWrites (failed_writes output.old) (failed_writes output.new) result }
 {
-    let depth = shown_depth(reader);
+    let depth = line_depth(reader);
     let Some(item) = whole_item(reader, depth, 0) else {
         return Ok(false);
     };

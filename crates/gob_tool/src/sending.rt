@@ -12,7 +12,7 @@ pub struct Sending<'a, W: Write> {
 }
 
 impl<W: Write> TextOut for Sending<'_, W> {
-    ghost use Rattle.gob_tool.specs.Machine.Sending.{Sends, sends_both, sends_more, sent_counts};
+    ghost use Rattle.gob_tool.specs.Sending.{Sends, sends_both, sends_more, sent_counts};
     ghost use Rattle.gob_stream.specs.Calls.Ends.{failed_writes, writer_of};
     ghost use Rattle.gob_stream.specs.Calls.Writing.{CountsWriterFaults};
     ghost use Rattle.std.proofs.Common.{◌≡◌, refl, ◌∙◌};

@@ -24,6 +24,7 @@ use Rattle.gob_go.specs.declared.item.GoItem.TheVariants as item
 use Rattle.gob_go.specs.Calls.Reader.{GoReader}
 use Rattle.gob_go_plain.proofs.PublicLaws.{ValueText, says_unfilled}
 use Rattle.gob_go_tool.specs.Texts.{IsWholeText}
+use Rattle.gob_go_tool.proofs.TextLaws.{whole_text}
 use Rattle.gob_views.specs.Machine.Tapes.{IsTapeOf}
 use Rattle.gob_views.specs.Values.{IsPlainLine}
 
@@ -76,20 +77,14 @@ whole_line {tagged = tagged} {style = style} {r = r} {id = id} {body = body} {te
     let s = says v by.means in
     let within = by.whole.within in
     let plain = subst (λ (T : Table). SaysIn style T id v s.0) also s.1 in
-    record {
-      id = id;
-      body = body;
-      between = between;
-      next = next;
-      whole = record { value = v; spelled = by.whole.spelled; within = omega (arith, within, deep) };
-      is = (
-        shown_text text,
-        record {
-          json = s.0;
-          says = says_unfilled tagged style S id v body s.0 by.whole.spelled plain;
-          prints = ap shown_text s.2;
-          reads = reads s.0 s.2 s.3;
-        },
-        made,
-      );
-    }
+    whole_text (IsPlainLine tagged style) between next
+    (record { value = v; spelled = by.whole.spelled; within = omega (arith, within, deep) }) (
+      shown_text text,
+      record {
+        json = s.0;
+        says = says_unfilled tagged style S id v body s.0 by.whole.spelled plain;
+        prints = ap shown_text s.2;
+        reads = reads s.0 s.2 s.3;
+      },
+      made,
+    )

@@ -13,19 +13,18 @@ ghost use Rattle.gob_stream.specs.Calls.Ends.{failed_reads, failed_writes, reade
 ghost use Rattle.gob_filled.specs.Stream.{FilledItem};
 ghost use Rattle.gob_go.specs.Meaning.{ItemMeans};
 ghost use Rattle.gob_tool.specs.Showing.{CountsReadFaults, CountsWriteFaults, IsFlushedSince};
-ghost use Rattle.gob_go_tool.specs.Texts.{IsWholeText};
+ghost use Rattle.gob_go_tool.specs.Texts.{of_given, of_value, IsWholeText};
 ghost use Rattle.gob_views.specs.Machine.Tapes.{IsTapeOf};
 ghost use Rattle.gob_views.specs.Values.{IsPlainLine, ValuesAnswers};
 
-use gob_go::{GoItem, GoReader};
+use gob_go::{GoItem, GoReader, GoSession};
 use gob_go_plain::filled_text;
-use gob_go_tool::{ItemTexts, run_texts};
 use gob_num::Memory;
 use gob_plain::{Style, plain_text};
 use gob_read::{BodyReader, Progress, Stop};
 use gob_stream::{Input, Limits, Output};
 use gob_tape::{Tape, TapeBuilder};
-use gob_tool::ToolFault;
+use gob_tool::{ItemTexts, ToolFault, run_texts};
 use gob_types::{Table, TypeId};
 use json_controls::push_shown;
 use std::alloc::Global;
@@ -52,7 +51,13 @@ pub fn run_values<R: Read, W: Write>(
     ensures writes { CountsWriteFaults (failed_writes output.old) (failed_writes output.new) result }
     ensures flushed { IsFlushedSince (failed_writes output.old) output.new }
 {
-    run_texts(alloc, input, output, limits, &PlainLines { style, tagged })
+    run_texts::<GoSession, R, W, PlainLines>(
+        alloc,
+        input,
+        output,
+        limits,
+        &PlainLines { style, tagged },
+    )
 }
 
 /// The lines of items: plain JSON of values. No character of them controls how a terminal shows them.
@@ -62,8 +67,10 @@ struct PlainLines {
     tagged: bool,
 }
 
-impl ItemTexts for PlainLines {
-    ghost is = { λ lines. IsPlainLine lines.tagged lines.style };
+impl ItemTexts<GoSession> for PlainLines {
+    ghost of_item = { λ lines. of_given (IsPlainLine lines.tagged lines.style) };
+
+    ghost of_value = { λ lines. of_value (IsPlainLine lines.tagged lines.style) };
 
     fn push_item(
         &self,

@@ -118,7 +118,7 @@ read_stops o which s items M read now next old new item begin bytes e f x k know
     let outcome : GivesLongestGo (within_trees L) x.taken
     (HasExplained (Some which) (within_trees M) (Appends old new)) = record {
       items = x.has.given;
-      longest = gives_longest x.has.gave;
+      given = gives_longest x.has.gave;
       holds = record {
         bytes = kept.prefix;
         table = x.has.gave.table;
@@ -415,7 +415,7 @@ explain_kept which L bytes now old mid new (Err fault.Read) k h = record {
   taken = h.taken;
   holds = record {
     items = h.holds.items;
-    longest = h.holds.longest;
+    given = h.holds.given;
     holds = explained_as h.holds.holds (λ text a. Appends-kept old mid new text a k);
   };
 }

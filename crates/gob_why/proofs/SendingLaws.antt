@@ -20,7 +20,7 @@ use Rattle.gob_go.specs.Calls.Session.{limits_of}
 use Rattle.gob_go.specs.Machine.SessionState.{SessionState}
 use Rattle.gob_tool.specs.Ending.{CountsOnlyWrites}
 use Rattle.gob_tool.specs.Fault.{reading_fault, writing_fault}
-use Rattle.gob_tool.specs.Machine.Sending.{Sends}
+use Rattle.gob_tool.specs.Sending.{Sends}
 use Rattle.gob_tool.specs.Showing.{AppendsPrefix}
 use Rattle.gob_tool.specs.declared.fault.ToolFault.{ToolFault}
 use Rattle.gob_tool.specs.declared.fault.ToolFault.TheVariants as fault

@@ -1,9 +1,11 @@
 -- The value is written, and the reader is behind its item.
-use Rattle.std.proofs.Common.{◌≡◌, Bool, true, false, IsTrue, OnOk, subst, sym}
+use Rattle.std.proofs.Common.{◌≡◌, Bool, true, false, IsTrue, OnOk, arith, min, subst, sym}
 use Rattle.gob_types.specs.Defined.{types}
 use Rattle.gob_types.specs.Ready.{IsReady}
 use Rattle.gob_stream.specs.Bounds.{greatest_depth}
 use Rattle.gob_stream.specs.Calls.Ends.{writer_of}
+use Rattle.gob_stream.specs.Calls.Reader.{session_of}
+use Rattle.gob_stream.specs.Calls.Session.{limits_of}
 use Rattle.gob_stream.proofs.PublicLaws.{has_item}
 use Rattle.gob_tool.specs.Machine.Receiver.{IsReceiver}
 use Rattle.gob_tool.specs.Machine.Taken.{TakesBody}
@@ -20,7 +22,9 @@ write_whole-written-requires-clause-sent g c =
 pub pass-requires-clause-item : goal.pass-requires-clause-item
 pass-requires-clause-item g c =
     let w = c.in-Some.ensures in
-    has_item greatest_depth c.shown_depth-depth.ensures w.next w.whole
+    let is : c.line_depth-depth.result ≡ min (limits_of (session_of c.args.reader.now)).depth greatest_depth =
+    omega (arith, c.line_depth-depth.ensures) in
+    has_item greatest_depth is w.next w.whole
 
 pub returns-then-is_untaken-clause-taken : goal.returns-then-is_untaken-clause-taken
 returns-then-is_untaken-clause-taken g c = λ read now start p.
@@ -42,9 +46,11 @@ returns-clause-taken g c = λ read now start p.
     let r = c.args.receiver.now in
     let old = g.W.Write.contents (writer_of c.args.output.now) in
     let new = g.W.Write.contents (writer_of c.write_whole-written.new.output) in
-    whole_taken c.requires.ready p c.in-Some.ensures c.shown_depth-depth.ensures c.pass.ensures.table
+    let is : c.line_depth-depth.result ≡ min (limits_of (session_of c.args.reader.now)).depth greatest_depth =
+    omega (arith, c.line_depth-depth.ensures) in
+    whole_taken c.requires.ready p c.in-Some.ensures is c.pass.ensures.table
     c.pass.ensures.limits c.pass.ensures.passed new c.write_whole-written.result
-    (subst (λ d. TakesBody (types d) (types r.wanted.now) r.wanted_id item.id c.shown_depth-depth.result item.body.now
+    (subst (λ d. TakesBody (types d) (types r.wanted.now) r.wanted_id item.id c.line_depth-depth.result item.body.now
     old new c.write_whole-written.result) c.table.ensures c.write_whole-written.ensures.taken)
 
 pub returns-clause-receiver : goal.returns-clause-receiver

@@ -22,7 +22,7 @@ use Rattle.gob_tool.proofs.EndLaws.{at_error, faults_still, reads_unread, write_
 use Rattle.gob_tool.proofs.RewriteRuns.{answers_under, rewrites_fall, rewrites_filled, rewrites_first, rewritten_none}
 use Rattle.gob_tool.proofs.RewriteRuns.{rewritten_stops}
 use Rattle.gob_tool.proofs.RewriteRuns.{rewrites_flushed, rewrites_unflushed, rewritten_whole, tidy_there}
-use Rattle.gob_tool.proofs.ShowRuns.{stop_faults}
+use Rattle.gob_tool.proofs.EndLaws.{stop_faults}
 use Rattle.gob_tool.proofs.rewrite.rewrite_items.Goals as goal
 
 pub returns-in_err-reader-clause-rewritten : goal.returns-in_err-reader-clause-rewritten

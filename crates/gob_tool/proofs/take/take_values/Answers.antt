@@ -17,7 +17,7 @@ use Rattle.gob_tool.specs.Showing.{AppendsPrefix, CountsReadFaults}
 use Rattle.gob_tool.specs.Taking.{Receiving}
 use Rattle.gob_tool.specs.declared.fault.ToolFault.TheVariants as fault
 use Rattle.gob_tool.proofs.EndLaws.{at_error, faults_still, reads_unread, write_counts, writing_unread}
-use Rattle.gob_tool.proofs.ShowRuns.{stop_faults}
+use Rattle.gob_tool.proofs.EndLaws.{stop_faults}
 use Rattle.gob_tool.proofs.TakeRuns.{received_none, received_stops, received_whole, receiving_under, takes_fall}
 use Rattle.gob_tool.proofs.TakeRuns.{takes_filled, takes_first}
 use Rattle.gob_tool.proofs.TakeRuns.{next_as, ready_as, takes_flushed, takes_unflushed}

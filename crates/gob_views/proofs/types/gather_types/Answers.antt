@@ -1,10 +1,10 @@
 -- From turn to turn the ids are those of what was read, and each end is that of the stream.
-use Rattle.std.proofs.Common.{Bool, ◌∙◌, arith, refl}
+use Rattle.std.proofs.Common.{Bool, ◌∙◌, ap, arith, refl}
 use Rattle.gob_stream.specs.Calls.Ends.{reader_of}
 use Rattle.gob_go.specs.Calls.Reader.{session_of}
-use Rattle.gob_go.specs.Calls.Session.{taken_of}
 use Rattle.gob_go.proofs.GoReaderLaws.{goes_on, has_ended}
-use Rattle.gob_go_tool.proofs.TextLaws.{texts_fall}
+use Rattle.gob_go.proofs.SessionAnswers.{read_within}
+use Rattle.gob_stream.specs.Bounds.{Bounds}
 use Rattle.gob_views.proofs.TypeRuns.{all_at, counts_at, counts_unread, gathers_filled, gathers_first, gathers_stopped}
 use Rattle.gob_views.proofs.TypeRuns.{gathers_whole}
 use Rattle.gob_views.proofs.types.gather_types.Goals as goal
@@ -53,8 +53,9 @@ items-smaller g c =
     let on = goes_on (session_of c.items.reader) s.has.gave.table c.more.new.self read next s.given c.in_ok-more.field-0
     c.if-branch.true (c.in_ok-more.ensures.filled read s.given s.has) in
     let gathered = c.in_ok-gather_next.ensures.gathered read next (gathers_filled s on.0) in
-    texts_fall c.items.reader (taken_of (session_of c.items.reader))
-    (c.in_ok-gather_next.ensures.limits ∙ c.in_ok-more.ensures.limits) gathered.0.has (omega (arith, on.1, gathered.1))
+    let h = gathered.0.has.gave in
+    let stream = ap (λ (L : Bounds). L.stream) (c.in_ok-gather_next.ensures.limits ∙ c.in_ok-more.ensures.limits) in
+    omega (arith, read_within h, h.taken, stream, on.1, gathered.1)
 
 pub items-preserved : goal.items-preserved
 items-preserved g c =

@@ -12,7 +12,7 @@ use Rattle.gob_tool.specs.Fault.{reading_fault, writing_fault}
 use Rattle.gob_tool.specs.Showing.{CountsReadFaults}
 use Rattle.gob_tool.specs.declared.fault.ToolFault.TheVariants as fault
 use Rattle.gob_tool.proofs.EndLaws.{at_error, reading_unread, reads_unread, write_counts, writing_unread}
-use Rattle.gob_tool.proofs.ShowRuns.{stop_faults}
+use Rattle.gob_tool.proofs.EndLaws.{stop_faults}
 use Rattle.gob_tool.proofs.CheckLaws.{limits_as}
 use Rattle.gob_go.proofs.SessionAnswers.{read_within}
 use Rattle.gob_why.specs.Machine.Keeping.{ExplainsAll}

@@ -1,0 +1,100 @@
+-- What a run answers that writes a text of each item, and what it has written then, in any grammar of items. `Is` says
+-- which texts are those of an item, by the types behind it.
+-- (docs/FORMAT.md, The program: this project's own.)
+use Rattle.std.specs.Prelude.{◌≡◌, ℕ, ◌≤◌, List, [], ◌∷◌, ◌++◌, length, take, Option, Some, None}
+use Rattle.std.specs.Prelude.{Result}
+use Rattle.std.specs.Io.KnownBytes.{Appends}
+use Rattle.gob_types.specs.Defined.{types}
+use Rattle.gob_types.specs.Table.{Table}
+use Rattle.gob_types.specs.declared.id.TypeId.{TypeId}
+use Rattle.gob_value.specs.Tree.{Tree}
+use Rattle.gob_value.specs.Whole.{IsWhole}
+use Rattle.gob_stream.specs.Bounds.{Bounds}
+use Rattle.gob_stream.specs.Calls.ReaderOf.{session_of, waits_in}
+use Rattle.gob_stream.specs.Calls.Writing.{CountsWriterFaults}
+use Rattle.gob_stream.specs.Grammar.{BeginsIn, Grammar}
+use Rattle.gob_stream.specs.Item.{puts}
+use Rattle.gob_stream.specs.Stepping.{HasBodyNextBy, IsNextBy, Stepping}
+use Rattle.gob_stream.specs.declared.reader_of.ReaderOf.{ReaderOf}
+use Rattle.gob_tool.specs.Answering.{AppendsPrefix, RunAnswersIn}
+use Rattle.gob_tool.specs.Line.{line}
+use Rattle.gob_tool.specs.Sending.{Sends}
+use Rattle.gob_tool.specs.declared.fault.ToolFault.{ToolFault}
+use Rattle.gob_tool.specs.declared.texts.Sent.{Sent}
+
+-- the bytes begin with the stream of the items, and the text is theirs one after another, that of each item by the
+-- types behind it
+pub data HaveTexts {Told : Type 0} (G : Grammar Told) (Is : Table → Told → List ℕ → Type 0) (L : Bounds)
+    (bytes : List ℕ) : List Told → List ℕ → Type 0 where
+  no_texts : HaveTexts G Is L bytes [] []
+  texts_then : {items : List Told} {text : List ℕ} (i : Told) (more : List ℕ) → HaveTexts G Is L bytes items text
+      → (b : BeginsIn G L bytes (items ++ i ∷ [])) → Is b.table i more
+      → HaveTexts G Is L bytes (items ++ i ∷ []) (text ++ more)
+
+-- this holds of the texts of the items
+pub record OfTexts {Told : Type 0} (G : Grammar Told) (Is : Table → Told → List ℕ → Type 0) (L : Bounds)
+    (bytes : List ℕ) (P : List ℕ → Type 0) (items : List Told) : Type 0 where
+  pub text : List ℕ
+  pub texts : HaveTexts G Is L bytes items text
+  pub holds : P text
+
+-- how the run ends, over an input with these bytes left and an output with the old bytes: the texts went out, and
+-- nothing else, or after a failed write a prefix of them
+abbrev pub TextsAnswersIn : {Told : Type 0} → Grammar Told → (Is : Table → Told → List ℕ → Type 0) → Bounds
+    → (bytes : List ℕ) → (now old new : Option (List ℕ)) → Result (Unit {0}) ToolFault → Type 0
+TextsAnswersIn G Is L bytes now old new result = RunAnswersIn G L bytes now
+    (λ T items. OfTexts G Is L bytes (Appends old new) items)
+    (λ T items. OfTexts G Is L bytes (AppendsPrefix old new) items) result
+
+-- ---- texts, as they are made of what a session hands out
+-- the text of an item: of one that was handed out, or of a value in which no interface holds another
+pub data IsTextBy {X I Told : Type 0} (d : Stepping X I Told) (of_item : Table → I → List ℕ → Type 0)
+    (of_value : Table → TypeId → Tree → List ℕ → Type 0) (T : Table) : Told → List ℕ → Type 0 where
+  from_item : {given : I} {i : Told} {text : List ℕ} → d.means T given i → of_item T given text
+      → IsTextBy d of_item of_value T i text
+  from_value : {id : TypeId} {v : Tree} {text : List ℕ} → of_value T id v text
+      → IsTextBy d of_item of_value T (d.told (puts id v)) text
+
+-- the item that a session handed out is one of what it read, and its types are those of the table
+pub record IsGiven {X I Told : Type 0} (d : Stepping X I Told) (T : Table) (given : I) : Type 0 where
+  pub session : X
+  pub items : List Told
+  pub bytes : List ℕ
+  pub item : Told
+  pub read : d.read session (items ++ item ∷ []) bytes
+  pub means : d.means T given item
+  pub between : d.between session
+  pub types : types (d.table session) ≡ T
+
+-- the first bytes that wait are the item of a value, in which no interface holds another
+pub record IsNextWhole {X I Told : Type 0} (d : Stepping X I Told) (r : ReaderOf X I) (id : TypeId) (v : Tree)
+    (used : ℕ) : Type 0 where
+  pub between : d.between (session_of r)
+  pub within : used ≤ length (waits_in r)
+  pub next : IsNextBy d (session_of r) (puts id v) (take used (waits_in r))
+
+-- and the text is its
+pub record IsWholeText {X I Told : Type 0} (d : Stepping X I Told)
+    (of_value : Table → TypeId → Tree → List ℕ → Type 0) (r : ReaderOf X I) (used : ℕ) (text : List ℕ) : Type 0 where
+  pub id : TypeId
+  pub value : Tree
+  pub item : IsNextWhole d r id value used
+  pub is : of_value (types (d.table (session_of r))) id value text
+
+-- the line of the item of a value no deeper than this that waits as a whole
+pub record IsLineAhead {X I Told : Type 0} (d : Stepping X I Told) (depth : ℕ) (r : ReaderOf X I) (used : ℕ)
+    (text : List ℕ) : Type 0 where
+  pub id : TypeId
+  pub body : List ℕ
+  pub between : d.between (session_of r)
+  pub next : HasBodyNextBy d (session_of r) id body used (waits_in r)
+  pub whole : IsWhole (types (d.table (session_of r))) id depth body
+  pub text_is : text ≡ line (types (d.table (session_of r))) (puts id whole.value)
+
+-- the text of an item that waits as a whole went out, or a prefix of it; or nothing was sent
+abbrev pub SendsWhole : {X I Told : Type 0} → Stepping X I Told → (of_value : Table → TypeId → Tree → List ℕ → Type 0)
+    → ReaderOf X I → (failures failures' : ℕ) → (old new : Option (List ℕ)) → Option Sent → Type 0
+SendsWhole d of_value r failures failures' old new None = (failures' ≡ failures) × (new ≡ old)
+SendsWhole d of_value r failures failures' old new (Some given) = (text : List ℕ)
+    × IsWholeText d of_value r given.used text × Sends old new text given.sent
+    × CountsWriterFaults failures failures' given.sent
