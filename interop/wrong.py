@@ -63,6 +63,23 @@ INT = "a whole number"
 VALUE_OF_POINT = "a value of type 65, Point, which begins at byte 32"
 
 
+NO_STREAM = "This is no gob stream: no item begins as it does."
+
+
+def begins_as(form):
+    return f"This is no gob stream: it begins as {form} does."
+
+
+def shortened(path):
+    """A path of more than 200 characters, without its middle."""
+    return f"{path[:98]} .. {path[-98:]}"
+
+
+def behind(begin):
+    """The cause and what to do where something stands behind the last item."""
+    return f"Something stands behind the last item, at byte {begin}.", f"head -c {begin} IN | gob why"
+
+
 def due(line, what, where, expected, found, cause, step):
     return (f"refused {line}\nwhat: {what}\nwhere: {where}\nexpected: {expected}\nfound: {found}\ncause: {cause}\n"
             f"next: {step}\n")
@@ -88,10 +105,10 @@ REASONS = [
         "The item has 67108865 bytes, and the limit is 67108864.", "gob why --item 67108865 IN")),
     Row("item_of_no_type", POINT + HEX("fc04000001fe0400"), due(
         "3 ItemTooLong at 32 seen 37", "More bytes are announced here than the limit allows, or what is around them.",
-        "item 1, which begins at byte 32", COUNT, "fc 04 00 00 01, at byte 32", CHANGED, FETCH)),
+        "item 1, which begins at byte 32", COUNT, "fc 04 00 00 01, at byte 32", *behind(32))),
     Row("stream_too_long", HEX("fb2000000000"), due(
         "4 StreamTooLong at 0 seen 6", "The stream would be longer than 64 GiB.", "item 0, which begins at byte 0",
-        COUNT, "fb 20 00 00 00 00, at byte 0", CHANGED, FETCH), ("--item", "18446744073709551615")),
+        COUNT, "fb 20 00 00 00 00, at byte 0", NO_STREAM, "file IN"), ("--item", "18446744073709551615")),
     Row("short", POINT + HEX("03ff8201"), due(
         "5 Short at 36 seen 36", "The item ends here, and its value isn't complete.",
         f"item 1, Point.X: {VALUE_OF_POINT}", INT, "the end of the item, at byte 36", CHANGED, FETCH)),
@@ -104,7 +121,7 @@ REASONS = [
         CHANGED, FETCH)),
     Row("reserved_type", POINT + HEX("037d0100"), due(
         "7 ReservedType(63) at 33 seen 34", "A type is defined under a number that no type may have.",
-        "item 1, which begins at byte 32", TYPE, "7d, at byte 33", CHANGED, FETCH)),
+        "item 1, which begins at byte 32", TYPE, "7d, at byte 33", *behind(32))),
     Row("defined_twice", POINT + POINT, due(
         "8 DefinedTwice(65) at 33 seen 35", "A type is defined under a number that has one already.",
         "item 1, which begins at byte 32", TYPE, "ff 81, at byte 33",
@@ -124,7 +141,7 @@ REASONS = [
         "item 1, which begins at byte 16", TYPE, "ff 82, at byte 17", WRITER, FETCH)),
     Row("single_tag", HEX("03040106"), due(
         "12 SingleTag at 2 seen 3", "Before a value that is no struct a byte other than 0 stands.",
-        "item 0, int: a value of type 2, int, which begins at byte 0", TAG, "01, at byte 2", CHANGED, FETCH)),
+        "item 0, int: a value of type 2, int, which begins at byte 0", TAG, "01, at byte 2", NO_STREAM, "file IN")),
     Row("bool", HEX("03020002"), due(
         "13 Bool at 3 seen 4", "A bool is neither 0 nor 1.",
         "item 0, bool: a value of type 1, bool, which begins at byte 0", "a bool: 0 or 1", "02, at byte 3", CHANGED,
@@ -143,7 +160,7 @@ REASONS = [
         "The value has the depth 6, and the limit is 5.", "gob why --depth 6 IN"), ("--depth", "5")),
     Row("deeper_than_any_view", NODE + item(HEX("ff82"), b"\1" * 1200, bytes(1201)), due(
         "17 TooDeep at 1034 seen 1034", "Parts lie in one another deeper than the limit allows.",
-        f"item 1, Node{'.Next' * 1000}: a value of type 65, Node, which begins at byte 29",
+        f"item 1, {shortened('Node' + '.Next' * 1000)}: a value of type 65, Node, which begins at byte 29",
         "nothing: parts lie in one another as deep here as the limit allows", "01, at byte 1034",
         "Either the value is deep, as a long linked list is, or these bytes were changed.",
         "If the values are meant to be so deep, type: gob check --depth 65536 IN")),
@@ -218,19 +235,19 @@ SHORT = "The item ends here, and its value isn't complete."
 
 CAUSES = [
     Row("gzip", gzip.compress(GOB, mtime=0), at_front(
-        "1 BadHead at 1 seen 2", BAD_HEAD, "8b, at byte 1", "These are the first bytes of gzip.",
+        "1 BadHead at 1 seen 2", BAD_HEAD, "8b, at byte 1", begins_as("gzip"),
         "gunzip -c IN | gob why")),
     Row("zstd", HEX("28b52ffd2028") + GOB, at_front(
-        "1 BadHead at 1 seen 2", BAD_HEAD, "b5, at byte 1", "These are the first bytes of zstd.",
+        "1 BadHead at 1 seen 2", BAD_HEAD, "b5, at byte 1", begins_as("zstd"),
         "zstd -dc IN | gob why")),
     Row("bzip2", bz2.compress(GOB), at_front(
-        "10 UndefinedType(45) at 1 seen 2", UNDEFINED, "5a, at byte 1", "These are the first bytes of bzip2.",
+        "10 UndefinedType(45) at 1 seen 2", UNDEFINED, "5a, at byte 1", begins_as("bzip2"),
         "bunzip2 -c IN | gob why")),
     Row("xz", lzma.compress(GOB), at_front(
-        "10 UndefinedType(45) at 4 seen 5", UNDEFINED, "5a, at byte 4", "These are the first bytes of xz.",
+        "10 UndefinedType(45) at 4 seen 5", UNDEFINED, "5a, at byte 4", begins_as("xz"),
         "xz -dc IN | gob why")),
     Row("zip", zipped(GOB), at_front(
-        "7 ReservedType(38) at 1 seen 2", RESERVED, "4b, at byte 1", "These are the first bytes of zip.",
+        "7 ReservedType(38) at 1 seen 2", RESERVED, "4b, at byte 1", begins_as("zip"),
         "unzip -p IN | gob why")),
     Row("json", b'{"X": 22, "Y": 33}\n', due(
         "15 FieldNumber at 2 seen 3", "A struct has no such field.",

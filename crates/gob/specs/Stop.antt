@@ -17,13 +17,14 @@ use Rattle.gob_words.specs.declared.view.View.{View}
 use Rattle.gob_views.specs.Running.{ViewAnswers}
 use Rattle.gob.specs.declared.AfterRun.{AfterRun}
 use Rattle.gob.specs.declared.Stop.{Stop}
-use Rattle.gob.specs.declared.Stop.TheVariants.{Words, Run, LeftOut, Unread}
+use Rattle.gob.specs.declared.Stop.TheVariants.{Words, Run, Told, LeftOut, Unread}
 use Rattle.gob.specs.declared.Stop.TheVariants as stop
 
 -- the exit status after what ends it with a line
 abbrev pub stop_status : Stop → ℕ
 stop_status (Words fault) = order_status fault
 stop_status (Run fault) = fault_status fault
+stop_status (Told fault) = fault_status fault
 stop_status (stop.View line) = 2
 stop_status (LeftOut report) = 1
 stop_status Unread = 2
@@ -33,10 +34,11 @@ abbrev pub ending_status : Result (Unit {0}) Stop → ℕ
 ending_status (Ok _) = 0
 ending_status (Err stop) = stop_status stop
 
--- the line on standard error; none is printed where nobody reads what is written
+-- the line on standard error; none is printed where nobody reads what is written, or where it is told already
 abbrev pub stop_line : Stop → List ℕ
 stop_line (Words fault) = order_line fault
 stop_line (Run fault) = fault_line fault
+stop_line (Told fault) = fault_line fault
 stop_line (stop.View line) = codes "gob: " ++ line.bytes.items
 stop_line (LeftOut report) = report.bytes.items
 stop_line Unread = fault_line run_fault.Write
@@ -46,9 +48,15 @@ abbrev pub HasAnswered : Result (Unit {0}) ToolFault → Result (Unit {0}) Stop 
 HasAnswered answer (Ok _) = answer ≡ Ok tt
 HasAnswered answer (Err (Words fault)) = ⊥
 HasAnswered answer (Err (Run fault)) = answer ≡ Err fault
+HasAnswered answer (Err (Told fault)) = ⊥
 HasAnswered answer (Err (stop.View line)) = ⊥
 HasAnswered answer (Err (LeftOut report)) = ⊥
 HasAnswered answer (Err Unread) = answer ≡ Err run_fault.Write
+
+-- a refusal is told once: where the run of `why` has said it, and by no other end
+abbrev pub IsToldOnce : (ending result : Result (Unit {0}) Stop) → Type 0
+IsToldOnce (Err (Run (run_fault.Refused refusal))) result = result ≡ Err (Told (run_fault.Refused refusal))
+IsToldOnce ending result = result ≡ ending
 
 -- a file wasn't opened: that is told, unless there is no memory to
 abbrev pub IsUnopened : Stop → Type 0

@@ -7,9 +7,9 @@
 //! prints a line for each. `gob values [IN]` prints each value as plain JSON, `gob types [IN]` the types as Go source,
 //! `gob why [IN]` why IN is refused or how much is in it, `gob explain [IN]` the bytes row by row, and `gob version`
 //! the version. `gob salvage [IN]` writes what isn't damaged of IN, and says on standard error what is left out.
-//! `gob help` says the rest. Where the program stops at a fault, it prints a line on standard error. Its exit status is
-//! 0 for a whole stream and for help, 1 for an input that is no stream, that is damaged or has values that don't match,
-//! and 2 for all else.
+//! `gob help` says the rest. Where the program stops at a fault, it prints a line on standard error, but none where
+//! `why` has said it on standard output. Its exit status is 0 for a whole stream and for help, 1 for an input that is no
+//! stream, that is damaged or has values that don't match, and 2 for all else.
 #![tactic(auto)]
 
 ghost use Rattle.std.specs.Prelude.{◌≡◌, ◌≢◌, ℕ, List, [], Some, IfOk, IsErrAnd, IsTrue, MatchResult, string_bytes};
@@ -20,7 +20,7 @@ ghost use Rattle.gob_stream.specs.Calls.Ends.{failed_writes, writer_of};
 ghost use Rattle.gob_tool.specs.declared.fault.ToolFault.TheVariants as fault;
 ghost use Rattle.gob_words.specs.Escaped.{IsUnobeyed};
 ghost use Rattle.gob.specs.Stop.{stop_status, ending_status, HasAnswered, EndsRun, EndsView, IsAnswered, IsSettled};
-ghost use Rattle.gob.specs.Stop.{IsQuietIfClosed, IsUnopened, seen_after, seen_of, unused};
+ghost use Rattle.gob.specs.Stop.{IsQuietIfClosed, IsToldOnce, IsUnopened, seen_after, seen_of, unused};
 
 mod pipe;
 
@@ -29,7 +29,7 @@ use gob_salvage::{Salvaged, report};
 use gob_stream::{Input, Output};
 use gob_tool::{ToolFault, run_order, status};
 use gob_views::run_view;
-use gob_words::{Order, OrderFault, View, ViewFault, escaped, order_of, view_of};
+use gob_words::{Order, OrderFault, View, ViewCommand, ViewFault, escaped, order_of, view_of};
 use std::alloc::{AllocError, Global};
 use std::fs::File;
 use std::io::{BufWriter, ErrorKind, Read, Write};
@@ -44,6 +44,8 @@ const BLOCK: usize = 65536;
 enum Stop {
     Words(OrderFault),
     Run(ToolFault),
+    // A refusal whose line is on standard output already.
+    Told(ToolFault),
     // What is wrong with the words of a view, or with the file that they name.
     View(String),
     // What is told of an input of which something was left out.
@@ -66,7 +68,7 @@ impl Stop {
     {
         match self {
             Stop::Words(fault) => fault.status(),
-            Stop::Run(fault) => status(fault),
+            Stop::Run(fault) | Stop::Told(fault) => status(fault),
             Stop::LeftOut(_) => 1,
             Stop::View(_) | Stop::Unread => 2,
         }
@@ -82,7 +84,7 @@ impl fmt::Display for Stop {
     fn fmt<W: fmt::Write>(&self, f: &mut fmt::Formatter<W>) -> fmt::Result {
         match self {
             Stop::Words(fault) => write!(f, "{fault}"),
-            Stop::Run(fault) => write!(f, "{fault}"),
+            Stop::Run(fault) | Stop::Told(fault) => write!(f, "{fault}"),
             Stop::View(line) => write!(f, "gob: {line}"),
             Stop::LeftOut(report) => f.write_str(report.as_str()),
             Stop::Unread => write!(f, "gob: write fault"),
@@ -114,6 +116,7 @@ fn end(rt: &HostRuntime, ending: Result<(), Stop>) -> ExitCode
         Ok(()) => ExitCode::SUCCESS,
         // Whoever closed the pipe has what they wanted, so nothing is said.
         Err(Stop::Unread) => ExitCode::from(Stop::Unread.status()),
+        Err(Stop::Told(fault)) => ExitCode::from(status(&fault)),
         Err(stop) => {
             // Where standard error takes no line, the status still tells.
             let _ = eprintln!(rt; "{stop}");
@@ -205,10 +208,27 @@ fn run_view_on(rt: &HostRuntime, view: &View) -> Result<(), Stop> {
             show_out(rt.alloc(), view, &mut input, writer, &mut told).ending
         }
     };
-    ending?;
+    told_once(view.command, ending)?;
     match told {
         Some(kept) => tell(rt, &kept),
         None => Ok(()),
+    }
+}
+
+// How the run of a view ends the program: where `why` has said why the input is refused, no line says it once more.
+fn told_once(command: ViewCommand, ending: Result<(), Stop>) -> Result<(), Stop>
+    ensures status { ending_status result ≡ ending_status ending }
+    ensures why { command ≡ ViewCommand.Why → IsToldOnce ending result }
+    ensures others { command ≢ ViewCommand.Why → result ≡ ending }
+{
+    if command != ViewCommand::Why {
+        return ending;
+    }
+    match ending {
+        Err(Stop::Run(ToolFault::Refused(refusal))) => {
+            Err(Stop::Told(ToolFault::Refused(refusal)))
+        }
+        other => other,
     }
 }
 

@@ -55,7 +55,7 @@ pub fn run_view<R: Read, W: Write>(
             )
         }
         ViewCommand::Types => run_types(alloc, input, output, limits_of(view)),
-        ViewCommand::Why => run_why(alloc, input, output, limits_of(view)),
+        ViewCommand::Why => run_why(alloc, input, output, limits_of(view), view.input),
         ViewCommand::Explain => {
             run_explain(alloc, input, output, limits_of(view), explained_of(view))
         }

@@ -1,4 +1,3 @@
-pub mod Forms
 pub mod Why
 pub mod Explain
 pub mod Machine

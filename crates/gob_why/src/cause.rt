@@ -1,6 +1,6 @@
 //! What is behind a refusal, in sentences.
 
-use crate::form::Form;
+use gob_forms::{Form, Spelling};
 use gob_num::Memory;
 use gob_types::TypeId;
 use std::alloc::Global;
@@ -12,11 +12,21 @@ pub(crate) enum Cause {
     Form(Form),
     /// The input begins as JSON does.
     Json,
+    /// The input is JSON, in which a string that begins so is base64 of a stream.
+    JsonString {
+        start: [u8; 8],
+    },
     /// The input is text.
     Text,
-    /// It is base64 of a stream, in the alphabet for URLs or in the usual one.
-    Base64 {
-        is_for_urls: bool,
+    /// The input is a text that spells a stream.
+    Spelled(Spelling),
+    /// It begins with a head of HTTP.
+    Http {
+        bytes: usize,
+    },
+    /// No byte but this one was read.
+    OneByte {
+        byte: u8,
     },
     /// Before the stream stands its length.
     Length {
@@ -27,6 +37,12 @@ pub(crate) enum Cause {
     Prefix {
         bytes: usize,
     },
+    /// The first bytes are no item, and items of types that nothing defines follow.
+    LostFront {
+        bytes: usize,
+    },
+    /// Nothing that the first bytes are is known.
+    NoStream,
     /// U+FFFD stands in place of bytes.
     Replaced,
     /// Line feeds became a carriage return and a line feed.
@@ -37,8 +53,17 @@ pub(crate) enum Cause {
         id: TypeId,
         is_same: bool,
     },
+    /// The item isn't all there, and another stream begins at this offset.
+    CutOff {
+        begin: u64,
+        stream: u64,
+    },
     /// A line feed stands behind the last item.
     LineFeed {
+        begin: u64,
+    },
+    /// Something else stands behind the last item.
+    Behind {
         begin: u64,
     },
     /// From this offset on there are zeros alone.
@@ -48,6 +73,10 @@ pub(crate) enum Cause {
     /// So many zeros stand there, and other bytes behind them.
     Hole {
         zeros: usize,
+    },
+    /// The item ends where its count says, and others follow.
+    Damaged {
+        end: u64,
     },
     /// The input ends within an item.
     Torn,
@@ -69,29 +98,65 @@ pub(crate) enum Cause {
 pub(crate) fn cause_text(alloc: Global, cause: Cause) -> Result<String, Memory> {
     match cause {
         Cause::Form(form) => form_text(alloc, form),
+        Cause::Spelled(spelling) => {
+            let name = spelling.name();
+            Ok(format!(in alloc; "The file is {name}, and what it holds is a gob stream.")?)
+        }
         Cause::Length {
             bytes,
             is_high_first,
         } => length_text(alloc, bytes, is_high_first),
         Cause::Prefix { bytes } => prefix_text(alloc, bytes),
         Cause::AnotherStream { id, is_same, .. } => another_text(alloc, id, is_same),
-        Cause::Hole { zeros } => hole_text(alloc, zeros),
+        _ => numbered_text(alloc, cause),
+    }
+}
+
+// What is behind it, where a number alone tells more.
+fn numbered_text(alloc: Global, cause: Cause) -> Result<String, Memory> {
+    let text = match cause {
+        Cause::Http { bytes } => {
+            format!(in alloc;
+                "This is no gob stream: it begins with a head of HTTP, of {bytes} bytes."
+            )?
+        }
+        Cause::OneByte { byte } => format!(in alloc;
+            "The file has no byte but {byte:02x}, as far as was read: room that was never written."
+        )?,
+        Cause::LostFront { bytes } => format!(in alloc;
+            "The beginning of the stream is missing: from byte {bytes} on whole items stand."
+        )?,
+        Cause::CutOff { stream, .. } => format!(in alloc;
+            "A write was cut off within this item, and another encoder's stream begins at byte {stream}."
+        )?,
+        Cause::Behind { begin } => {
+            format!(in alloc; "Something stands behind the last item, at byte {begin}.")?
+        }
+        Cause::Hole { zeros } => format!(in alloc;
+            "{zeros} zeros stand here, and other bytes behind them: a piece of the file is lost, or was never written."
+        )?,
+        Cause::Damaged { end } => format!(in alloc;
+            "These bytes were changed. The item ends where its count says, and the next begins at byte {end}."
+        )?,
         Cause::ItemLimit { limit, needed } => {
-            Ok(format!(in alloc; "The item has {needed} bytes, and the limit is {limit}.")?)
+            format!(in alloc; "The item has {needed} bytes, and the limit is {limit}.")?
         }
         Cause::DepthLimit { limit, needed } => {
-            Ok(format!(in alloc; "The value has the depth {needed}, and the limit is {limit}.")?)
+            format!(in alloc; "The value has the depth {needed}, and the limit is {limit}.")?
         }
-        _ => Ok(String::from_str(alloc, plain_cause(cause))?),
-    }
+        _ => String::from_str(alloc, plain_cause(cause))?,
+    };
+    Ok(text)
 }
 
 // What is behind it, where neither a number nor a name tells more.
 fn plain_cause(cause: Cause) -> &'static str {
     match cause {
         Cause::Json => "The file begins as JSON does: it is text, and no gob stream.",
+        Cause::JsonString { .. } =>
+            "The file is JSON, and a string in it is base64 of a gob stream.",
         Cause::Text => "The file is text, and no gob stream.",
-        Cause::Base64 { .. } => "The file is base64, and what it holds is a gob stream.",
+        Cause::NoStream => "This is no gob stream: no item begins as it does.",
         Cause::Replaced => {
             "U+FFFD, ef bf bd, stands in place of bytes that are no text. They are lost."
         }
@@ -117,10 +182,13 @@ fn form_text(alloc: Global, form: Form) -> Result<String, Memory> {
     if form == Form::Marked {
         return Ok(format!(in alloc; "Before it stands {name}: ef bb bf.")?);
     }
-    Ok(format!(in alloc; "These are the first bytes of {name}.")?)
+    Ok(format!(in alloc; "This is no gob stream: it begins as {name} does.")?)
 }
 
 fn length_text(alloc: Global, bytes: usize, is_high_first: bool) -> Result<String, Memory> {
+    if bytes == 1 {
+        return Ok(String::from_str(alloc, "Before the stream stands its length, in 1 byte.")?);
+    }
     let order = if is_high_first { "high" } else { "low" };
     Ok(format!(in alloc;
         "Before the stream stands its length, in {bytes} bytes, the {order} one first."
@@ -141,57 +209,4 @@ fn another_text(alloc: Global, id: TypeId, is_same: bool) -> Result<String, Memo
     Ok(format!(in alloc;
         "Another encoder's stream begins with this item: it defines type {id} once more, in {way} way."
     )?)
-}
-
-fn hole_text(alloc: Global, zeros: usize) -> Result<String, Memory> {
-    Ok(format!(in alloc;
-        "{zeros} zeros stand here, and other bytes behind them: a piece of the file is lost, or was never written."
-    )?)
-}
-
-/// What to do then; IN is the file.
-pub(crate) fn step_text(alloc: Global, cause: Cause) -> Result<String, Memory> {
-    match cause {
-        Cause::Form(form) => Ok(String::from_str(alloc, form.command())?),
-        Cause::Length { bytes, .. } | Cause::Prefix { bytes } => tail_text(alloc, bytes),
-        Cause::AnotherStream { begin, .. } => halves_text(alloc, begin),
-        Cause::LineFeed { begin } | Cause::ZerosToEnd { begin } => {
-            Ok(format!(in alloc; "head -c {begin} IN | gob why")?)
-        }
-        Cause::ItemLimit { needed, .. } => Ok(format!(in alloc; "gob why --item {needed} IN")?),
-        Cause::DepthLimit { needed, .. } => Ok(format!(in alloc; "gob why --depth {needed} IN")?),
-        _ => Ok(String::from_str(alloc, plain_step(cause))?),
-    }
-}
-
-// What to do, where no number tells more.
-fn plain_step(cause: Cause) -> &'static str {
-    match cause {
-        Cause::Json => "jq . IN",
-        Cause::Text => "head IN",
-        Cause::Base64 { is_for_urls: false } => "base64 -d IN | gob why",
-        Cause::Base64 { is_for_urls: true } => "tr -- '-_' '+/' <IN | base64 -d | gob why",
-        Cause::Replaced => {
-            "Get the file once more, and send it as bytes: nothing on its way may take it for text."
-        }
-        Cause::Returns => {
-            "Get the file once more in binary, or type: LC_ALL=C sed 's/\\r$//' IN | gob why"
-        }
-        Cause::Hole { .. } => {
-            "Get the file once more from where it comes from, and compare its checksum."
-        }
-        Cause::Torn => "Get the whole file.",
-        Cause::NoBeginning => "Get the file from its first byte on.",
-        _ => "",
-    }
-}
-
-fn tail_text(alloc: Global, bytes: usize) -> Result<String, Memory> {
-    let first = bytes.saturating_add(1);
-    Ok(format!(in alloc; "tail -c +{first} IN | gob why")?)
-}
-
-fn halves_text(alloc: Global, begin: u64) -> Result<String, Memory> {
-    let first = begin.saturating_add(1);
-    Ok(format!(in alloc; "head -c {begin} IN | gob why; tail -c +{first} IN | gob why")?)
 }

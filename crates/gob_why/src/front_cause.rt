@@ -1,22 +1,31 @@
 //! What is behind a refusal in the first item, found in the first bytes of the input.
 
-use crate::base64_text::decoded;
 use crate::cause::Cause;
-use crate::form::form_of;
-use crate::marks::{is_json, is_text};
+use crate::length::length_cause;
+use crate::marks::rest_from;
 use crate::trial::tried;
+use gob_forms::{
+    Form, Spelling, chain_from, defines_at, form_of, form_of_maps, form_of_wide, http_head,
+    is_json, is_text, next_quoted,
+};
 use gob_num::Memory;
 use gob_stream::Limits;
 use std::alloc::Global;
 
-// The most bytes that are looked for before a stream.
-const MOST_PREFIX: usize = 64;
+/// No more of the first bytes is looked at.
+pub(crate) const FRONT: usize = 65536;
 
-// So many bytes of a stream tell enough of one that goes on.
-const SOME: usize = 1024;
+// The fewest bytes that tell that there is no other.
+const MANY: usize = 16;
 
-// No more of the first bytes is looked at.
-const FRONT: usize = 65536;
+// The fewest letters of base64 that are looked at in a string of JSON.
+const STRING: usize = 16;
+
+// So many strings or definitions are tried.
+const TRIES: u64 = 64;
+
+// So many items, one behind another, are no accident.
+const ENOUGH: u64 = 4;
 
 /// The first cause that they show, of which these were read.
 pub(crate) fn cause_at_front(
@@ -25,114 +34,118 @@ pub(crate) fn cause_at_front(
     limits: Limits,
 ) -> Result<Option<Cause>, Memory> {
     let front = &bytes[..bytes.len().min(FRONT)];
-    if let Some(form) = form_of(front) {
+    if let Some(form) = form_at(front) {
         return Ok(Some(Cause::Form(form)));
+    }
+    if let Some(bytes) = http_head(front) {
+        return Ok(Some(Cause::Http { bytes }));
+    }
+    if let Some(byte) = only_byte(front) {
+        return Ok(Some(Cause::OneByte { byte }));
     }
     if let Some(cause) = text_cause(alloc, front, limits)? {
         return Ok(Some(cause));
     }
-    if let Some(cause) = length_cause(alloc, front, limits)? {
-        return Ok(Some(cause));
-    }
-    prefix_cause(alloc, front, limits)
+    length_cause(alloc, front, limits)
 }
 
-// Text, which may be base64.
+fn form_at(front: &[u8]) -> Option<Form> {
+    if let Some(form) = form_of(front) {
+        return Some(form);
+    }
+    if let Some(form) = form_of_wide(front) {
+        return Some(form);
+    }
+    form_of_maps(front)
+}
+
+// The byte that each of many is.
+fn only_byte(front: &[u8]) -> Option<u8> {
+    let first = *front.first()?;
+    if front.len() < MANY || front.iter().any(|byte| *byte != first) {
+        return None;
+    }
+    Some(first)
+}
+
+// Text, which may spell a stream.
 fn text_cause(alloc: Global, front: &[u8], limits: Limits) -> Result<Option<Cause>, Memory> {
+    if let Some(spelling) = spelling_of(alloc, front, limits)? {
+        return Ok(Some(Cause::Spelled(spelling)));
+    }
     if front.is_empty() || !is_text(front) {
         return Ok(None);
     }
-    if is_json(front) {
-        return Ok(Some(Cause::Json));
+    if !is_json(front) {
+        return Ok(Some(Cause::Text));
     }
-    if let Some(bytes) = decoded(alloc, front)? {
-        if tried(alloc, &bytes, limits)?.is_front() {
-            let is_for_urls = front.contains(&b'-') || front.contains(&b'_');
-            return Ok(Some(Cause::Base64 { is_for_urls }));
+    match json_string(alloc, front, limits)? {
+        Some(start) => Ok(Some(Cause::JsonString { start })),
+        None => Ok(Some(Cause::Json)),
+    }
+}
+
+// How the bytes spell a stream, if they do.
+fn spelling_of(alloc: Global, front: &[u8], limits: Limits) -> Result<Option<Spelling>, Memory> {
+    for spelling in Spelling::ALL {
+        if let Some(bytes) = spelling.decode(alloc, front)? {
+            if tried(alloc, &bytes, limits)?.is_front() {
+                return Ok(Some(spelling));
+            }
         }
     }
-    Ok(Some(Cause::Text))
+    Ok(None)
 }
 
-// A length of what follows, in 4 bytes or in 8.
-fn length_cause(alloc: Global, front: &[u8], limits: Limits) -> Result<Option<Cause>, Memory> {
-    if let Some(is_high_first) = length_order(alloc, front, 4, limits)? {
-        return Ok(Some(Cause::Length {
-            bytes: 4,
-            is_high_first,
-        }));
-    }
-    if let Some(is_high_first) = length_order(alloc, front, 8, limits)? {
-        return Ok(Some(Cause::Length {
-            bytes: 8,
-            is_high_first,
-        }));
+// How a string of JSON begins that is base64 of a stream.
+fn json_string(alloc: Global, front: &[u8], limits: Limits) -> Result<Option<[u8; 8]>, Memory> {
+    let mut place = 0;
+    for _ in 0..TRIES {
+        let Some(quoted) = next_quoted(front, place) else {
+            return Ok(None);
+        };
+        if quoted.text.len() >= STRING {
+            if let Some(bytes) = Spelling::Base64.decode(alloc, quoted.text)? {
+                if tried(alloc, &bytes, limits)?.is_front() {
+                    return Ok(quoted.text.first_chunk::<8>().copied());
+                }
+            }
+        }
+        place = quoted.end.saturating_add(1);
     }
     Ok(None)
 }
 
-// Whether the high byte stands first of a length of so many bytes, where one stands there.
-fn length_order(
-    alloc: Global,
-    front: &[u8],
-    bytes: usize,
-    limits: Limits,
-) -> Result<Option<bool>, Memory> {
-    if front.len() <= bytes {
-        return Ok(None);
-    }
-    let (number, rest) = (&front[..bytes], &front[bytes..]);
-    let (high, low) = (high_first(number), low_first(number));
-    if is_length(alloc, rest, high, low, limits)? {
-        return Ok(Some(true));
-    }
-    if is_length(alloc, rest, low, high, limits)? {
-        return Ok(Some(false));
-    }
-    Ok(None)
-}
-
-// Whether the number is the length of a stream at the front of the bytes. Where these end before it, the other number
-// that it might be is above it.
-fn is_length(
+/// Where a stream begins behind the first of the bytes: with a definition, and a value behind it or the end.
+pub(crate) fn stream_in(
     alloc: Global,
     bytes: &[u8],
-    number: u64,
-    other: u64,
     limits: Limits,
-) -> Result<bool, Memory> {
-    let there = number.min(bytes.len() as u64) as usize;
-    let trial = tried(alloc, &bytes[..there], limits)?;
-    if number > bytes.len() as u64 {
-        return Ok(trial.is_front() && bytes.len() > SOME && number < other);
-    }
-    Ok(trial.is_front() && trial.end == there)
-}
-
-// The number that the bytes are, without its bits above the lowest 64.
-fn high_first(bytes: &[u8]) -> u64 {
-    let mut number = 0u64;
-    for byte in bytes {
-        number = number.wrapping_mul(256).wrapping_add(u64::from(*byte));
-    }
-    number
-}
-
-fn low_first(bytes: &[u8]) -> u64 {
-    let mut number = 0u64;
-    for byte in bytes.iter().rev() {
-        number = number.wrapping_mul(256).wrapping_add(u64::from(*byte));
-    }
-    number
-}
-
-// A stream behind some bytes, which begins with a definition.
-fn prefix_cause(alloc: Global, front: &[u8], limits: Limits) -> Result<Option<Cause>, Memory> {
-    for bytes in 1..front.len().min(MOST_PREFIX + 1) {
-        let trial = tried(alloc, &front[bytes..], limits)?;
-        if trial.is_front() && trial.defines {
-            return Ok(Some(Cause::Prefix { bytes }));
+) -> Result<Option<usize>, Memory> {
+    let mut tries = 0;
+    for place in 1..bytes.len() {
+        if tries < TRIES && defines_at(bytes, place) {
+            tries += 1;
+            if tried(alloc, rest_from(bytes, place), limits)?.begins() {
+                return Ok(Some(place));
+            }
         }
     }
     Ok(None)
+}
+
+/// Where items begin behind the first of the bytes, as their counts and type numbers say.
+pub(crate) fn items_in(bytes: &[u8]) -> Option<usize> {
+    for place in 1..bytes.len() {
+        if are_items(bytes, place) {
+            return Some(place);
+        }
+    }
+    None
+}
+
+/// Whether items stand from the place on: two at least up to the end, or enough of them.
+pub(crate) fn are_items(bytes: &[u8], place: usize) -> bool {
+    let chain = chain_from(bytes, place, ENOUGH);
+    chain.items == ENOUGH || (chain.items >= 2 && chain.is_to_end)
 }

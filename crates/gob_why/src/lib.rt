@@ -17,16 +17,14 @@
 #![tactic(auto)]
 
 mod alike;
-mod base64_text;
 mod cause;
 mod due;
 mod explain;
 mod explained;
-mod form;
 mod front_cause;
-mod head;
 mod item_cause;
 mod kept;
+mod length;
 mod marks;
 mod place;
 mod reading;
@@ -36,6 +34,7 @@ mod run;
 mod scene;
 mod sending;
 mod sentence;
+mod step;
 mod trial;
 mod words;
 

@@ -1,9 +1,9 @@
 //! Where in an item a refused byte stands, and what is due there.
 
 use crate::due::due_in;
-use crate::head::{Head, head_of};
-use crate::words::{type_name, type_text};
+use crate::words::{shortened, type_name, type_text};
 use gob_explain::{Awaited, Row, RowSink, Step, What, path_text, path_to, walk_body};
+use gob_forms::{Head, head_of};
 use gob_num::{Memory, uint_at};
 use gob_stream::Limits;
 use gob_types::{Basic, Kind, Reason, Shapes, Table, TypeId};
@@ -61,12 +61,13 @@ fn place_in_body(
     let steps = path_to(alloc, table, id, body)?;
     let path = path_text(alloc, table, &steps)?;
     let root = type_name(alloc, table, id)?;
+    let whole = format!(in alloc; "{root}{path}")?;
     let due = match due_of_reason(reason) {
         Some(due) => String::from_str(alloc, due)?,
         None => due_behind(alloc, table, id, body)?,
     };
     Ok(Place {
-        path: format!(in alloc; "{root}{path}")?,
+        path: shortened(alloc, whole.as_str())?,
         item: item_text(alloc, table, head)?,
         due,
     })

@@ -1,6 +1,6 @@
 //! What is said of a stream.
 
-use crate::cause::{Cause, cause_text, step_text};
+use crate::cause::{Cause, cause_text};
 use crate::front_cause::cause_at_front;
 use crate::item_cause::item_cause;
 use crate::kept::Kept;
@@ -8,7 +8,8 @@ use crate::marks::rest_from;
 use crate::place::{Place, place_behind};
 use crate::scene::Scene;
 use crate::sentence::{usual_cause, usual_step, what};
-use crate::words::{hex_text, plural, type_text};
+use crate::step::{step_text, with_file};
+use crate::words::{file_text, hex_text, plural, type_text};
 use gob_num::Memory;
 use gob_types::{Reason, Table, TypeId};
 use std::alloc::Global;
@@ -16,15 +17,20 @@ use std::alloc::Global;
 // How many bytes are shown that stand at the place.
 const MOST_FOUND: usize = 16;
 
-/// What is said of a refusal behind its line.
-pub(crate) fn refusal_words(alloc: Global, scene: &Scene<'_>) -> Result<String, Memory> {
+/// What is said of a refusal behind its line, where the input is the file of this name.
+pub(crate) fn refusal_words(
+    alloc: Global,
+    scene: &Scene<'_>,
+    name: Option<&str>,
+) -> Result<String, Memory> {
     let place = place_behind(alloc, scene.table, scene.before(), scene.refusal.reason)?;
     let mut text = String::new(alloc);
     let what = what(scene.refusal.reason);
     write!(text, "what: {what}\n")?;
     push_where(scene, &place, &mut text)?;
     push_found(alloc, scene, &place, &mut text)?;
-    push_cause(alloc, scene, &mut text)?;
+    let file = file_text(alloc, name)?;
+    push_cause(alloc, scene, file.as_str(), &mut text)?;
     Ok(text)
 }
 
@@ -83,14 +89,19 @@ fn found_text(alloc: Global, scene: &Scene<'_>) -> Result<String, Memory> {
     }
 }
 
-// What is behind it, and what to do.
-fn push_cause(alloc: Global, scene: &Scene<'_>, text: &mut String) -> Result<(), Memory> {
+// What is behind it, and what to do with the file.
+fn push_cause(
+    alloc: Global,
+    scene: &Scene<'_>,
+    file: &str,
+    text: &mut String,
+) -> Result<(), Memory> {
     let reason = scene.refusal.reason;
     let found = cause_of(alloc, scene)?;
     let cause = said_cause(alloc, found, reason)?;
     let cause = cause.as_str();
     write!(text, "cause: {cause}\n")?;
-    let step = said_step(alloc, found, reason)?;
+    let step = said_step(alloc, found, reason, file)?;
     let step = step.as_str();
     write!(text, "next: {step}\n")?;
     Ok(())
@@ -103,10 +114,15 @@ fn said_cause(alloc: Global, found: Option<Cause>, reason: Reason) -> Result<Str
     }
 }
 
-fn said_step(alloc: Global, found: Option<Cause>, reason: Reason) -> Result<String, Memory> {
+fn said_step(
+    alloc: Global,
+    found: Option<Cause>,
+    reason: Reason,
+    file: &str,
+) -> Result<String, Memory> {
     match found {
-        Some(cause) => step_text(alloc, cause),
-        None => Ok(String::from_str(alloc, usual_step(reason))?),
+        Some(cause) => step_text(alloc, cause, file),
+        None => with_file(alloc, usual_step(reason), file),
     }
 }
 

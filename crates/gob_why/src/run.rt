@@ -26,11 +26,13 @@ use std::io::{Read, Write};
 /// flush. Ok exactly at the end of a whole stream. Where a read fails or memory is wanting, nothing is written; at
 /// `ToolFault::Write` a prefix may be. What it takes in memory grows with the types and the largest item alone. No
 /// value may be deeper than `limits.depth()` or than 1000; what an interface holds is one deeper than the interface.
+/// `name` is that of the file that is read, if it has one: what to type has it in place of IN.
 pub fn run_why<R: Read, W: Write>(
     alloc: Global,
     input: &mut Input<R>,
     output: &mut Output<W>,
     limits: Limits,
+    name: Option<&str>,
 ) -> Result<(), ToolFault>
     ensures told { (bytes : List ℕ) → R.remaining (reader_of input.old) ≡ Some bytes
         → WhyAnswers (within_trees limits) bytes (R.remaining (reader_of input.new))
@@ -39,7 +41,7 @@ pub fn run_why<R: Read, W: Write>(
     ensures writes { CountsWriteFaults (failed_writes output.old) (failed_writes output.new) result }
     ensures flushed { IsFlushedSince (failed_writes output.old) output.new }
 {
-    end_run(tell_stream(alloc, input, output, limits), output)
+    end_run(tell_stream(alloc, input, output, limits, name), output)
 }
 
 /// Writes what is said of the stream.
@@ -48,6 +50,7 @@ fn tell_stream<R: Read, W: Write>(
     input: &mut Input<R>,
     output: &mut Output<W>,
     limits: Limits,
+    name: Option<&str>,
 ) -> Result<(), ToolFault>
     ensures told { (bytes : List ℕ) → R.remaining (reader_of input.old) ≡ Some bytes
         → WhyAnswers (within_trees limits) bytes (R.remaining (reader_of input.new))
@@ -68,7 +71,7 @@ fn tell_stream<R: Read, W: Write>(
                 limits,
                 kept: &kept,
             };
-            tell_refusal(alloc, &scene, output)?;
+            tell_refusal(alloc, &scene, name, output)?;
             Err(ToolFault::Refused(refusal))
         }
         Err(fault) => Err(fault),
@@ -95,13 +98,14 @@ fn tell_whole<W: Write>(
 fn tell_refusal<W: Write>(
     alloc: Global,
     scene: &Scene<'_>,
+    name: Option<&str>,
     output: &mut Output<W>,
 ) -> Result<(), ToolFault>
     ensures told { Tells (refusal_line scene.now.refusal) (W.contents (writer_of output.old))
         (W.contents (writer_of output.new)) result }
     ensures writes { CountsOnlyWrites (failed_writes output.old) (failed_writes output.new) result }
 {
-    let text = refusal_text(alloc, scene)?;
+    let text = refusal_text(alloc, scene, name)?;
     Ok(output.send_all(text.as_bytes())?)
 }
 
@@ -116,12 +120,12 @@ fn whole_text(alloc: Global, tally: Tally, table: &Table, kept: &Kept) -> Result
 }
 
 /// What is said of a refused one.
-fn refusal_text(alloc: Global, scene: &Scene<'_>) -> Result<String, Memory>
+fn refusal_text(alloc: Global, scene: &Scene<'_>, name: Option<&str>) -> Result<String, Memory>
     ensures { IfOk result (λ text. IsHeaded (refusal_line scene.now.refusal) (string_bytes text)) }
 {
     let refusal = scene.refusal;
     let mut text = format!(in alloc; "{refusal}\n")?;
-    let words = refusal_words(alloc, scene)?;
+    let words = refusal_words(alloc, scene, name)?;
     text.push_str(words.as_str())?;
     Ok(text)
 }

@@ -5,8 +5,12 @@ ghost use Rattle.gob_why.specs.Explain.{explained_up_to};
 
 use crate::kept::Kept;
 use crate::marks::front_to;
+use gob_forms::head_of;
 use gob_stream::{Limits, Refusal};
 use gob_types::{Reason, Table};
+
+/// No stream defines a type under a lower id.
+pub(crate) const FIRST_DEFINED: u64 = 64;
 
 /// A refusal, and what is known of the stream up to there.
 #[derive(Drop)]
@@ -29,6 +33,11 @@ impl<'a> Scene<'a> {
     pub(crate) fn place(&self) -> usize {
         let place = self.refusal.place.saturating_sub(self.kept.begin);
         place.min(self.item().len() as u64) as usize
+    }
+
+    /// Whether its count or its type number is refused.
+    pub(crate) fn is_in_head(&self) -> bool {
+        head_of(self.before()).is_none()
     }
 
     /// The first bytes of the item, up to the place to which it is explained: that of the refusal, or the end of a

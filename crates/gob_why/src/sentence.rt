@@ -1,5 +1,6 @@
 //! Each reason in a sentence, and what is usually behind it.
 
+use crate::scene::FIRST_DEFINED;
 use gob_types::Reason;
 
 const CHANGED: &str =
@@ -8,7 +9,8 @@ const CHANGED: &str =
 const WRITER: &str =
     "Go's encoder doesn't write this. Either these bytes were changed, or another program wrote the file.";
 
-const FETCH: &str =
+/// Where the file is to come from once more.
+pub(crate) const FETCH: &str =
     "Get the file once more from where it comes from, in binary, and compare its size or checksum.";
 
 /// What is wrong.
@@ -55,7 +57,7 @@ pub(crate) fn usual_cause(reason: Reason) -> &'static str {
         | Reason::BadReference
         | Reason::BadLength
         | Reason::DoesNotFit => WRITER,
-        Reason::UndefinedType(_) => {
+        Reason::UndefinedType(id) if id.0 >= FIRST_DEFINED => {
             "A definition before this value is missing: definitions come first, and once only."
         }
         Reason::TooDeep => {
@@ -65,12 +67,13 @@ pub(crate) fn usual_cause(reason: Reason) -> &'static str {
     }
 }
 
-/// What to do then.
+/// What to do then, where IN is the file.
 pub(crate) fn usual_step(reason: Reason) -> &'static str {
     match reason {
         Reason::TooDeep =>
             "If the values are meant to be so deep, type: gob check --depth 65536 IN",
-        Reason::UndefinedType(_) => "Get the file from its first byte on.",
+        Reason::UndefinedType(id) if id.0 >= FIRST_DEFINED =>
+            "Get the file from its first byte on.",
         _ => FETCH,
     }
 }

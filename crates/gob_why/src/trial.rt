@@ -17,6 +17,8 @@ pub(crate) struct Trial {
     pub(crate) end: usize,
     /// Whether the first of them defines a type.
     pub(crate) defines: bool,
+    /// Whether one of them is a value.
+    pub(crate) has_value: bool,
     /// Whether what follows is refused, for another reason than that it ends.
     pub(crate) is_refused: bool,
 }
@@ -27,6 +29,7 @@ impl Trial {
         items: 0,
         end: 0,
         defines: false,
+        has_value: false,
         is_refused: false,
     };
 
@@ -35,14 +38,21 @@ impl Trial {
         self.items > 0 && !self.is_refused
     }
 
+    /// Whether a stream begins as they do: with a definition, and behind it a value or the end.
+    pub(crate) fn begins(&self) -> bool {
+        self.defines && (self.has_value || !self.is_refused)
+    }
+
     // Counts an item that ends here, if there is one.
     fn count(&mut self, item: &Option<GoItem>, end: usize) {
         let Some(item) = item else {
             return;
         };
+        let defines = matches!(item, GoItem::Define { .. });
         if self.items == 0 {
-            self.defines = matches!(item, GoItem::Define { .. });
+            self.defines = defines;
         }
+        self.has_value = self.has_value || !defines;
         self.items = self.items.saturating_add(1);
         self.end = end;
     }

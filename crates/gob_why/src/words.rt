@@ -1,10 +1,19 @@
-//! Names and numbers in sentences.
+//! Names, paths and numbers in sentences.
+
+ghost use Rattle.std.specs.Prelude.{IfOk, string_bytes};
+ghost use Rattle.gob_words.specs.Escaped.{IsUnobeyed};
 
 use gob_num::Memory;
 use gob_types::{Shapes, Table, TypeId};
 use gob_words::escaped;
 use std::alloc::Global;
 use std::str;
+
+// The most characters of a path.
+const MOST_PATH: usize = 200;
+
+// What stands in place of its middle.
+const LEFT_OUT: &str = " .. ";
 
 /// A name of the stream as a terminal can show it: its text, or where it is none, 0x and its bytes.
 pub(crate) fn name_text(alloc: Global, name: &[u8]) -> Result<String, Memory> {
@@ -19,6 +28,72 @@ pub(crate) fn name_text(alloc: Global, name: &[u8]) -> Result<String, Memory> {
             Ok(text)
         }
     }
+}
+
+/// The path as it stands in a line: of a long one the middle is left out, so that it has 200 characters.
+pub(crate) fn shortened(alloc: Global, path: &str) -> Result<String, Memory> {
+    let count = path.chars().count();
+    if count <= MOST_PATH {
+        return Ok(String::from_str(alloc, path)?);
+    }
+    let side = (MOST_PATH - LEFT_OUT.len()) / 2;
+    let mut text = String::new(alloc);
+    let mut place = 0usize;
+    for character in path.chars() {
+        if place == side {
+            text.push_str(LEFT_OUT)?;
+        }
+        if place < side || place >= count.saturating_sub(side) {
+            text.push(character)?;
+        }
+        place = place.saturating_add(1);
+    }
+    Ok(text)
+}
+
+/// The name of a file as it is typed in a shell: between quotes where it has other characters than those of most names,
+/// and IN where there is no name. What a terminal obeys stands in it as `\u{..}`.
+pub(crate) fn file_text(alloc: Global, name: Option<&str>) -> Result<String, Memory>
+    ensures { IfOk result (λ text. IsUnobeyed (string_bytes text)) }
+{
+    let typed = match name {
+        Some(name) => typed_name(alloc, name)?,
+        None => String::from_str(alloc, "IN")?,
+    };
+    Ok(escaped(alloc, typed.as_str())?)
+}
+
+// The name as a shell takes it for a file's.
+fn typed_name(alloc: Global, name: &str) -> Result<String, Memory> {
+    let mut text = String::new(alloc);
+    if name.starts_with('-') {
+        text.push_str("./")?;
+    }
+    if name.bytes().all(is_plain) {
+        text.push_str(name)?;
+    } else {
+        push_quoted(name, &mut text)?;
+    }
+    Ok(text)
+}
+
+// Appends the name between quotes. A quote in it stands between two such parts, behind a backslash.
+fn push_quoted(name: &str, text: &mut String) -> Result<(), Memory> {
+    text.push('\'')?;
+    for character in name.chars() {
+        if character == '\'' {
+            text.push_str("'\\''")?;
+        } else {
+            text.push(character)?;
+        }
+    }
+    text.push('\'')?;
+    Ok(())
+}
+
+// Whether a shell takes the byte for itself.
+fn is_plain(byte: u8) -> bool {
+    byte.is_ascii_alphanumeric() || b"._-/+:@%,".contains(&byte)
 }
 
 /// The bytes in hexadecimal, a space between two; no more of them than `most`.

@@ -50,7 +50,7 @@ fn ends(
     };
     let mut input = Input::new(reader);
     let mut output = Output::new(&mut writer);
-    let ended = run_why(alloc, &mut input, &mut output, Limits::standard());
+    let ended = run_why(alloc, &mut input, &mut output, Limits::standard(), None);
     let is_prefix = row.said.as_bytes().starts_with(writer.held.as_slice());
     let written = if is_prefix {
         Some(writer.held.len())
