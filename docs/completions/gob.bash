@@ -3,20 +3,20 @@ _gob() {
     local current=${COMP_WORDS[COMP_CWORD]} previous=${COMP_WORDS[COMP_CWORD - 1]} words=
     COMPREPLY=()
     case $previous in
-    --depth | --item | --at) return ;;
+    --depth | --item | --only | --at) return ;;
     esac
     if [ "$COMP_CWORD" -eq 1 ]; then
-        words='show check rewrite take values types why explain salvage version help --help -h --version -V'
+        words='values types why explain verify salvage show check rewrite take version help --help -h --version -V'
     elif [ "${COMP_WORDS[1]}" = help ]; then
-        words='show check rewrite take values types why explain salvage version help'
+        words='values types why explain verify salvage show check rewrite take version help'
     elif [[ $current == -* ]]; then
         words='--depth --item -h --help'
         case ${COMP_WORDS[1]} in
+        values) words+=' --zeros --raw --tagged --typed --only' ;;
+        explain) words+=' --fault --at' ;;
         show) words+=' --go' ;;
         check) words+=' --go' ;;
         rewrite) words+=' --go --hoist' ;;
-        values) words+=' --zeros --raw --tagged' ;;
-        explain) words+=' --fault --at' ;;
         esac
     else
         mapfile -t COMPREPLY < <(compgen -f -- "$current")

@@ -19,7 +19,7 @@ function textOf(bytes) {
 }
 
 // The characters that control how a text is shown: those that `gob values` escapes.
-const CONTROLS = /[\u007f-\u009f\u061c\u200e\u200f\u2028-\u202e\u2066-\u2069]/g;
+const CONTROLS = /[\u007f-\u009f\u061c\u200b-\u200f\u2028-\u202e\u2066-\u2069\ufeff]/g;
 const escaped = (character) => "\\u" + character.charCodeAt(0).toString(16).padStart(4, "0");
 
 /** JSON text in which no character controls how it is shown. */

@@ -441,7 +441,7 @@ STOP = """{
         clearInterval(go);
     }, 20);
 }"""
-CONTROLS = re.compile("[\u0000-\u0008\u000b-\u001f\u007f-\u009f\u061c\u200e\u200f\u2028-\u202e\u2066-\u2069]")
+CONTROLS = re.compile("[\u0000-\u0008\u000b-\u001f\u007f-\u009f\u061c\u200b-\u200f\u2028-\u202e\u2066-\u2069\ufeff]")
 WATCH = """
     var watched = { longest: 0, bars: 0 };
     {

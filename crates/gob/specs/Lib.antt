@@ -1,2 +1,4 @@
 pub mod Closing
 pub mod Stop
+pub mod Verdicts
+pub mod WayOn

@@ -1,5 +1,5 @@
 -- How the program ends. (docs/FORMAT.md, The program: this project's own.)
-use Rattle.std.specs.Prelude.{◌≡◌, ◌≢◌, ◌⊎◌, ◌++◌, ⊤, ℕ, List, [], codes, Option, Some, IsTrue, Result, Ok, Err}
+use Rattle.std.specs.Prelude.{◌≡◌, ◌≢◌, ◌⊎◌, ◌++◌, ⊤, ℕ, List, [], ◌∷◌, codes, Option, Some, IsTrue, Result, Ok, Err}
 use Rattle.std.specs.Io.KnownBytes.{append_known}
 use Rattle.gob_stream.specs.Calls.Ends.{failed_reads, reader_of}
 use Rattle.gob_stream.specs.declared.input.Input.{Input}
@@ -17,8 +17,11 @@ use Rattle.gob_words.specs.declared.view.View.{View}
 use Rattle.gob_views.specs.Running.{ViewAnswers}
 use Rattle.gob.specs.declared.AfterRun.{AfterRun}
 use Rattle.gob.specs.declared.Stop.{Stop}
-use Rattle.gob.specs.declared.Stop.TheVariants.{Words, Run, Told, LeftOut, Unread}
+use Rattle.gob.specs.declared.Stop.TheVariants.{Words, Run, Told, RefusedFile, LeftOut, Verified, Unread}
 use Rattle.gob.specs.declared.Stop.TheVariants as stop
+use Rattle.gob.specs.declared.verdict.Verdict.{Verdict}
+use Rattle.gob.specs.declared.verdict.Verdict.TheVariants as verdict
+use Rattle.gob.specs.Verdicts.{verdict_status}
 
 -- the exit status after what ends it with a line
 abbrev pub stop_status : Stop → ℕ
@@ -26,7 +29,9 @@ stop_status (Words fault) = order_status fault
 stop_status (Run fault) = fault_status fault
 stop_status (Told fault) = fault_status fault
 stop_status (stop.View line) = 2
+stop_status (RefusedFile fault line) = fault_status fault
 stop_status (LeftOut report) = 1
+stop_status (Verified said) = verdict_status said
 stop_status Unread = 2
 
 -- the exit status
@@ -34,13 +39,16 @@ abbrev pub ending_status : Result (Unit {0}) Stop → ℕ
 ending_status (Ok _) = 0
 ending_status (Err stop) = stop_status stop
 
--- the line on standard error; none is printed where nobody reads what is written, or where it is told already
+-- the line on standard error, or the two; none is printed where nobody reads what is written, where it is told already,
+-- or where each file has a line
 abbrev pub stop_line : Stop → List ℕ
 stop_line (Words fault) = order_line fault
 stop_line (Run fault) = fault_line fault
 stop_line (Told fault) = fault_line fault
 stop_line (stop.View line) = codes "gob: " ++ line.bytes.items
+stop_line (RefusedFile fault line) = fault_line fault ++ 10 ∷ line.bytes.items
 stop_line (LeftOut report) = report.bytes.items
+stop_line (Verified said) = []
 stop_line Unread = fault_line run_fault.Write
 
 -- the run that ends the program so has answered this
@@ -50,7 +58,9 @@ HasAnswered answer (Err (Words fault)) = ⊥
 HasAnswered answer (Err (Run fault)) = answer ≡ Err fault
 HasAnswered answer (Err (Told fault)) = ⊥
 HasAnswered answer (Err (stop.View line)) = ⊥
+HasAnswered answer (Err (RefusedFile fault line)) = ⊥
 HasAnswered answer (Err (LeftOut report)) = ⊥
+HasAnswered answer (Err (Verified said)) = ⊥
 HasAnswered answer (Err Unread) = answer ≡ Err run_fault.Write
 
 -- a refusal is told once: where the run of `why` has said it, and by no other end
@@ -62,6 +72,11 @@ IsToldOnce ending result = result ≡ ending
 abbrev pub IsUnopened : Stop → Type 0
 IsUnopened (stop.View line) = ⊤
 IsUnopened end = end ≡ Run run_fault.Memory
+
+-- how the program ends where this was said of the worst file
+abbrev pub EndsWith : Verdict → Result (Unit {0}) Stop → Type 0
+EndsWith verdict.Whole result = result ≡ Ok tt
+EndsWith said result = result ≡ Err (Verified said)
 
 -- what comes of a fault of the words: help is printed, unless that fails, and any other stops the program
 abbrev pub IsAnswered : OrderFault → Result (Unit {0}) Stop → Type 0

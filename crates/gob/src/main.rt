@@ -6,10 +6,12 @@
 //! `gob take WANTED [IN]` receives each value of IN as one of the type of the first value in the file WANTED, and
 //! prints a line for each. `gob values [IN]` prints each value as plain JSON, `gob types [IN]` the types as Go source,
 //! `gob why [IN]` why IN is refused or how much is in it, `gob explain [IN]` the bytes row by row, and `gob version`
-//! the version. `gob salvage [IN]` writes what isn't damaged of IN, and says on standard error what is left out.
+//! the version. `gob verify FILE..` prints a line for each file that says whether it is a whole stream.
+//! `gob salvage [IN]` writes what isn't damaged of IN, and says on standard error what is left out.
 //! `gob help` says the rest. Where the program stops at a fault, it prints a line on standard error, but none where
-//! `why` has said it on standard output. Its exit status is 0 for a whole stream and for help, 1 for an input that is no
-//! stream, that is damaged or has values that don't match, and 2 for all else.
+//! `why` has said it on standard output, and behind a refusal of another view's file what to type. Its exit status is 0
+//! for a whole stream and for help, 1 for an input that is no stream, that is damaged or has values that don't match,
+//! and 2 for all else.
 #![tactic(auto)]
 
 ghost use Rattle.std.specs.Prelude.{◌≡◌, ◌≢◌, ℕ, List, [], Some, IfOk, IsErrAnd, IsTrue, MatchResult, string_bytes};
@@ -23,13 +25,21 @@ ghost use Rattle.gob.specs.Stop.{stop_status, ending_status, HasAnswered, EndsRu
 ghost use Rattle.gob.specs.Stop.{IsQuietIfClosed, IsToldOnce, IsUnopened, seen_after, seen_of, unused};
 
 mod pipe;
+mod verdict;
+mod verify;
+mod way_on;
 
 use crate::pipe::Pipe;
+use crate::verdict::Verdict;
+use crate::verify::verify;
+use crate::way_on::with_way_on;
 use gob_salvage::{Salvaged, report};
 use gob_stream::{Input, Output};
 use gob_tool::{ToolFault, run_order, status};
 use gob_views::run_view;
-use gob_words::{Order, OrderFault, View, ViewCommand, ViewFault, escaped, order_of, view_of};
+use gob_words::{
+    Order, OrderFault, View, ViewCommand, ViewFault, escaped, files_of, order_of, view_of,
+};
 use std::alloc::{AllocError, Global};
 use std::fs::File;
 use std::io::{BufWriter, ErrorKind, Read, Write};
@@ -48,8 +58,12 @@ enum Stop {
     Told(ToolFault),
     // What is wrong with the words of a view, or with the file that they name.
     View(String),
+    // A refusal of the file of a view, and what to type to learn more.
+    RefusedFile(ToolFault, String),
     // What is told of an input of which something was left out.
     LeftOut(String),
+    // What was said of the worst of the files that were verified.
+    Verified(Verdict),
     // Nobody reads what is written any more.
     Unread,
 }
@@ -68,8 +82,9 @@ impl Stop {
     {
         match self {
             Stop::Words(fault) => fault.status(),
-            Stop::Run(fault) | Stop::Told(fault) => status(fault),
+            Stop::Run(fault) | Stop::Told(fault) | Stop::RefusedFile(fault, _) => status(fault),
             Stop::LeftOut(_) => 1,
+            Stop::Verified(verdict) => verdict.status(),
             Stop::View(_) | Stop::Unread => 2,
         }
     }
@@ -86,7 +101,9 @@ impl fmt::Display for Stop {
             Stop::Words(fault) => write!(f, "{fault}"),
             Stop::Run(fault) | Stop::Told(fault) => write!(f, "{fault}"),
             Stop::View(line) => write!(f, "gob: {line}"),
+            Stop::RefusedFile(fault, line) => write!(f, "{fault}\n{line}"),
             Stop::LeftOut(report) => f.write_str(report.as_str()),
+            Stop::Verified(_) => Ok(()),
             Stop::Unread => write!(f, "gob: write fault"),
         }
     }
@@ -117,6 +134,8 @@ fn end(rt: &HostRuntime, ending: Result<(), Stop>) -> ExitCode
         // Whoever closed the pipe has what they wanted, so nothing is said.
         Err(Stop::Unread) => ExitCode::from(Stop::Unread.status()),
         Err(Stop::Told(fault)) => ExitCode::from(status(&fault)),
+        // Each file has its line on standard output.
+        Err(Stop::Verified(verdict)) => ExitCode::from(verdict.status()),
         Err(stop) => {
             // Where standard error takes no line, the status still tells.
             let _ = eprintln!(rt; "{stop}");
@@ -142,6 +161,10 @@ fn run(rt: &HostRuntime) -> Result<(), Stop> {
 // Judges the words that give no order, and shows what they ask for.
 fn run_shown(rt: &HostRuntime, names: &[&str]) -> Result<(), Stop> {
     match view_of(rt.alloc(), names) {
+        Ok(view) if view.command == ViewCommand::Verify => {
+            let files = files_of(rt.alloc(), names)?;
+            verify(rt, &view, &files)
+        }
         Ok(view) => run_view_on(rt, &view),
         Err(ViewFault::Order(fault)) => answer(rt, fault),
         Err(ViewFault::Word(line)) => Err(Stop::View(line)),
@@ -208,7 +231,7 @@ fn run_view_on(rt: &HostRuntime, view: &View) -> Result<(), Stop> {
             show_out(rt.alloc(), view, &mut input, writer, &mut told).ending
         }
     };
-    told_once(view.command, ending)?;
+    with_way_on(rt.alloc(), view, told_once(view.command, ending))?;
     match told {
         Some(kept) => tell(rt, &kept),
         None => Ok(()),

@@ -1,4 +1,5 @@
-//! A counter behind a pointer that C keeps.
+//! A counter behind a pointer that C keeps. Its handle is a struct beside the reader's, since no export may take a
+//! struct with type arguments.
 
 ghost use Rattle.std.specs.Prelude.{◌≡◌, Option, IsSome};
 ghost use Rattle.gob_c.specs.declared.any_counter.AnyCounter.{AnyCounter};

@@ -1,4 +1,5 @@
 pub mod IdLaws
 pub mod PlainLaws
 pub mod SendLaws
+pub mod VerifyLaws
 pub mod TypeRuns

@@ -1,5 +1,5 @@
 -- The lines of values.
-use Rattle.std.proofs.Common.{◌≡◌, ◌∙◌, ℕ, List, [], ◌∷◌, ◌++◌, Bool, arith, ap, min, sym, subst}
+use Rattle.std.proofs.Common.{◌≡◌, ◌∙◌, ℕ, List, [], ◌∷◌, ◌++◌, arith, ap, min, sym, subst}
 use Rattle.json.specs.Json.{Json}
 use Rattle.json.specs.Lex.{tokens}
 use Rattle.json.specs.Print.{print}
@@ -11,80 +11,91 @@ use Rattle.gob_value.specs.Tree.{Tree}
 use Rattle.gob_value.specs.declared.value.Value.{Value}
 use Rattle.gob_tape.specs.Flat.{Flat}
 use Rattle.gob_tape.specs.Meaning.{Means}
-use Rattle.gob_plain.specs.declared.style.Style.{Style}
 use Rattle.gob_plain.specs.Filled.{SaysIn}
 use Rattle.gob_stream.specs.Bounds.{deepest, greatest_depth}
 use Rattle.gob_filled.specs.Stream.{FilledItem}
 use Rattle.gob_go.specs.Calls.Reader.{session_of, waits_in}
 use Rattle.gob_go.specs.Calls.Session.{HasBodyNext, IsBetweenItems, limits_of, types_of}
-use Rattle.gob_go.specs.Meaning.{ItemMeans, means_definition, means_value}
+use Rattle.gob_go.specs.Meaning.{IsFilled, ItemMeans, means_definition, means_value}
+use Rattle.gob_filled.specs.Filled as spelled
 use Rattle.gob_go.specs.declared.filled.Filled.{Filled}
 use Rattle.gob_go.specs.declared.item.GoItem.{GoItem}
 use Rattle.gob_go.specs.declared.item.GoItem.TheVariants as item
 use Rattle.gob_go.specs.Calls.Reader.{GoReader}
-use Rattle.gob_go_plain.proofs.PublicLaws.{ValueText, says_unfilled}
+use Rattle.gob_go_plain.specs.Filled.{SaysFilled}
+use Rattle.gob_go_plain.proofs.PublicLaws.{says_unfilled}
 use Rattle.gob_go_tool.specs.Texts.{IsWholeText}
 use Rattle.gob_go_tool.proofs.TextLaws.{whole_text}
 use Rattle.gob_views.specs.Machine.Tapes.{IsTapeOf}
-use Rattle.gob_views.specs.Values.{IsPlainLine}
+use Rattle.gob_words.specs.Words.{text_of}
+use Rattle.gob_views.specs.Values.{IsChosen, IsLineOf, is_shown, is_left_out, IsPlainLine, shown_json}
+use Rattle.gob_views.specs.declared.value_line.ValueLines.{ValueLines}
 
 -- a reader that reads JSON in its text reads it in the line
 abbrev pub ReadsInLine : List ℕ → Type 0
 ReadsInLine text = (j : Json) → text ≡ print (json_tokens j) → tokens text ≡ json_tokens j
     → tokens (shown_text text) ≡ json_tokens j
 
+-- ---- the line of a value
+
+-- what one JSON is said of, another may be
+line_weaker : {lines : ValueLines} {T : Table} {t : TypeId} {P Q : Json → Type 0} {line : List ℕ}
+    → ((j : Json) → P j → Q j) → IsLineOf lines T t P line → IsLineOf lines T t Q line
+line_weaker more (is_shown chosen json says text prints reads) = is_shown chosen json (more json says) text prints reads
+line_weaker more (is_left_out other) = is_left_out other
+
+-- the line of JSON, where it is that of the type's name
+pub shown_line : {lines : ValueLines} {T : Table} {t : TypeId} {P : Json → Type 0} {text old line : List ℕ}
+    → IsChosen (text_of lines.only) T t → (j : Json) → P j → text ≡ print (json_tokens (shown_json lines T t j))
+    → tokens text ≡ json_tokens (shown_json lines T t j) → ReadsInLine text → old ≡ []
+    → line ≡ old ++ (shown_text text ++ 10 ∷ []) → IsLineOf lines T t P line
+shown_line {lines = lines} {T = T} {t = t} {P = P} {text = text} chosen j says prints read reads none made =
+    subst (λ l. IsLineOf lines T t P l) (sym (made ∙ ap (λ (l : List ℕ). l ++ (shown_text text ++ 10 ∷ [])) none))
+    (is_shown chosen j says (shown_text text) (ap shown_text prints)
+    (reads (shown_json lines T t j) prints read))
+
+-- and of no type that is chosen
+pub left_out_line : {lines : ValueLines} {T : Table} {t : TypeId} {P : Json → Type 0} {line : List ℕ}
+    → ¬ IsChosen (text_of lines.only) T t → line ≡ [] → IsLineOf lines T t P line
+left_out_line {lines = lines} {T = T} {t = t} {P = P} other none =
+    subst (λ l. IsLineOf lines T t P l) (sym none) (is_left_out other)
+
 -- ---- an item that was given
-pub definition_line : (tagged : Bool) (style : Style) {T : Table} {given : GoItem} {id : TypeId} {described : Value}
+pub definition_line : (lines : ValueLines) {T : Table} {given : GoItem} {id : TypeId} {described : Value}
     {line : List ℕ} → given ≡ item.Define id described → line ≡ [] → (i : FilledItem) → ItemMeans T given i
-    → IsPlainLine tagged style T i line
-definition_line tagged style {T = T} {id = id} {described = described} {line = line} e none =
-    subst (λ g. (i : FilledItem) → ItemMeans T g i → IsPlainLine tagged style T i line) (sym e) (λ i m. by m)
+    → IsPlainLine lines T i line
+definition_line lines {T = T} {id = id} {described = described} {line = line} e none =
+    subst (λ g. (i : FilledItem) → ItemMeans T g i → IsPlainLine lines T i line) (sym e) (λ i m. by m)
   where
-    by : {i : FilledItem} → ItemMeans T (item.Define id described) i → IsPlainLine tagged style T i line
+    by : {i : FilledItem} → ItemMeans T (item.Define id described) i → IsPlainLine lines T i line
     by means_definition = none
 
-pub value_line : {tagged : Bool} {style : Style} {T : Table} {given : GoItem} {id : TypeId} {kept : Filled}
-    {text old line : List ℕ} → given ≡ item.Put id kept → ValueText tagged style T id kept text → ReadsInLine text
-    → old ≡ [] → line ≡ old ++ (shown_text text ++ 10 ∷ []) → (i : FilledItem) → ItemMeans T given i
-    → IsPlainLine tagged style T i line
-value_line {tagged = tagged} {style = style} {T = T} {id = id} {kept = kept} {text = text} {line = line} e said reads
-    none made =
-    subst (λ g. (i : FilledItem) → ItemMeans T g i → IsPlainLine tagged style T i line) (sym e) (λ i m. by m)
+pub value_line : {lines : ValueLines} {T : Table} {given : GoItem} {id : TypeId} {kept : Filled} {line : List ℕ}
+    → given ≡ item.Put id kept → ((w : spelled.Filled) → IsFilled T id kept w
+    → IsLineOf lines T id (SaysFilled lines.tagged lines.style T id w) line)
+    → (i : FilledItem) → ItemMeans T given i → IsPlainLine lines T i line
+value_line {lines = lines} {T = T} {id = id} {kept = kept} {line = line} e made =
+    subst (λ g. (i : FilledItem) → ItemMeans T g i → IsPlainLine lines T i line) (sym e) (λ i m. by m)
   where
-    by : {i : FilledItem} → ItemMeans T (item.Put id kept) i → IsPlainLine tagged style T i line
-    by (means_value {w = w} m) =
-        let s = said w m in (
-          shown_text text,
-          record { json = s.0; says = s.1; prints = ap shown_text s.2; reads = reads s.0 s.2 s.3 },
-          made ∙ ap (λ (l : List ℕ). l ++ (shown_text text ++ 10 ∷ [])) none,
-        )
+    by : {i : FilledItem} → ItemMeans T (item.Put id kept) i → IsPlainLine lines T i line
+    by (means_value {w = w} m) = made w m
 
 -- ---- an item that waits as a whole
-pub whole_line : {tagged : Bool} {style : Style} {T U : Table} {r : GoReader} {id : TypeId} {body text line : List ℕ}
+pub whole_line : {lines : ValueLines} {T U : Table} {r : GoReader} {id : TypeId} {body line : List ℕ}
     {used limit : ℕ} {tape : Flat} → IsBetweenItems (session_of r)
     → HasBodyNext (session_of r) id body used (waits_in r)
     → T ≡ types_of (session_of r) → U ≡ types_of (session_of r)
     → limit ≡ min (limits_of (session_of r)).depth greatest_depth
     → IsTapeOf T id (min limit deepest) body tape
-    → ((v : Tree) → Means tape v → (j : Json) × SaysIn style U id v j × (text ≡ print (json_tokens j))
-    × (tokens text ≡ json_tokens j)) → ReadsInLine text → line ≡ shown_text text ++ 10 ∷ []
-    → IsWholeText (IsPlainLine tagged style) r used line
-whole_line {tagged = tagged} {style = style} {r = r} {id = id} {body = body} {text = text} {limit = limit} {tape = tape}
-    between next same also deep t says reads made =
+    → ((v : Tree) → Means tape v → IsLineOf lines U id (SaysIn lines.style U id v) line)
+    → IsWholeText (IsPlainLine lines) r used line
+whole_line {lines = lines} {r = r} {id = id} {body = body} {line = line} {limit = limit} {tape = tape}
+    between next same also deep t made =
     let S = types_of (session_of r) in
     let by = subst (λ (T : Table). IsTapeOf T id (min limit deepest) body tape) same t in
     let v = by.whole.value in
-    let s = says v by.means in
     let within = by.whole.within in
-    let plain = subst (λ (T : Table). SaysIn style T id v s.0) also s.1 in
-    whole_text (IsPlainLine tagged style) between next
-    (record { value = v; spelled = by.whole.spelled; within = omega (arith, within, deep) }) (
-      shown_text text,
-      record {
-        json = s.0;
-        says = says_unfilled tagged style S id v body s.0 by.whole.spelled plain;
-        prints = ap shown_text s.2;
-        reads = reads s.0 s.2 s.3;
-      },
-      made,
-    )
+    let plain = subst (λ (T : Table). IsLineOf lines T id (SaysIn lines.style T id v) line) also (made v by.means) in
+    whole_text (IsPlainLine lines) between next
+    (record { value = v; spelled = by.whole.spelled; within = omega (arith, within, deep) })
+    (line_weaker (λ j says. says_unfilled lines.tagged lines.style S id v body j by.whole.spelled says) plain)

@@ -1,4 +1,5 @@
 pub mod Values
+pub mod Verify
 pub mod Sending
 pub mod Types
 pub mod Running

@@ -3,7 +3,6 @@ use Rattle.std.specs.Prelude.{ℕ, Bool, true, false, List, [], ◌∷◌, ◌++
 use Rattle.gob_go_tool.specs.CheckingGo.{CheckGoAnswers}
 use Rattle.gob_go_tool.specs.RewritingGo.{RewriteGoAnswers}
 use Rattle.gob_go_tool.specs.ShowingGo.{ShowGoAnswers}
-use Rattle.gob_plain.specs.declared.style.Style.{Style}
 use Rattle.gob_salvage.specs.Running.{SalvageAnswers}
 use Rattle.gob_salvage.specs.declared.keeping.Salvaged.{Salvaged}
 use Rattle.gob_stream.specs.Bounds.{Bounds}
@@ -15,6 +14,7 @@ use Rattle.gob_why.specs.declared.explained.Explained.TheVariants as explained
 use Rattle.gob_words.specs.declared.view.View.{View}
 use Rattle.gob_words.specs.declared.view.ViewCommand.{ViewCommand}
 use Rattle.gob_words.specs.declared.view.ViewCommand.TheVariants as command
+use Rattle.gob_views.specs.declared.value_line.ValueLines.{ValueLines}
 use Rattle.gob_views.specs.Sending.{SendsText}
 use Rattle.gob_views.specs.Types.{TypesAnswers}
 use Rattle.gob_views.specs.Values.{ValuesAnswers}
@@ -23,9 +23,14 @@ use Rattle.gob_views.specs.Values.{ValuesAnswers}
 abbrev pub view_limits : View → Bounds
 view_limits view = record { item = view.item; depth = view.depth; types = 10000; stream = 68719476736 }
 
--- the style in which values are written
-abbrev pub view_style : View → Style
-view_style view = record { zeros = view.zeros; raw = view.raw }
+-- how values are printed, and which
+abbrev pub view_lines : View → ValueLines
+view_lines view = record {
+  style = record { zeros = view.zeros; raw = view.raw };
+  tagged = view.tagged;
+  typed = view.typed;
+  only = view.only;
+}
 
 -- which items are explained: the refused one before the one around a byte, where both are asked for
 abbrev pub explained_by : (fault : Bool) → (at : Option ℕ) → Explained
@@ -44,7 +49,7 @@ version_line = codes "gob 0.1.0" ++ 10 ∷ []
 abbrev pub CommandAnswers : ViewCommand → View → (bytes : List ℕ) → (now old new : Option (List ℕ))
     → Result (Unit {0}) ToolFault → Type 0
 CommandAnswers command.Values view bytes now old new result =
-    ValuesAnswers view.tagged (view_style view) (view_limits view) bytes now old new result
+    ValuesAnswers (view_lines view) (view_limits view) bytes now old new result
 CommandAnswers command.Types view bytes now old new result = TypesAnswers (view_limits view) bytes now old new result
 CommandAnswers command.Why view bytes now old new result = WhyAnswers (view_limits view) bytes now old new result
 CommandAnswers command.Explain view bytes now old new result =
@@ -54,6 +59,8 @@ CommandAnswers command.Salvage view bytes now old new result =
 CommandAnswers command.Version view bytes now old new result = SendsText old new version_line result
 CommandAnswers command.ShowGo view bytes now old new result = ShowGoAnswers (view_limits view) bytes now old new result
 CommandAnswers command.CheckGo view bytes now old new result =
+    CheckGoAnswers (view_limits view) bytes now old new result
+CommandAnswers command.Verify view bytes now old new result =
     CheckGoAnswers (view_limits view) bytes now old new result
 CommandAnswers command.RewriteGo view bytes now old new result =
     RewriteGoAnswers view.hoist (view_limits view) bytes now old new result

@@ -1,39 +1,55 @@
 -- What the run that prints the values of a stream answers, and what it has written then. (docs/FORMAT.md, Plain values;
 -- The program: this project's own.)
-use Rattle.std.specs.Prelude.{◌≡◌, ℕ, Bool, List, [], ◌∷◌, ◌++◌, Option, Result}
+use Rattle.std.specs.Prelude.{◌≡◌, ◌⊎◌, ⊤, ℕ, List, [], ◌∷◌, ◌++◌, Option, Some, None, Result}
 use Rattle.json.specs.Json.{Json}
 use Rattle.json.specs.Lex.{tokens}
 use Rattle.json.specs.Print.{print}
 use Rattle.json.specs.Tree.{json_tokens}
 use Rattle.json_controls.specs.Controls.{shown_text}
 use Rattle.gob_types.specs.declared.id.TypeId.{TypeId}
-use Rattle.gob_types.specs.Table.{Table}
-use Rattle.gob_plain.specs.declared.style.Style.{Style}
+use Rattle.gob_types.specs.Table.{Table, shape_of}
+use Rattle.gob_types.specs.declared.kind.Shape.{Shape}
 use Rattle.gob_stream.specs.Bounds.{Bounds}
-use Rattle.gob_filled.specs.Filled.{Filled}
 use Rattle.gob_filled.specs.Stream.{FilledItem, defining, putting}
-use Rattle.gob_go_plain.specs.Filled.{SaysFilled}
+use Rattle.gob_go_plain.specs.Filled.{SaysFilled, tagged_json}
 use Rattle.gob_tool.specs.declared.fault.ToolFault.{ToolFault}
 use Rattle.gob_go_tool.specs.Texts.{TextsAnswers}
+use Rattle.gob_words.specs.Words.{IsNumber, text_of}
+use Rattle.gob_views.specs.declared.value_line.ValueLines.{ValueLines}
 
--- the text is the compact text of JSON that says the value in this style, with its control characters escaped, and what
--- a reader of JSON reads there is that JSON
-pub record IsPlain (tagged : Bool) (style : Style) (T : Table) (t : TypeId) (w : Filled) (text : List ℕ) : Type 0 where
-  pub json : Json
-  pub says : SaysFilled tagged style T t w json
-  pub prints : text ≡ shown_text (print (json_tokens json))
-  pub reads : tokens text ≡ json_tokens json
+-- the name of a type, where it is one
+abbrev pub name_of : Option Shape → List ℕ
+name_of None = []
+name_of (Some shape) = shape.name
 
--- the line of an item, where the types behind it are those of the table: of a value such a text and a line feed, and
+abbrev pub type_name : Table → TypeId → List ℕ
+type_name T t = name_of (shape_of T t)
+
+-- the values of a type are shown: without a word those of each, else those of the type whose name or id the word is
+abbrev pub IsChosen : Option (List ℕ) → Table → TypeId → Type 0
+IsChosen None T t = ⊤
+IsChosen (Some word) T t = (word ≡ type_name T t) ⊎ IsNumber (Some word) 0 t.0
+
+-- the JSON that is written of a value, by the name of its type where that is shown: {"NAME":value}
+abbrev pub shown_json : ValueLines → Table → TypeId → Json → Json
+shown_json lines T t j = tagged_json lines.typed (type_name T t) j
+
+-- what is written of a value of the type, of which this JSON is said: where its values are shown the compact text of
+-- that JSON, with its control characters escaped, as which a reader of JSON reads it, and a line feed; else nothing
+pub data IsLineOf (lines : ValueLines) (T : Table) (t : TypeId) (Says : Json → Type 0) : List ℕ → Type 0 where
+  is_shown : IsChosen (text_of lines.only) T t → (json : Json) → Says json → (text : List ℕ)
+      → text ≡ shown_text (print (json_tokens (shown_json lines T t json)))
+      → tokens text ≡ json_tokens (shown_json lines T t json) → IsLineOf lines T t Says (text ++ 10 ∷ [])
+  is_left_out : ¬ IsChosen (text_of lines.only) T t → IsLineOf lines T t Says []
+
+-- what is written of an item, where the types behind it are those of the table: of a value JSON that says it, and
 -- nothing of a definition
-abbrev pub IsPlainLine : Bool → Style → Table → FilledItem → List ℕ → Type 0
-IsPlainLine tagged style T (defining id described) line = line ≡ []
-IsPlainLine tagged style T (putting t w) line =
-    (text : List ℕ) × IsPlain tagged style T t w text × (line ≡ text ++ 10 ∷ [])
+abbrev pub IsPlainLine : ValueLines → Table → FilledItem → List ℕ → Type 0
+IsPlainLine lines T (defining id described) line = line ≡ []
+IsPlainLine lines T (putting t w) line = IsLineOf lines T t (SaysFilled lines.tagged lines.style T t w) line
 
 -- how the run ends, over an input with these bytes left and an output with the old bytes: the lines of the items went
 -- out, and nothing else, or after a failed write a prefix of them
-abbrev pub ValuesAnswers : Bool → Style → Bounds → (bytes : List ℕ) → (now old new : Option (List ℕ))
+abbrev pub ValuesAnswers : ValueLines → Bounds → (bytes : List ℕ) → (now old new : Option (List ℕ))
     → Result (Unit {0}) ToolFault → Type 0
-ValuesAnswers tagged style L bytes now old new result =
-    TextsAnswers (IsPlainLine tagged style) L bytes now old new result
+ValuesAnswers lines L bytes now old new result = TextsAnswers (IsPlainLine lines) L bytes now old new result

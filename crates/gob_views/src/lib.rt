@@ -8,6 +8,8 @@
 //!     X int
 //!     Y int
 //! }
+//!
+//! a.gob: ok: 2 items, 1 types, 40 bytes   tell_file: a line for a file
 //! ```
 //!
 //! [`run_view`] is the run of any of these, and of `gob why`, `gob explain` and `gob salvage`, which are those of
@@ -16,9 +18,13 @@
 
 mod run;
 mod types;
+mod value_line;
 mod values;
+mod verify;
 
 pub use gob_plain::Style;
-pub use run::run_view;
+pub use run::{limits_of, run_view};
 pub use types::run_types;
+pub use value_line::ValueLines;
 pub use values::run_values;
+pub use verify::{ToldFile, tell_file};

@@ -5,10 +5,11 @@ ghost use Rattle.gob_salvage.specs.Running.{SalvageAnswers};
 ghost use Rattle.gob_stream.specs.Calls.Ends.{failed_reads, failed_writes, reader_of, writer_of};
 ghost use Rattle.gob_tool.specs.Ending.{CountsOnlyWrites};
 ghost use Rattle.gob_tool.specs.Showing.{CountsReadFaults, CountsWriteFaults, IsFlushedSince};
-ghost use Rattle.gob_views.specs.Running.{ViewAnswers, version_line, view_explained, view_limits, view_style};
+ghost use Rattle.gob_views.specs.Running.{ViewAnswers, version_line, view_explained, view_limits, view_lines};
 ghost use Rattle.gob_views.specs.Sending.{SendsText};
 
 use crate::types::run_types;
+use crate::value_line::ValueLines;
 use crate::values::run_values;
 use gob_go_tool::{run_check_go, run_rewrite_go, run_show_go};
 use gob_plain::Style;
@@ -21,8 +22,9 @@ use std::alloc::Global;
 use std::io::{Read, Write};
 
 /// Shows of the input what the view asks for, under its limits; the run of each command says what that is, and what
-/// each fault means. For [`ViewCommand::Version`] nothing is read. `told` is, for [`ViewCommand::Salvage`] alone, where
-/// that is Ok, what was kept and what was left out.
+/// each fault means. For [`ViewCommand::Version`] nothing is read. For [`ViewCommand::Verify`] the input is checked as
+/// by [`ViewCommand::CheckGo`]; of several files [`crate::tell_file`] says this. `told` is, for
+/// [`ViewCommand::Salvage`] alone, where that is Ok, what was kept and what was left out.
 pub fn run_view<R: Read, W: Write>(
     alloc: Global,
     view: &View<'_>,
@@ -44,16 +46,7 @@ pub fn run_view<R: Read, W: Write>(
     ensures unread { view.now.command ≡ ViewCommand.Version → input.new ≡ input.old }
 {
     match view.command {
-        ViewCommand::Values => {
-            run_values(
-                alloc,
-                input,
-                output,
-                limits_of(view),
-                style_of(view),
-                view.tagged,
-            )
-        }
+        ViewCommand::Values => { run_values(alloc, input, output, limits_of(view), lines_of(view)) }
         ViewCommand::Types => run_types(alloc, input, output, limits_of(view)),
         ViewCommand::Why => run_why(alloc, input, output, limits_of(view), view.input),
         ViewCommand::Explain => {
@@ -63,14 +56,15 @@ pub fn run_view<R: Read, W: Write>(
         ViewCommand::Version => end_run(write_version(output), output),
         ViewCommand::ShowGo => run_show_go(alloc, input, output, limits_of(view)),
         ViewCommand::CheckGo => run_check_go(alloc, input, output, limits_of(view)),
+        ViewCommand::Verify => run_check_go(alloc, input, output, limits_of(view)),
         ViewCommand::RewriteGo => {
             run_rewrite_go(alloc, input, output, limits_of(view), view.hoist)
         }
     }
 }
 
-// The limits under which the stream is read: the view's depth and item, and else the standard ones.
-fn limits_of(view: &View<'_>) -> Limits
+/// The limits under which a view reads: its depth and item, and else the standard ones.
+pub fn limits_of(view: &View<'_>) -> Limits
     ensures { result ≡ view_limits view.now }
 {
     let standard = Limits::standard();
@@ -91,13 +85,18 @@ fn explained_of(view: &View<'_>) -> Explained
     }
 }
 
-// The style in which values are written.
-fn style_of(view: &View<'_>) -> Style
-    ensures { result ≡ view_style view.now }
+// How values are printed, and which.
+fn lines_of<'a>(view: &View<'a>) -> ValueLines<'a>
+    ensures { result ≡ view_lines view.now }
 {
-    Style {
-        zeros: view.zeros,
-        raw: view.raw,
+    ValueLines {
+        style: Style {
+            zeros: view.zeros,
+            raw: view.raw,
+        },
+        tagged: view.tagged,
+        typed: view.typed,
+        only: view.only,
     }
 }
 

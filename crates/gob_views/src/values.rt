@@ -1,11 +1,6 @@
 //! The run that prints the values of a stream as plain JSON.
 
-ghost use Rattle.std.specs.Prelude.{◌≡◌, ◌++◌, ◌∷◌, [], ℕ, List, Some, IfOk, IfSome, OnOk, MatchOption, min};
-ghost use Rattle.json.specs.Json.{Json};
-ghost use Rattle.json.specs.Lex.{tokens};
-ghost use Rattle.json.specs.Print.{print};
-ghost use Rattle.json.specs.Tree.{json_tokens};
-ghost use Rattle.json_controls.specs.Controls.{shown_text};
+ghost use Rattle.std.specs.Prelude.{◌≡◌, [], ℕ, List, Some, IfOk, IfSome, OnOk, MatchOption, min};
 ghost use Rattle.gob_types.specs.Defined.{types};
 ghost use Rattle.gob_types.specs.Ready.{IsReady};
 ghost use Rattle.gob_stream.specs.Bounds.{deepest, within_trees};
@@ -17,60 +12,45 @@ ghost use Rattle.gob_go_tool.specs.Texts.{of_given, of_value, IsWholeText};
 ghost use Rattle.gob_views.specs.Machine.Tapes.{IsTapeOf};
 ghost use Rattle.gob_views.specs.Values.{IsPlainLine, ValuesAnswers};
 
+use crate::value_line::{ValueLines, push_filled_line, push_tape_line};
 use gob_go::{GoItem, GoReader, GoSession};
-use gob_go_plain::filled_text;
 use gob_num::Memory;
-use gob_plain::{Style, plain_text};
 use gob_read::{BodyReader, Progress, Stop};
 use gob_stream::{Input, Limits, Output};
 use gob_tape::{Tape, TapeBuilder};
 use gob_tool::{ItemTexts, ToolFault, run_texts};
 use gob_types::{Table, TypeId};
-use json_controls::push_shown;
 use std::alloc::Global;
 use std::io::{Read, Write};
 
-/// Writes a line of plain JSON in this style for each value of a stream of Go's encoder, and nothing for definitions,
-/// and ends with a flush. An interface is shown as what it holds, where values are `tagged` as `{"NAME":value}` by the
-/// name of its type. Ok exactly at the end of a whole stream. Before a fault is answered the lines of the values before
-/// it are written; at `ToolFault::Write` a prefix of them may be. A flush that fails is that fault where no other came
-/// before it. What it takes in memory grows with the types and the largest item alone. No value may be deeper than
-/// `limits.depth()` or than 1000; what an interface holds is one deeper than the interface.
+/// Writes such a line of plain JSON for each value of a stream of Go's encoder whose type is chosen, and nothing else,
+/// and ends with a flush. An interface is shown as what it holds. Ok exactly at the end of a whole stream. Before a
+/// fault is answered the lines of the values before it are written; at `ToolFault::Write` a prefix of them may be. A
+/// flush that fails is that fault where no other came before it. What it takes in memory grows with the types and the
+/// largest item alone. No value may be deeper than `limits.depth()` or than 1000; what an interface holds is one deeper
+/// than the interface.
 pub fn run_values<R: Read, W: Write>(
     alloc: Global,
     input: &mut Input<R>,
     output: &mut Output<W>,
     limits: Limits,
-    style: Style,
-    tagged: bool,
+    lines: ValueLines<'_>,
 ) -> Result<(), ToolFault>
     ensures printed { (bytes : List ℕ) → R.remaining (reader_of input.old) ≡ Some bytes
-        → ValuesAnswers tagged style (within_trees limits) bytes (R.remaining (reader_of input.new))
+        → ValuesAnswers lines.entry (within_trees limits) bytes (R.remaining (reader_of input.new))
         (W.contents (writer_of output.old)) (W.contents (writer_of output.new)) result }
     ensures reads { CountsReadFaults (failed_reads input.old) (failed_reads input.new) result }
     ensures writes { CountsWriteFaults (failed_writes output.old) (failed_writes output.new) result }
     ensures flushed { IsFlushedSince (failed_writes output.old) output.new }
 {
-    run_texts::<GoSession, R, W, PlainLines>(
-        alloc,
-        input,
-        output,
-        limits,
-        &PlainLines { style, tagged },
-    )
+    run_texts::<GoSession, R, W, ValueLines<'_>>(alloc, input, output, limits, &lines)
 }
 
 /// The lines of items: plain JSON of values. No character of them controls how a terminal shows them.
-#[derive(Clone, Copy)]
-struct PlainLines {
-    style: Style,
-    tagged: bool,
-}
+impl ItemTexts<GoSession> for ValueLines<'_> {
+    ghost of_item = { λ lines. of_given (IsPlainLine lines) };
 
-impl ItemTexts<GoSession> for PlainLines {
-    ghost of_item = { λ lines. of_given (IsPlainLine lines.tagged lines.style) };
-
-    ghost of_value = { λ lines. of_value (IsPlainLine lines.tagged lines.style) };
+    ghost of_value = { λ lines. of_value (IsPlainLine lines) };
 
     fn push_item(
         &self,
@@ -94,24 +74,21 @@ impl ItemTexts<GoSession> for PlainLines {
     }
 }
 
-/// Makes the line of an item, if it is a value, in `text`, which is empty.
+/// Makes the line of an item, if it is a value whose type is chosen, in `text`, which is empty.
 fn push_item_line(
     alloc: Global,
     item: &GoItem,
     table: &Table,
-    lines: PlainLines,
+    lines: ValueLines<'_>,
     text: &mut Vec<u8>,
 ) -> Result<(), Memory>
     requires { text.old.items ≡ [] }
     ensures { OnOk result ((i : FilledItem) → ItemMeans (types table.now) item.now i
-        → IsPlainLine lines.tagged lines.style (types table.now) i text.new.items) }
+        → IsPlainLine lines.entry (types table.now) i text.new.items) }
 {
     match item {
         GoItem::Define { .. } => Ok(()),
-        GoItem::Put { id, value } => {
-            let json = filled_text(alloc, *id, value, table, lines.style, lines.tagged)?;
-            push_line(json.as_str(), text)
-        }
+        GoItem::Put { id, value } => push_filled_line(alloc, *id, value, table, lines, text),
     }
 }
 
@@ -120,12 +97,12 @@ fn push_item_line(
 fn push_whole_line(
     alloc: Global,
     reader: &GoReader,
-    lines: PlainLines,
+    lines: ValueLines<'_>,
     text: &mut Vec<u8>,
 ) -> Result<Option<usize>, Memory>
     requires { text.old.items ≡ [] }
     ensures { IfOk result (λ found. MatchOption found (text.new.items ≡ [])
-        (λ used. IsWholeText (IsPlainLine lines.tagged lines.style) reader.now used text.new.items)) }
+        (λ used. IsWholeText (IsPlainLine lines.entry) reader.now used text.new.items)) }
 {
     let Some(item) = reader.whole() else {
         return Ok(None);
@@ -134,8 +111,7 @@ fn push_whole_line(
     let Some(tape) = tape_of(alloc, reader.table(), item.id, item.body, depth)? else {
         return Ok(None);
     };
-    let json = plain_text(alloc, item.id, &tape, reader.table(), lines.style)?;
-    push_line(json.as_str(), text)?;
+    push_tape_line(alloc, item.id, &tape, reader.table(), lines, text)?;
     Ok(Some(item.used))
 }
 
@@ -158,14 +134,4 @@ fn tape_of(
         Err(Stop::Memory) => Err(Memory),
         _ => Ok(None),
     }
-}
-
-/// Appends the JSON as a line. No character of it controls how a terminal shows it.
-fn push_line(json: &str, text: &mut Vec<u8>) -> Result<(), Memory>
-    ensures shown { OnOk result (text.new.items ≡ text.old.items ++ (shown_text json.now ++ 10 ∷ [])) }
-    ensures reads { (j : Json) → json.now ≡ print (json_tokens j) → tokens json.now ≡ json_tokens j
-        → tokens (shown_text json.now) ≡ json_tokens j }
-{
-    push_shown(json.as_bytes(), text)?;
-    Ok(text.push(b'\n')?)
 }

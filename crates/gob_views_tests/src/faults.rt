@@ -4,7 +4,7 @@ use crate::devices::{SlowReader, SlowWriter};
 use crate::ending::{Ending, ending_of};
 use gob_stream::{Input, Limits, Output};
 use gob_test_rows::bytes_of;
-use gob_views::{Style, run_types, run_values};
+use gob_views::{ValueLines, run_types, run_values};
 use std::alloc::{AllocError, Global};
 use std::test::*;
 
@@ -32,8 +32,7 @@ fn ends(
             &mut input,
             &mut output,
             limits,
-            Style::default(),
-            false,
+            ValueLines::default(),
         )
     } else {
         run_types(alloc, &mut input, &mut output, limits)

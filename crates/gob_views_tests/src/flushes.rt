@@ -2,7 +2,7 @@
 
 use crate::devices::{SlowReader, SlowWriter};
 use gob_stream::{Input, Limits, Output};
-use gob_views::{Style, run_values};
+use gob_views::{ValueLines, run_values};
 use std::test::*;
 
 // Two items of four bytes, whose lines have two bytes each.
@@ -19,16 +19,8 @@ fn a_line_is_out_before_more_is_read(rt: HostRuntime) -> Result<(), Fail> {
     let mut writer = SlowWriter::new(alloc, usize::MAX, false);
     let mut input = Input::new(reader);
     let mut output = Output::new(&mut writer);
-    let style = Style::default();
-    let is_whole = run_values(
-        alloc,
-        &mut input,
-        &mut output,
-        Limits::standard(),
-        style,
-        false,
-    )
-    .is_ok();
+    let lines = ValueLines::default();
+    let is_whole = run_values(alloc, &mut input, &mut output, Limits::standard(), lines).is_ok();
     assert!(rt; is_whole, "the run");
     assert!(rt; writer.held.as_slice() == b"3\n4\n".as_slice(), "the lines");
     assert!(rt; writer.at_flushes.contains(&2), "the first line");

@@ -4,7 +4,7 @@ use gob_num::Memory;
 use gob_stream::{Input, Limits, Output};
 use gob_test_rows::{bytes_of, part};
 use gob_tool::ToolFault;
-use gob_views::{Style, run_types, run_values};
+use gob_views::{ValueLines, run_types, run_values};
 use std::alloc::Global;
 use std::test::*;
 
@@ -17,7 +17,7 @@ an int in a field | 25 ff 81 03 01 01 05 4f 75 74 65 72 01 ff 82 00 01 03 01 01 
 00 | {"N":1,"I":3,"M":2} | {"N":1,"I":{"int":3},"M":2}
 
 a type defined in a value, and used by the next item | 15 10 00 08 2a 62 69 67 2e 49 6e 74 ff 81 05 01 02 ff 84 00 00
-00 07 ff 82 04 00 02 02 05 06 ff 82 00 02 02 05 | "AgU="|"AgU=" | {"*big.Int":"AgU="}|"AgU="
+00 07 ff 82 04 00 02 02 05 06 ff 82 00 02 02 05 | 5|5 | {"*big.Int":5}|5
 
 a document | 0e ff 81 04 01 02 ff 82 00 01 0c 01 10 00 00 21 ff 82 00 01 01 61 0e 5b 5d 69 6e 74 65 72 66 61 63 65 20
 7b 7d ff 83 02 01 02 ff 84 00 01 10 00 00 5c ff 84 59 00 04 07 66 6c 6f 61 74 36 34 08 04 00 fe f8 3f 06 73 74 72 69
@@ -51,14 +51,11 @@ fn prints_so(alloc: Global, row: &str, tagged: bool) -> Result<bool, Memory> {
     let mut input = Input::new(bytes.as_slice());
     let mut output = Output::new(&mut written);
     let limits = Limits::standard();
-    let ended = run_values(
-        alloc,
-        &mut input,
-        &mut output,
-        limits,
-        Style::default(),
+    let lines = ValueLines {
         tagged,
-    );
+        ..ValueLines::default()
+    };
+    let ended = run_values(alloc, &mut input, &mut output, limits, lines);
     Ok(ends_so(alloc, ended, part(row, 4))? && written == due)
 }
 

@@ -105,7 +105,7 @@ pub(crate) const ROWS: [Row; 12] = [
         what: "characters that control how a text is shown, and others beside them",
         stream: "04 0c 00 01 7f 07 0c 00 04 c2 80 c2 9f 07 0c 00 04 c2 a0 c3 a9 \
             0f 0c 00 0c e2 80 8d e2 80 8e e2 80 8f e2 80 90",
-        values: "\"\\u007f\"\n\"\\u0080\\u009f\"\n\"\u{a0}\u{e9}\"\n\"\u{200d}\\u200e\\u200f\u{2010}\"\n",
+        values: "\"\\u007f\"\n\"\\u0080\\u009f\"\n\"\u{a0}\u{e9}\"\n\"\\u200d\\u200e\\u200f\u{2010}\"\n",
         types: NO_TYPE,
         fault: "",
     },

@@ -5,7 +5,7 @@ use gob_num::Memory;
 use gob_stream::{Input, Limits, Output};
 use gob_test_rows::bytes_of;
 use gob_tool::ToolFault;
-use gob_views::{Style, run_types, run_values, run_view};
+use gob_views::{ValueLines, run_types, run_values, run_view, tell_file};
 use gob_words::{View, ViewCommand};
 use std::alloc::{AllocError, Global};
 use std::test::*;
@@ -32,15 +32,8 @@ fn prints_values(alloc: Global, row: &Row) -> Result<bool, Memory> {
     let mut written = Vec::new(alloc);
     let mut input = Input::new(bytes.as_slice());
     let mut output = Output::new(&mut written);
-    let style = Style::default();
-    let ended = run_values(
-        alloc,
-        &mut input,
-        &mut output,
-        Limits::standard(),
-        style,
-        false,
-    );
+    let lines = ValueLines::default();
+    let ended = run_values(alloc, &mut input, &mut output, Limits::standard(), lines);
     is_so(alloc, ended, &written, row.values.as_bytes(), row.fault)
 }
 
@@ -111,6 +104,8 @@ fn usual(command: ViewCommand) -> View<'static> {
         zeros: false,
         raw: false,
         tagged: false,
+        typed: false,
+        only: None,
         hoist: false,
         fault: false,
         at: None,
@@ -119,6 +114,9 @@ fn usual(command: ViewCommand) -> View<'static> {
 
 // A struct of which each field is there.
 const POINT: &str = "POINT 07 ff 82 01 2c 01 42 00";
+
+// And behind it an int.
+const POINT_AND_INT: &str = "POINT 07 ff 82 01 2c 01 42 00 03 04 00 06";
 
 // The int 5 in an interface.
 const HELD: &str = "0a 10 00 03 69 6e 74 04 02 00 0a";
@@ -171,6 +169,54 @@ fn prints(alloc: Global, tagged: bool, stream: &str, due: &[u8]) -> Result<bool,
     view.tagged = tagged;
     let printed = shown(alloc, &view, stream)?;
     Ok(printed.as_slice() == due)
+}
+
+// Of a point and an int which values are printed, each under the name of its type, or without a word all.
+const TYPED: [(Option<&str>, &str); 5] = [
+    (None, "{\"Point\":{\"X\":22,\"Y\":33}}\n{\"int\":3}\n"),
+    (Some("Point"), "{\"Point\":{\"X\":22,\"Y\":33}}\n"),
+    (Some("65"), "{\"Point\":{\"X\":22,\"Y\":33}}\n"),
+    (Some("int"), "{\"int\":3}\n"),
+    (Some("point"), ""),
+];
+
+// Whether the values are printed so, each under the name of its type.
+fn prints_typed(alloc: Global, only: Option<&'static str>, due: &str) -> Result<bool, AllocError> {
+    let mut view = usual(ViewCommand::Values);
+    view.typed = true;
+    view.only = only;
+    let printed = shown(alloc, &view, POINT_AND_INT)?;
+    Ok(printed.as_slice() == due.as_bytes())
+}
+
+#[test]
+fn values_are_chosen_by_their_types(rt: HostRuntime) {
+    for (only, due) in TYPED {
+        assert!(rt; prints_typed(rt.alloc(), only, due) == Ok(true), "{due}");
+    }
+}
+
+// The name of a file, its bytes, and what is said of it.
+const TOLD: [(&str, &str, &str); 4] = [
+    ("a.gob", POINT, "a.gob: ok: 2 items, 1 types, 40 bytes\n"),
+    ("-", "", "-: ok: 0 items, 0 types, 0 bytes\n"),
+    ("a\nb", "03 04", "a\\u{a}b: refused 22 Ended at 2 seen 2\n"),
+    ("h", HELD, "h: ok: 1 items, 0 types, 11 bytes\n"),
+];
+
+// Whether this is said of the file.
+fn is_told(alloc: Global, name: &str, stream: &str, due: &str) -> Result<bool, Memory> {
+    let bytes = bytes_of(alloc, stream)?;
+    let mut input = Input::new(bytes.as_slice());
+    let told = tell_file(alloc, name, &mut input, Limits::standard())?;
+    Ok(told.line.as_slice() == due.as_bytes())
+}
+
+#[test]
+fn files_are_told(rt: HostRuntime) {
+    for (name, stream, due) in TOLD {
+        assert!(rt; is_told(rt.alloc(), name, stream, due) == Ok(true), "{due}");
+    }
 }
 
 // Whether the stream is rewritten as the other one, with its definitions hoisted or not.

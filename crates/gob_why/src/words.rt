@@ -5,7 +5,7 @@ ghost use Rattle.gob_words.specs.Escaped.{IsUnobeyed};
 
 use gob_num::Memory;
 use gob_types::{Shapes, Table, TypeId};
-use gob_words::escaped;
+use gob_words::{escaped, quoted};
 use std::alloc::Global;
 use std::str;
 
@@ -51,49 +51,17 @@ pub(crate) fn shortened(alloc: Global, path: &str) -> Result<String, Memory> {
     Ok(text)
 }
 
-/// The name of a file as it is typed in a shell: between quotes where it has other characters than those of most names,
-/// and IN where there is no name. What a terminal obeys stands in it as `\u{..}`.
+/// The name of a file as it is typed in a shell, and IN where there is no name. A path leads to a name that would be
+/// taken for an option.
 pub(crate) fn file_text(alloc: Global, name: Option<&str>) -> Result<String, Memory>
     ensures { IfOk result (λ text. IsUnobeyed (string_bytes text)) }
 {
-    let typed = match name {
-        Some(name) => typed_name(alloc, name)?,
-        None => String::from_str(alloc, "IN")?,
-    };
-    Ok(escaped(alloc, typed.as_str())?)
-}
-
-// The name as a shell takes it for a file's.
-fn typed_name(alloc: Global, name: &str) -> Result<String, Memory> {
-    let mut text = String::new(alloc);
-    if name.starts_with('-') {
-        text.push_str("./")?;
+    let name = name.unwrap_or("IN");
+    if !name.starts_with('-') {
+        return Ok(quoted(alloc, name)?);
     }
-    if name.bytes().all(is_plain) {
-        text.push_str(name)?;
-    } else {
-        push_quoted(name, &mut text)?;
-    }
-    Ok(text)
-}
-
-// Appends the name between quotes. A quote in it stands between two such parts, behind a backslash.
-fn push_quoted(name: &str, text: &mut String) -> Result<(), Memory> {
-    text.push('\'')?;
-    for character in name.chars() {
-        if character == '\'' {
-            text.push_str("'\\''")?;
-        } else {
-            text.push(character)?;
-        }
-    }
-    text.push('\'')?;
-    Ok(())
-}
-
-// Whether a shell takes the byte for itself.
-fn is_plain(byte: u8) -> bool {
-    byte.is_ascii_alphanumeric() || b"._-/+:@%,".contains(&byte)
+    let path = format!(in alloc; "./{name}")?;
+    Ok(quoted(alloc, path.as_str())?)
 }
 
 /// The bytes in hexadecimal, a space between two; no more of them than `most`.

@@ -29,8 +29,8 @@ shown_before_brace : (ds : List ℕ) → AllDigits 16 ds → AreShown (ds ++ cod
 shown_before_brace [] h = (search rules, tt)
 shown_before_brace (d ∷ ds) h = (digit_shown d h.0, shown_before_brace ds h.1)
 
--- the last character that is obeyed is U+2069
-is_obeyed-bound : (c : ℕ) → is_obeyed c ≡ true → c < 0x206a
+-- the last character that is obeyed is U+FEFF
+is_obeyed-bound : (c : ℕ) → is_obeyed c ≡ true → c < 0xff00
 is_obeyed-bound c h = grind (arith, nat_tests)
 
 escape-shown : (c : ℕ) → is_obeyed c ≡ true → AreShown (escape c)
@@ -71,7 +71,7 @@ escapes_more cs c old new before more =
     ∙ sym (encodes-append (escaped_text cs) (escaped_character c))
     ∙ ap encode_utf8_all (flat_map_more escaped_character [] cs c)
 
-NonePass-append : (p : ℕ → Bool) (cs ds : List ℕ) → NonePass p cs → NonePass p ds → NonePass p (cs ++ ds)
+pub NonePass-append : (p : ℕ → Bool) (cs ds : List ℕ) → NonePass p cs → NonePass p ds → NonePass p (cs ++ ds)
 NonePass-append p [] ds h k = k
 NonePass-append p (c ∷ cs) ds h k = (h.0, NonePass-append p cs ds h.1 k)
 

@@ -1,3 +1,4 @@
 pub mod WordLaws
 pub mod ViewLaws
 pub mod EscapedLaws
+pub mod ShellLaws

@@ -1,8 +1,8 @@
 -- What is read of clap's matches where something is to be shown.
 use Rattle.std.proofs.Common.{rules, ◌≡◌, ◌≢◌, ◌∙◌, [], ◌≤◌, ap, sym, refl, codes, ℕ, List, Option, Some}
-use Rattle.std.proofs.Common.{Result, Ok, Err, option_map, slice_index, subst, ◌==◌, if◌then◌else◌, MatchResult}
-use Rattle.std.proofs.Common.{IsErrAnd, true, inl, inr}
-use Rattle.clap.specs.Words.{Row, Text, first_of, subcommand_of, takes, fault_of, kind_of, HasKind, IsAmong}
+use Rattle.std.proofs.Common.{None, Result, Ok, Err, option_map, slice_index, subst, ◌==◌, if◌then◌else◌, MatchResult}
+use Rattle.std.proofs.Common.{IsErrAnd, true, inl, inr, unwrap_or}
+use Rattle.clap.specs.Words.{Row, Text, all_of, first_of, subcommand_of, takes, fault_of, kind_of, HasKind, IsAmong}
 use Rattle.clap.specs.declared.error.Error.{Error}
 use Rattle.clap.specs.declared.error.kind.ErrorKind.{ErrorKind}
 use Rattle.clap.specs.declared.error.kind.ErrorKind.TheVariants.{DisplayHelp, DisplayVersion, OutOfMemory}
@@ -10,32 +10,37 @@ use Rattle.gob_words.specs.declared.words.OrderFault.{OrderFault}
 use Rattle.gob_words.specs.declared.words.OrderFault.TheVariants as fault
 use Rattle.gob_words.specs.declared.view.View.{View}
 use Rattle.gob_words.specs.declared.view.ViewCommand.{ViewCommand}
-use Rattle.gob_words.specs.declared.view.ViewCommand.TheVariants.{Values, Types, Why, Explain, Salvage, Version}
+use Rattle.gob_words.specs.declared.view.ViewCommand.TheVariants.{Values, Types, Why, Explain, Verify, Salvage, Version}
 use Rattle.gob_words.specs.declared.view.ViewCommand.TheVariants.{ShowGo, CheckGo, RewriteGo}
 use Rattle.gob_words.specs.declared.view.ViewFault.{ViewFault}
 use Rattle.gob_words.specs.declared.view.ViewFault.TheVariants as view_fault
-use Rattle.gob_words.specs.Words.{IsNumber, IsFaultOf, program}
+use Rattle.gob_words.specs.Words.{HasNoFault, IsNumber, IsFaultOf, program}
 use Rattle.gob_words.specs.Views.{AsksToView, IsAskedFor, IsPlaceOf, IsViewFaultOf, IsViewOf, IsWordAtFault}
-use Rattle.gob_words.specs.Views.{AsksForNothing, RefusesToView}
+use Rattle.gob_words.specs.Views.{AsksForNothing, RefusesToView, files_in}
 use Rattle.gob_words.specs.Views.{IsVersionView, view_name}
 use Rattle.gob_words.specs.ViewDepths.{greatest_view_depth}
 use Rattle.gob_words.proofs.WordLaws.{name_met, rows_met, some_fault, the_one, together}
 
 -- ---- names
 
--- the command of this name, by its first letter or its second one
-abbrev having : (first second : ℕ) → ViewCommand
-having first c =
+-- the command of this name, by its first letter, its second one or its fourth
+abbrev having : (first second fourth : ℕ) → ViewCommand
+having first c fourth =
     if first == 99 then CheckGo else (if first == 115 then (if c == 97 then Salvage else ShowGo)
     else (if first == 114 then RewriteGo
     else (if c == 97 then Values
-    else (if c == 121 then Types else (if c == 104 then Why else (if c == 120 then Explain else Version))))))
+    else (if c == 121 then Types else (if c == 104 then Why else (if c == 120 then Explain
+    else (if fourth == 105 then Verify else Version)))))))
 
-has : (a : ViewCommand) → having (slice_index (view_name a) 0) (slice_index (view_name a) 1) ≡ a
+abbrev having_name : Text → ViewCommand
+having_name name = having (slice_index name 0) (slice_index name 1) (slice_index name 3)
+
+has : (a : ViewCommand) → having_name (view_name a) ≡ a
 has Values = refl
 has Types = refl
 has Why = refl
 has Explain = refl
+has Verify = refl
 has Salvage = refl
 has Version = refl
 has ShowGo = refl
@@ -43,7 +48,7 @@ has CheckGo = refl
 has RewriteGo = refl
 
 one_view : (a b : ViewCommand) → view_name a ≡ view_name b → a ≡ b
-one_view a b e = sym (has a) ∙ ap (λ name. having (slice_index name 0) (slice_index name 1)) e ∙ has b
+one_view a b e = sym (has a) ∙ ap having_name e ∙ has b
 
 -- ---- what was met
 
@@ -85,6 +90,22 @@ pub asked_alike : (command : ViewCommand) (go other hoist another : Option Text)
     → IsAskedFor command go hoist → IsAskedFor command other another
 asked_alike command go other hoist another e f h = subst (λ w. IsAskedFor command other w) f
     (subst (λ w. IsAskedFor command w hoist) e h)
+
+-- the files that what was met names are those of its rows
+pub files_met : (met : Option (Text × List Row)) (rows : List Row) (files : Option (List Text))
+    → Some rows ≡ option_map (λ (p : Text × List Row). p.1) met → files ≡ all_of (codes "FILE") rows
+    → unwrap_or files [] ≡ files_in met
+files_met None rows files p q = search rules
+files_met (Some met) rows files p q =
+    let same : rows ≡ met.1 = cc in
+    ap (λ (o : Option (List Text)). unwrap_or o []) (q ∙ ap (λ (r : List Row). all_of (codes "FILE") r) same)
+
+-- where clap finds no fault it gives no error, but for want of memory
+pub no_kind : (words : List Text) (error : Error) → HasNoFault words → kind_of error ≢ OutOfMemory
+    → HasKind (fault_of program words) error → ⊥
+unfolding HasNoFault
+no_kind words error none other (inl lost) = other lost
+no_kind words error none other (inr among) = subst (λ kinds. IsAmong (kind_of error) kinds) none among
 
 -- ---- the ends
 

@@ -18,9 +18,13 @@ abbrev pub is_directional : ℕ → Bool
 is_directional c = (c == 0x61c) || ((c == 0x200e) || ((c == 0x200f)
     || ((nat_le 0x202a c && nat_le c 0x202e) || (nat_le 0x2066 c && nat_le c 0x2069))))
 
+-- a character without width: the zero-width space, the two joiners, or the byte order mark
+abbrev pub is_without_width : ℕ → Bool
+is_without_width c = (nat_le 0x200b c && nat_le c 0x200d) || (c == 0xfeff)
+
 -- a terminal obeys the character, where it shows others
 abbrev pub is_obeyed : ℕ → Bool
-is_obeyed c = is_control c || (is_separator c || is_directional c)
+is_obeyed c = is_control c || (is_separator c || (is_directional c || is_without_width c))
 
 -- a backslash, a u, and between braces the number of the character in lower-case hexadecimal digits
 abbrev pub escape : ℕ → List ℕ

@@ -3,3 +3,4 @@ pub mod Words
 pub mod Views
 pub mod ViewDepths
 pub mod Escaped
+pub mod Shell

@@ -1,7 +1,7 @@
 -- What the words ask to be shown, to people and to other programs. (docs/FORMAT.md, The program: this project's own.)
 use Rattle.std.specs.Prelude.{◌≡◌, ◌≢◌, ◌⊎◌, ◌≤◌, ◌∷◌, ◌++◌, ⊤, ℕ, List, [], codes, string_bytes}
-use Rattle.std.specs.Prelude.{Option, Some, None, Bool, true, false}
-use Rattle.clap.specs.Words.{Row, Text, first_of, subcommand_of, takes, fault_of, IsAmong}
+use Rattle.std.specs.Prelude.{Option, Some, None, unwrap_or, Bool, true, false}
+use Rattle.clap.specs.Words.{Row, Text, all_of, first_of, subcommand_of, takes, fault_of, IsAmong}
 use Rattle.clap.specs.declared.error.kind.ErrorKind.{ErrorKind}
 use Rattle.clap.specs.declared.error.kind.ErrorKind.TheVariants.{DisplayHelp, DisplayVersion, OutOfMemory}
 use Rattle.gob_words.specs.declared.view.View.{View}
@@ -19,6 +19,7 @@ view_name view.Values = codes "values"
 view_name view.Types = codes "types"
 view_name view.Why = codes "why"
 view_name view.Explain = codes "explain"
+view_name view.Verify = codes "verify"
 view_name view.Salvage = codes "salvage"
 view_name view.Version = codes "version"
 view_name view.ShowGo = codes "show"
@@ -46,6 +47,11 @@ pub record IsGiven (value : Option Text) (flag : Bool) : Type 0 where
 abbrev pub IsFlagOf : ViewCommand → Option Text → Bool → Type 0
 IsFlagOf view.Values value flag = IsGiven value flag
 IsFlagOf _ value flag = flag ≡ false
+
+-- the word that says of which type values are shown, which no other command than values has
+abbrev pub IsOnlyOf : ViewCommand → (word only : Option Text) → Type 0
+IsOnlyOf view.Values word only = only ≡ word
+IsOnlyOf _ word only = only ≡ None
 
 -- whether the flag of explain is given, by clap's value of it, which no other command has
 abbrev pub IsFaultFlagOf : ViewCommand → Option Text → Bool → Type 0
@@ -78,6 +84,8 @@ pub record IsViewOf (met : Option (Text × List Row)) (view : View) : Type 0 whe
   pub zeros : IsFlagOf view.command (first_of (codes "zeros") rows) view.zeros
   pub raw : IsFlagOf view.command (first_of (codes "raw") rows) view.raw
   pub tagged : IsFlagOf view.command (first_of (codes "tagged") rows) view.tagged
+  pub typed : IsFlagOf view.command (first_of (codes "typed") rows) view.typed
+  pub only : IsOnlyOf view.command (first_of (codes "only") rows) (text_of view.only)
   pub hoist : IsHoistFlagOf view.command (first_of (codes "hoist") rows) view.hoist
   pub fault : IsFaultFlagOf view.command (first_of (codes "fault") rows) view.fault
   pub at : IsPlaceOf view.command (first_of (codes "at") rows) view.at
@@ -88,7 +96,12 @@ pub record IsViewOf (met : Option (Text × List Row)) (view : View) : Type 0 whe
 abbrev pub IsVersionView : View → Type 0
 IsVersionView given = (given.command ≡ view.Version) × (given.input ≡ None) × (given.depth ≡ 1000)
     × (given.item ≡ 67108864) × (given.zeros ≡ false) × (given.raw ≡ false) × (given.tagged ≡ false)
-    × (given.hoist ≡ false) × (given.fault ≡ false) × (given.at ≡ None)
+    × (given.typed ≡ false) × (given.only ≡ None) × (given.hoist ≡ false) × (given.fault ≡ false) × (given.at ≡ None)
+
+-- the files that a command's words name, in order, where it takes some
+abbrev pub files_in : Option (Text × List Row) → List Text
+files_in None = []
+files_in (Some met) = unwrap_or (all_of (codes "FILE") met.1) []
 
 -- the words, the program's name first, ask for this: by its name, or for the version by an option
 unfoldable pub AsksToView : List Text → View → Type 0

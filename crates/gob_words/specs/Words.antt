@@ -7,7 +7,7 @@ use Rattle.std.specs.List.{All}
 use Rattle.std.specs.Str.Parse.{digits_value}
 use Rattle.clap.specs.Words.{App, Row, Rule, Text, first_of, new_app, new_rule, subcommand_of, with_rule}
 use Rattle.clap.specs.Words.{with_subcommand, takes, fault_of, IsAmong}
-use Rattle.clap.specs.declared.builder.action.ArgAction.TheVariants.{SetTrue}
+use Rattle.clap.specs.declared.builder.action.ArgAction.TheVariants.{Append, SetTrue}
 use Rattle.clap.specs.declared.error.kind.ErrorKind.{ErrorKind}
 use Rattle.clap.specs.declared.error.kind.ErrorKind.TheVariants.{DisplayHelp, OutOfMemory}
 use Rattle.gob_words.specs.Depths.{most_depth}
@@ -54,22 +54,17 @@ with_go_flags app = with_rule (with_rule app (flag_rule (codes "go"))) (flag_rul
 abbrev pub rewrite : App
 rewrite = with_input (with_go_flags (with_options (codes "rewrite")))
 
--- the commands that write exactly what a stream has
-abbrev pub exact_program : App
-exact_program =
-    let top = (new_app (codes "gob")).top in
-    let bare : App = record { top = record top { has_version = true; subcommand_required = true }; subs = [] } in
-    with_subcommand (with_subcommand (with_subcommand (with_subcommand bare (go_stream (codes "show")).top)
-    (go_stream (codes "check")).top) rewrite.top) (two_streams (codes "take")).top
-
--- the flags that say how values are shown
+-- the flags and the option that say how values are shown, and which
 abbrev pub with_flags : App → App
 with_flags app = with_rule (with_rule (with_rule app (flag_rule (codes "zeros"))) (flag_rule (codes "raw")))
     (flag_rule (codes "tagged"))
 
+abbrev pub with_types : App → App
+with_types app = with_rule (with_rule app (flag_rule (codes "typed"))) (option_rule (codes "only"))
+
 -- the command that shows values
 abbrev pub values : App
-values = with_input (with_flags (with_options (codes "values")))
+values = with_input (with_types (with_flags (with_options (codes "values"))))
 
 -- the flag and the option that say which part of a stream is shown
 abbrev pub with_parts : App → App
@@ -79,12 +74,29 @@ with_parts app = with_rule (with_rule app (flag_rule (codes "fault"))) (option_r
 abbrev pub explain : App
 explain = with_input (with_parts (with_options (codes "explain")))
 
--- and those that show it to people and to other programs
+-- the names of one or more files
+abbrev pub files_rule : Rule
+files_rule = record (new_rule (codes "FILE")) { required = true; action = Some Append }
+
+-- the command that reads some streams
+abbrev pub verify : App
+verify = with_rule (with_options (codes "verify")) files_rule
+
+-- the commands for people
+abbrev pub people_program : App
+people_program =
+    let top = (new_app (codes "gob")).top in
+    let bare : App = record { top = record top { has_version = true; subcommand_required = true }; subs = [] } in
+    with_subcommand (with_subcommand (with_subcommand (with_subcommand (with_subcommand (with_subcommand bare
+    values.top) (one_stream (codes "types")).top) (one_stream (codes "why")).top) explain.top) verify.top)
+    (one_stream (codes "salvage")).top
+
+-- and those that write exactly what a stream has
 abbrev pub program : App
 program =
-    with_subcommand (with_subcommand (with_subcommand (with_subcommand (with_subcommand (with_subcommand exact_program
-    values.top) (one_stream (codes "types")).top) (one_stream (codes "why")).top) explain.top)
-    (one_stream (codes "salvage")).top) (new_app (codes "version")).top
+    with_subcommand (with_subcommand (with_subcommand (with_subcommand (with_subcommand people_program
+    (go_stream (codes "show")).top) (go_stream (codes "check")).top) rewrite.top) (two_streams (codes "take")).top)
+    (new_app (codes "version")).top
 
 -- ---- what they say
 

@@ -4,36 +4,73 @@ ghost use Rattle.std.specs.Prelude.{◌≡◌, IfOk, codes, false};
 ghost use Rattle.clap.specs.Words.{App, app_of, rule_of, with_subcommand};
 ghost use Rattle.clap.specs.declared.builder.Command.TheViews.{out-Command};
 ghost use Rattle.gob_words.specs.Words.{flag_rule, option_rule, with_flags, with_options, with_input, one_stream};
-ghost use Rattle.gob_words.specs.Words.{exact_program, explain, go_stream, program, rewrite, two_streams, values};
-ghost use Rattle.gob_words.specs.Words.{with_go_flags, with_parts};
+ghost use Rattle.gob_words.specs.Words.{explain, go_stream, people_program, program, rewrite, two_streams, values};
+ghost use Rattle.gob_words.specs.Words.{verify, with_go_flags, with_parts, with_types};
 
 use crate::help;
 use clap::{Arg, ArgAction, Command};
 use std::alloc::{AllocError, Global};
 
-/// The program, with its commands.
+// What help calls the number of an option.
+const NUMBER: &str = "N";
+
+/// The program, with its commands: behind those for people the ones that write exactly what a stream has.
 pub(crate) fn program<'a>(alloc: Global) -> Result<Command<'a>, AllocError>
     ensures { IfOk result (λ command. app_of command ≡ program) }
 {
-    let exact = exact_program(alloc)?;
-    let valuing = with_command(exact, values(alloc))?;
+    let people = people_program(alloc)?;
+    let show = go_stream(alloc, "show", help::SHOW, help::DEPTH);
+    let showing = with_command(people, show)?;
+    let check = go_stream(alloc, "check", help::CHECK, help::DEPTH_WITH_GO);
+    let checking = with_command(showing, check)?;
+    let rewriting = with_command(checking, rewrite(alloc))?;
+    let take = two_streams(alloc, "take", help::TAKE, help::DEPTH);
+    let taking = with_command(rewriting, take)?;
+    taking.subcommand(Command::new(alloc, "version").about(help::NAME_AND_VERSION))
+}
+
+// The program with the commands for people.
+fn people_program<'a>(alloc: Global) -> Result<Command<'a>, AllocError>
+    ensures { IfOk result (λ command. app_of command ≡ people_program) }
+{
+    let bare = Command::new(alloc, "gob")
+        .about(help::PROGRAM)
+        .version(help::VERSION)
+        .after_help(help::USE)
+        .subcommand_required(true);
+    let valuing = with_command(bare, values(alloc))?;
     let types = one_stream(alloc, "types", help::TYPES, help::DEPTH, help::FILE);
     let typing = with_command(valuing, types)?;
     let why = one_stream(alloc, "why", help::WHY, help::DEPTH, help::FILE);
     let telling = with_command(typing, why)?;
     let explaining = with_command(telling, explain(alloc))?;
-    let salvage = one_stream(alloc, "salvage", help::SALVAGE, help::DEPTH, help::FILE);
-    let salvaging = with_command(explaining, salvage)?;
-    salvaging.subcommand(Command::new(alloc, "version").about(help::NAME_AND_VERSION))
+    let verifying = with_command(explaining, verify(alloc))?;
+    with_command(
+        verifying,
+        one_stream(alloc, "salvage", help::SALVAGE, help::DEPTH, help::FILE),
+    )
 }
 
-// The command that shows values, with its flags behind the options that other commands have too.
+// The command that shows values, with its options behind those that other commands have too.
 fn values<'a>(alloc: Global) -> Result<Command<'a>, AllocError>
     ensures app { IfOk result (λ command. app_of command ≡ values) }
     ensures local { IfOk result (λ command. (out-Command command).has_globals ≡ false) }
 {
     let options = with_options(alloc, "values", help::VALUES, help::DEPTH)?;
-    with_input(alloc, with_flags(alloc, options)?, help::FILE)
+    let flagged = with_flags(alloc, options)?;
+    with_input(alloc, with_types(alloc, flagged)?, help::FILE)
+}
+
+// The command that reads some streams, with their names behind the options.
+fn verify<'a>(alloc: Global) -> Result<Command<'a>, AllocError>
+    ensures app { IfOk result (λ command. app_of command ≡ verify) }
+    ensures local { IfOk result (λ command. (out-Command command).has_globals ≡ false) }
+{
+    let files = Arg::new(alloc, "FILE")
+        .required(true)
+        .action(ArgAction::Append)
+        .help(help::FILES);
+    with_options(alloc, "verify", help::VERIFY, help::DEPTH)?.arg(files)
 }
 
 // The command that explains bytes, with a flag and an option behind those that other commands have too.
@@ -67,26 +104,6 @@ fn go_stream<'a>(
     let options = with_options(alloc, name, about, depth)?;
     let flagged = options.arg(flag(alloc, "go", help::GO))?;
     with_input(alloc, flagged, help::INPUT)
-}
-
-// The program with the commands that write exactly what a stream has.
-fn exact_program<'a>(alloc: Global) -> Result<Command<'a>, AllocError>
-    ensures { IfOk result (λ command. app_of command ≡ exact_program) }
-{
-    let bare = Command::new(alloc, "gob")
-        .about(help::PROGRAM)
-        .version(help::VERSION)
-        .after_help(help::USE)
-        .subcommand_required(true);
-    let show = go_stream(alloc, "show", help::SHOW, help::DEPTH);
-    let showing = with_command(bare, show)?;
-    let check = go_stream(alloc, "check", help::CHECK, help::DEPTH_WITH_GO);
-    let checking = with_command(showing, check)?;
-    let rewriting = with_command(checking, rewrite(alloc))?;
-    with_command(
-        rewriting,
-        two_streams(alloc, "take", help::TAKE, help::DEPTH),
-    )
 }
 
 // The program with one command more, where that was made. Here alone a program is dropped.
@@ -158,8 +175,8 @@ fn with_options<'a>(
 {
     Command::new(alloc, name)
         .about(about)
-        .arg(option(alloc, "depth", depth))?
-        .arg(option(alloc, "item", help::ITEM))
+        .arg(option(alloc, "depth", NUMBER, depth))?
+        .arg(option(alloc, "item", NUMBER, help::ITEM))
 }
 
 // The command with the flags that say how values are shown.
@@ -172,6 +189,17 @@ fn with_flags<'a>(alloc: Global, command: Command<'a>) -> Result<Command<'a>, Al
         .arg(flag(alloc, "zeros", help::ZEROS))?
         .arg(flag(alloc, "raw", help::RAW))?
         .arg(flag(alloc, "tagged", help::TAGGED))
+}
+
+// The command with the flag and the option that say how and of which types values are shown.
+fn with_types<'a>(alloc: Global, command: Command<'a>) -> Result<Command<'a>, AllocError>
+    requires { (out-Command command).has_globals ≡ false }
+    ensures app { IfOk result (λ more. app_of more ≡ with_types (app_of command.entry)) }
+    ensures local { IfOk result (λ more. (out-Command more).has_globals ≡ false) }
+{
+    command
+        .arg(flag(alloc, "typed", help::TYPED))?
+        .arg(option(alloc, "only", "TYPE", help::ONLY))
 }
 
 // The command with the flags that say that Go's encoder wrote the stream, and where definitions are to stand.
@@ -193,7 +221,7 @@ fn with_parts<'a>(alloc: Global, command: Command<'a>) -> Result<Command<'a>, Al
 {
     command
         .arg(flag(alloc, "fault", help::FAULT))?
-        .arg(option(alloc, "at", help::AT))
+        .arg(option(alloc, "at", NUMBER, help::AT))
 }
 
 // A flag, which takes no value.
@@ -207,10 +235,13 @@ fn flag<'a>(alloc: Global, name: &'a str, about: &'a str) -> Arg<'a>
         .help(about)
 }
 
-// An option of one number.
-fn option<'a>(alloc: Global, name: &'a str, about: &'a str) -> Arg<'a>
+// An option of one word, which help calls so.
+fn option<'a>(alloc: Global, name: &'a str, word: &'a str, about: &'a str) -> Arg<'a>
     ensures rule { rule_of result ≡ option_rule name.now }
     ensures local { result.global ≡ false }
 {
-    Arg::new(alloc, name).long(name).value_name("N").help(about)
+    Arg::new(alloc, name)
+        .long(name)
+        .value_name(word)
+        .help(about)
 }

@@ -6,16 +6,7 @@ pub const VERSION: &str = "gob 0.1.0";
 /// The program.
 pub(crate) const PROGRAM: &str = "Shows, checks and rewrites streams of Go's encoding/gob";
 
-/// Each command.
-pub(crate) const SHOW: &str = "Print each item of a stream as a line of JSON";
-
-pub(crate) const CHECK: &str =
-    "Read a whole stream, and print how many items, types and bytes it has";
-
-pub(crate) const REWRITE: &str = "Write a stream anew, without the fields that are zero";
-
-pub(crate) const TAKE: &str = "Print each value as one of the type of the first value in WANTED";
-
+/// The commands for people.
 pub(crate) const VALUES: &str = "Print each value of a stream as plain JSON, a line each";
 
 pub(crate) const TYPES: &str = "Print the types of a stream as Go source";
@@ -24,8 +15,21 @@ pub(crate) const WHY: &str = "Say why a stream is refused, and what to do, or ho
 
 pub(crate) const EXPLAIN: &str = "Print the bytes of a stream row by row, each with what it is";
 
+pub(crate) const VERIFY: &str =
+    "Say of each file whether it is a whole stream, and how much is in it";
+
 pub(crate) const SALVAGE: &str =
     "Write what isn't damaged of a stream as one stream, and say what is left out";
+
+/// The exact commands.
+pub(crate) const SHOW: &str = "Print each item of a stream as a line of JSON";
+
+pub(crate) const CHECK: &str =
+    "Read a whole stream, and print how many items, types and bytes it has";
+
+pub(crate) const REWRITE: &str = "Write a stream anew, without the fields that are zero";
+
+pub(crate) const TAKE: &str = "Print each value as one of the type of the first value in WANTED";
 
 pub(crate) const NAME_AND_VERSION: &str = "Print the program's name and version";
 
@@ -43,12 +47,17 @@ pub(crate) const GO: &str = "Take all that Go's encoder writes, as values in int
 pub(crate) const HOIST: &str =
     "As --go, and put each definition in a value into an item of its own before it";
 
-pub(crate) const ZEROS: &str = "Show absent fields too, as zeros";
+pub(crate) const ZEROS: &str =
+    "Show absent fields too, as zeros: for a table, in which pandas makes floats of int64 else";
 
 pub(crate) const RAW: &str = "Show values of types that encode themselves, as time.Time, in base64";
 
 pub(crate) const TAGGED: &str =
     "Show what an interface holds as {\"NAME\":value}, by its type's name";
+
+pub(crate) const TYPED: &str = "Show each value as {\"NAME\":value}, by its type's name";
+
+pub(crate) const ONLY: &str = "Show only the values of the type of this name or id";
 
 pub(crate) const FAULT: &str = "Show the item that is refused alone";
 
@@ -60,18 +69,20 @@ pub(crate) const INPUT: &str = "The stream; without it, standard input is read";
 
 pub(crate) const FILE: &str = "The stream; without it, or where it is -, standard input is read";
 
+pub(crate) const FILES: &str = "The streams";
+
 /// How it is used, how it ends, and what to do about the commonest faults.
 pub(crate) const USE: &str = "\
 Example:
-  printf '\\003\\004\\000\\006' | gob show
-  {\"type\":2,\"value\":3}
+  printf '\\003\\004\\000\\006' >n.gob; gob values n.gob
+  3
 
 Exit status:
   0  the whole input is a stream, or help was asked for
-  1  the input is refused or damaged, or has a value that doesn't match WANTED
+  1  an input is refused or damaged, or has a value that doesn't match WANTED
   2  bad arguments, a file that isn't opened, a failed read or write, no memory
 
-A fault is told in one line on standard error: the number and the name of the
+A fault is told in a line on standard error: the number and the name of the
 reason, the offset of the first byte that is refused, and how many bytes show it.
   gob: refused 22 Ended at 36 seen 36
       The input ends within an item: the file was cut off, or isn't all written

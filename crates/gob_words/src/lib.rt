@@ -4,16 +4,21 @@
 
 mod command_line;
 mod decimal;
+mod files;
 mod help;
 mod message;
 mod orders;
+mod shell;
 mod view;
 mod views;
 mod words;
 
+pub use decimal::number_of;
+pub use files::files_of;
 pub use help::VERSION;
 pub use message::escaped;
 pub use orders::order_of;
+pub use shell::quoted;
 pub use view::{View, ViewCommand, ViewFault};
 pub use views::view_of;
 pub use words::{Chosen, Order, OrderFault};

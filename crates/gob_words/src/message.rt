@@ -68,7 +68,7 @@ fn push_escaped(character: char, line: &mut String) -> Result<(), AllocError>
     }
 }
 
-// Controls, separators of lines, and what turns the direction of the text.
+// Controls, separators of lines, what turns the direction of the text, and characters without width.
 fn is_obeyed(character: char) -> bool
     ensures { result ≡ is_obeyed character }
 {
@@ -77,9 +77,9 @@ fn is_obeyed(character: char) -> bool
         '\0'..='\u{1f}'
             | '\u{7f}'..='\u{9f}'
             | '\u{61c}'
-            | '\u{200e}'
-            | '\u{200f}'
+            | '\u{200b}'..='\u{200f}'
             | '\u{2028}'..='\u{202e}'
             | '\u{2066}'..='\u{2069}'
+            | '\u{feff}'
     )
 }

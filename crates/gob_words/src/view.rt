@@ -23,6 +23,8 @@ pub enum ViewCommand {
     Why,
     /// The bytes, row by row, each with what it is.
     Explain,
+    /// Whether each of some files is a whole stream, and how much there is in it.
+    Verify,
     /// What isn't damaged of a stream, in its own bytes, as one stream.
     Salvage,
     /// The program's name and version.
@@ -35,7 +37,8 @@ pub enum ViewCommand {
     RewriteGo,
 }
 
-/// What the words ask to be shown. [`ViewCommand::Version`] reads no file, and its other fields are the usual ones.
+/// What the words ask to be shown. [`ViewCommand::Version`] reads no file, and its other fields are the usual ones. The
+/// files of [`ViewCommand::Verify`] are those of [`crate::files_of`], and `input` is none of them.
 #[derive(Clone, Copy, Debug, PartialEq, Eq)]
 pub struct View<'a> {
     /// What to show.
@@ -52,6 +55,10 @@ pub struct View<'a> {
     pub raw: bool,
     /// Whether what an interface holds is shown under the name of its type: for [`ViewCommand::Values`] alone.
     pub tagged: bool,
+    /// Whether each value is shown under the name of its type: for [`ViewCommand::Values`] alone.
+    pub typed: bool,
+    /// The name or the id of the type whose values alone are shown: for [`ViewCommand::Values`] alone.
+    pub only: Option<&'a str>,
     /// Whether each definition in a value stands in an item of its own before the value's: for
     /// [`ViewCommand::RewriteGo`] alone.
     pub hoist: bool,

@@ -7,8 +7,8 @@ ghost use Rattle.gob_words.specs.declared.view.View.{View};
 ghost use Rattle.gob_words.specs.declared.view.ViewCommand.{ViewCommand};
 ghost use Rattle.gob_words.specs.Escaped.{IsUnobeyed};
 ghost use Rattle.gob_words.specs.Views.{AsksToView, IsFileOf, IsViewFaultOf, IsViewOf, RefusesToView, view_name};
-ghost use Rattle.gob_words.specs.Views.{IsAskedFor, IsFaultFlagOf, IsFlagOf, IsHoistFlagOf, IsPlaceIn, IsPlaceOf};
-ghost use Rattle.gob_words.specs.Views.{IsVersionView, IsWordAtFault};
+ghost use Rattle.gob_words.specs.Views.{IsAskedFor, IsFaultFlagOf, IsFlagOf, IsHoistFlagOf, IsOnlyOf, IsPlaceIn};
+ghost use Rattle.gob_words.specs.Views.{IsPlaceOf, IsVersionView, IsWordAtFault};
 ghost use Rattle.gob_words.specs.Words.{HasNoFault, text_of};
 
 use crate::command_line::program;
@@ -55,6 +55,8 @@ fn version_view<'a>() -> View<'a>
         zeros: false,
         raw: false,
         tagged: false,
+        typed: false,
+        only: None,
         hoist: false,
         fault: false,
         at: None,
@@ -86,6 +88,8 @@ fn view_in<'a>(matches: &ArgMatches<'a>) -> Option<View<'a>>
         zeros: is_given(command, matches.get_str("zeros")),
         raw: is_given(command, matches.get_str("raw")),
         tagged: is_given(command, matches.get_str("tagged")),
+        typed: is_given(command, matches.get_str("typed")),
+        only: only_of(command, matches.get_str("only")),
         hoist: is_hoist_asked(command, matches.get_str("hoist")),
         fault: is_fault_asked(command, matches.get_str("fault")),
         at,
@@ -102,6 +106,7 @@ fn command_of(name: &str) -> Option<ViewCommand>
         "types" => Some(ViewCommand::Types),
         "why" => Some(ViewCommand::Why),
         "explain" => Some(ViewCommand::Explain),
+        "verify" => Some(ViewCommand::Verify),
         "salvage" => Some(ViewCommand::Salvage),
         "version" => Some(ViewCommand::Version),
         "show" => Some(ViewCommand::ShowGo),
@@ -124,6 +129,7 @@ fn is_asked(command: ViewCommand, go: Option<&str>, hoist: Option<&str>) -> bool
         | ViewCommand::Types
         | ViewCommand::Why
         | ViewCommand::Explain
+        | ViewCommand::Verify
         | ViewCommand::Salvage
         | ViewCommand::Version => true,
     }
@@ -138,6 +144,7 @@ fn is_fault_asked(command: ViewCommand, value: Option<&str>) -> bool
         ViewCommand::Values
         | ViewCommand::Types
         | ViewCommand::Why
+        | ViewCommand::Verify
         | ViewCommand::Salvage
         | ViewCommand::Version
         | ViewCommand::ShowGo
@@ -156,6 +163,7 @@ fn is_hoist_asked(command: ViewCommand, value: Option<&str>) -> bool
         | ViewCommand::Types
         | ViewCommand::Why
         | ViewCommand::Explain
+        | ViewCommand::Verify
         | ViewCommand::Salvage
         | ViewCommand::Version
         | ViewCommand::ShowGo
@@ -173,6 +181,7 @@ fn place_of(command: ViewCommand, word: Option<&str>) -> Option<Option<u64>>
         ViewCommand::Values
         | ViewCommand::Types
         | ViewCommand::Why
+        | ViewCommand::Verify
         | ViewCommand::Salvage
         | ViewCommand::Version
         | ViewCommand::ShowGo
@@ -204,11 +213,30 @@ fn is_given(command: ViewCommand, value: Option<&str>) -> bool
         ViewCommand::Types
         | ViewCommand::Why
         | ViewCommand::Explain
+        | ViewCommand::Verify
         | ViewCommand::Salvage
         | ViewCommand::Version
         | ViewCommand::ShowGo
         | ViewCommand::CheckGo
         | ViewCommand::RewriteGo => { false }
+    }
+}
+
+// The word that says of which type values are shown, where the command has one.
+fn only_of<'a>(command: ViewCommand, word: Option<&'a str>) -> Option<&'a str>
+    ensures { IsOnlyOf command (text_of word.entry) (text_of result) }
+{
+    match command {
+        ViewCommand::Values => word,
+        ViewCommand::Types
+        | ViewCommand::Why
+        | ViewCommand::Explain
+        | ViewCommand::Verify
+        | ViewCommand::Salvage
+        | ViewCommand::Version
+        | ViewCommand::ShowGo
+        | ViewCommand::CheckGo
+        | ViewCommand::RewriteGo => None,
     }
 }
 

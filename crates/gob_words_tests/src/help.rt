@@ -34,19 +34,20 @@ fn line_tells(alloc: Global, line: &str, texts: &str) -> bool {
 const PROGRAM: &str = "\
 Shows, checks and rewrites streams
 Usage: gob <COMMAND>
-  show 
-  check 
-  rewrite 
-  take 
   values 
   types 
   why 
   explain 
+  verify 
   salvage 
+  show 
+  check 
+  rewrite 
+  take 
   version 
   help 
   -V, --version
-Example:
+gob values n.gob
 Exit status:
 Ended
 InterfaceValue
@@ -78,8 +79,17 @@ where it is -,
 --depth <N>
 --item <N>
 --zeros 
+pandas
+--typed 
+--only <TYPE>
 --raw 
 --tagged 
+1 to 1000,";
+
+const VERIFY: &str = "\
+Usage: gob verify [OPTIONS] <FILE>...
+--depth <N>
+--item <N>
 1 to 1000,";
 
 const REWRITE: &str = "\
@@ -101,7 +111,7 @@ where it is -,
 1 to 1000,";
 
 // Words behind the program's name, and the texts of their help.
-const HELPS: [(&str, &str); 12] = [
+const HELPS: [(&str, &str); 13] = [
     ("help", PROGRAM),
     ("--help", PROGRAM),
     ("-h", PROGRAM),
@@ -110,11 +120,36 @@ const HELPS: [(&str, &str); 12] = [
     ("check --help", CHECK),
     ("help show", SHOW),
     ("help values", VALUES),
+    ("help verify", VERIFY),
     ("help rewrite", REWRITE),
     ("types --help", "1 to 1000,"),
     ("why --help", "1 to 1000,"),
     ("help explain", EXPLAIN),
 ];
+
+// Whether the help has the one text, and the other behind it.
+fn is_in_order(help: &str, first: &str, second: &str) -> bool {
+    match help.split_once(first) {
+        Some((_, rest)) => rest.contains(second),
+        None => false,
+    }
+}
+
+// Whether help has the commands for people before the exact ones.
+fn has_people_first(alloc: Global) -> bool {
+    match order_of(alloc, &["gob", "help"]) {
+        Err(OrderFault::Help(help)) => {
+            is_in_order(&help, "  values ", "  salvage ")
+                && is_in_order(&help, "  salvage ", "  show ")
+        }
+        _ => false,
+    }
+}
+
+#[test]
+fn help_has_people_first(rt: HostRuntime) {
+    assert!(rt; has_people_first(rt.alloc()), "help");
+}
 
 #[test]
 fn help_has_its_texts(rt: HostRuntime) {

@@ -52,6 +52,16 @@ rewrite f --go --hoist
 RewriteGo Some("f") 1000 67108864 None hoist
 values --tagged --zeros f
 Values Some("f") 1000 67108864 None zeros tagged
+values --typed f
+Values Some("f") 1000 67108864 None typed
+values --only Login --typed --tagged f
+Values Some("f") 1000 67108864 None tagged typed only Login
+values --only=65
+Values None 1000 67108864 None only 65
+verify a.gob b.gob
+Verify None 1000 67108864 None
+verify --depth 5 --item 0 -- --go
+Verify None 5 0 None
 values --zeros
 Values None 1000 67108864 None zeros
 values --raw
@@ -73,12 +83,17 @@ fn shown(alloc: Global, view: &View<'_>) -> Result<String, AllocError> {
         (view.zeros, " zeros"),
         (view.raw, " raw"),
         (view.tagged, " tagged"),
+        (view.typed, " typed"),
         (view.hoist, " hoist"),
         (view.fault, " fault"),
     ] {
         if is_set {
             text.push_str(flag)?;
         }
+    }
+    if let Some(only) = view.only {
+        text.push_str(" only ")?;
+        text.push_str(only)?;
     }
     Ok(text)
 }
@@ -175,6 +190,14 @@ fn exact_commands_are_views_with_their_flag_alone(rt: HostRuntime) {
 const SAID: &str = "\
 values a b
 gob: unexpected argument 'b' found
+types --only Login
+gob: unexpected argument '--only' found
+values --only
+gob: a value is required for '--only <TYPE>' but none was supplied
+verify --typed f
+gob: unexpected argument '--typed' found
+verify f --depth 0
+gob: invalid value '0' for '--depth <N>': no number from 1 to 1000
 values --deep 5
 gob: unexpected argument '--deep' found
 values --depth

@@ -65,8 +65,8 @@ fn what_is_not_damaged_is_kept(rt: HostRuntime) -> Result<(), Fail> {
     Ok(())
 }
 
-// What is due is sent where there is room: of a whole stream, behind a changed byte, and of a definition said again. Each
-// allocation of these is refused in turn, so other rows would take longer and meet no other call.
+// What is due is sent where there is room: of a whole stream, behind a changed byte, and of a definition said again.
+// Each allocation of these is refused in turn, so other rows would take longer and meet no other call.
 #[test]
 fn salvaging_wants_memory(rt: HostRuntime) {
     for row in [&ROWS[1], &ROWS[2], &ROWS[6]] {

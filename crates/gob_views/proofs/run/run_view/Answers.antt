@@ -19,7 +19,7 @@ returns-in-Values-clause-shows g c = λ bytes known.
     let new = g.W.Write.contents (writer_of c.run_values.new.output) in
     let next = g.R.Read.remaining (reader_of c.run_values.new.input) in
     let view = c.args.view.now in
-    let printed = rw (c.limits_of.ensures, within_view view, c.style_of.ensures) at
+    let printed = rw (c.limits_of.ensures, within_view view, c.lines_of.ensures) at
     c.run_values.ensures.printed in
     subst (λ x. CommandAnswers x view bytes next old new c.run_values.result) (sym c.in-Values.is) (printed bytes known)
 
@@ -50,6 +50,16 @@ returns-in-CheckGo-clause-shows g c = λ bytes known.
     let view = c.args.view.now in
     let checked = rw (c.limits_of-in-CheckGo.ensures, within_view view) at c.run_check_go.ensures.checked in
     subst (λ x. CommandAnswers x view bytes next old new c.run_check_go.result) (sym c.in-CheckGo.is)
+    (checked bytes known)
+
+pub returns-in-Verify-clause-shows : goal.returns-in-Verify-clause-shows
+returns-in-Verify-clause-shows g c = λ bytes known.
+    let old = g.W.Write.contents (writer_of c.args.output.now) in
+    let new = g.W.Write.contents (writer_of c.run_check_go-in-Verify.new.output) in
+    let next = g.R.Read.remaining (reader_of c.run_check_go-in-Verify.new.input) in
+    let view = c.args.view.now in
+    let checked = rw (c.limits_of-in-Verify.ensures, within_view view) at c.run_check_go-in-Verify.ensures.checked in
+    subst (λ x. CommandAnswers x view bytes next old new c.run_check_go-in-Verify.result) (sym c.in-Verify.is)
     (checked bytes known)
 
 pub returns-in-ShowGo-clause-shows : goal.returns-in-ShowGo-clause-shows

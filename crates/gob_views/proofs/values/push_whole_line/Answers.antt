@@ -1,9 +1,9 @@
-use Rattle.std.proofs.Common.{◌≡◌, ℕ, List, ap, subst, arith, min}
+use Rattle.std.proofs.Common.{◌≡◌, ap, arith, min}
 use Rattle.gob_types.specs.Defined.{types}
 use Rattle.gob_stream.specs.Bounds.{greatest_depth}
 use Rattle.gob_go.specs.Calls.Reader.{session_of}
 use Rattle.gob_go.specs.Calls.Session.{limits_of}
-use Rattle.gob_views.proofs.PlainLaws.{ReadsInLine, whole_line}
+use Rattle.gob_views.proofs.PlainLaws.{whole_line}
 use Rattle.gob_views.proofs.values.push_whole_line.Goals as goal
 
 pub tape_of-requires : goal.tape_of-requires
@@ -15,7 +15,5 @@ returns c =
     let limits = rw c.limits.ensures at c.depth.ensures.depth in
     let deep : c.min-depth.result ≡ min (limits_of (session_of c.args.reader.now)).depth greatest_depth =
     omega (arith, limits, c.min-depth.ensures) in
-    let reads = subst (λ (text : List ℕ). ReadsInLine text) c.as_str.ensures.value c.push_line.ensures.reads in
-    let shown = rw (c.as_str.ensures.value, c.requires) at c.in_ok-push_line.ensures.shown in
     whole_line c.in-Some.ensures.between c.in-Some.ensures.body (ap (λ d. types d) c.table.ensures)
-    (ap (λ d. types d) c.table-2.ensures) deep tape c.in_ok-json.ensures reads shown
+    (ap (λ d. types d) c.table-2.ensures) deep tape c.in_ok-push_tape_line.ensures

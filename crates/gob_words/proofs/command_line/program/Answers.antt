@@ -1,25 +1,23 @@
--- The commands that show a stream stand behind the exact ones.
+-- The exact commands stand behind those for people.
 use Rattle.std.proofs.Common.{◌∙◌, ap, ap₂}
 use Rattle.std.proofs.lemmas.Result.{IfOk-weaker}
 use Rattle.std.specs.Prelude.{codes}
 use Rattle.clap.specs.Words.{App, with_subcommand}
 use Rattle.clap.specs.Simple.{app_of_fields}
-use Rattle.gob_words.specs.Words.{explain, one_stream, values}
+use Rattle.gob_words.specs.Words.{go_stream, rewrite, two_streams}
 use Rattle.gob_words.proofs.command_line.program.Goals as goal
 
 pub returns : goal.returns
 returns c =
-    let valuing = c.in_ok-valuing.ensures values c.values.ensures.app
-    ∙ ap (λ (x : App). with_subcommand x values.top) c.in_ok-exact.ensures in
-    let typing = c.in_ok-typing.ensures (one_stream (codes "types")) c.one_stream-types.ensures.app
-    ∙ ap (λ (x : App). with_subcommand x (one_stream (codes "types")).top) valuing in
-    let telling = c.in_ok-telling.ensures (one_stream (codes "why")) c.one_stream-why.ensures.app
-    ∙ ap (λ (x : App). with_subcommand x (one_stream (codes "why")).top) typing in
-    let explaining = c.in_ok-explaining.ensures explain c.explain.ensures.app
-    ∙ ap (λ (x : App). with_subcommand x explain.top) telling in
-    let salvaging = c.in_ok-salvaging.ensures (one_stream (codes "salvage")) c.one_stream-salvage.ensures.app
-    ∙ ap (λ (x : App). with_subcommand x (one_stream (codes "salvage")).top) explaining in
+    let showing = c.in_ok-showing.ensures (go_stream (codes "show")) c.go_stream-show.ensures.app
+    ∙ ap (λ (x : App). with_subcommand x (go_stream (codes "show")).top) c.in_ok-people.ensures in
+    let checking = c.in_ok-checking.ensures (go_stream (codes "check")) c.go_stream-check.ensures.app
+    ∙ ap (λ (x : App). with_subcommand x (go_stream (codes "check")).top) showing in
+    let rewriting = c.in_ok-rewriting.ensures rewrite c.rewrite.ensures.app
+    ∙ ap (λ (x : App). with_subcommand x rewrite.top) checking in
+    let taking = c.in_ok-taking.ensures (two_streams (codes "take")) c.two_streams-take.ensures.app
+    ∙ ap (λ (x : App). with_subcommand x (two_streams (codes "take")).top) rewriting in
     let version = ap app_of_fields c.about.ensures ∙ c.new.ensures.app in
     IfOk-weaker c.subcommand.result _ _ (λ r added. added.shape (ap (λ f. f.has_globals) c.about.ensures
     ∙ c.new.ensures.local)
-    ∙ ap₂ with_subcommand salvaging (ap (λ (x : App). x.top) version)) c.subcommand.ensures
+    ∙ ap₂ with_subcommand taking (ap (λ (x : App). x.top) version)) c.subcommand.ensures
