@@ -9,7 +9,12 @@ import { isPlain, parsed } from "./plain.js";
 
 const GOB = process.env.GOB;
 const SIZES = [1, 3, 64, 65536];
-const printed = (command, ...words) => spawnSync(command, words, { encoding: "utf8", maxBuffer: 1 << 30 });
+
+/** What a command prints of these words, but for the line in which the program names the file behind a refusal. */
+function printed(command, ...words) {
+    const ran = spawnSync(command, words, { encoding: "utf8", maxBuffer: 1 << 30 });
+    return { ...ran, stderr: ran.stderr.replace(/^gob: in .*\n/m, "") };
+}
 
 for (const path of streams()) {
     const name = relative(ROOT, path), bytes = read(path);

@@ -65,10 +65,10 @@ class Tests:
             page.picture(f"{self.pictures}/{name}.png", whole)
 
     def printed(self, command, path):
-        """What a command of the program prints of a file, and its line of a fault."""
+        """What a command of the program prints of a file, and its line of a fault, without the one that names the file."""
         option = ["--go"] if command == "show" else []
         ran = subprocess.run([self.gob, command, *option, path], capture_output=True)
-        return ran.stdout.decode(), ran.stderr.decode().rstrip("\n")
+        return ran.stdout.decode(), ran.stderr.decode().partition("\n")[0]
 
     # ---- what is read
 
