@@ -1,13 +1,14 @@
 //! The files that are verified.
 
 use crate::verdict::Verdict;
-use crate::{Stop, printed, unopened_line};
+use crate::{Stop, unopened_line};
 use gob_stream::Input;
 use gob_tool::ToolFault;
 use gob_views::{limits_of, tell_file};
 use gob_words::View;
 use std::fs::File;
-use std::io::{Read, Write};
+use std::io;
+use std::io::{ErrorKind, Read, Write};
 
 /// Verifies the files one after another, and goes on behind each that is refused or isn't read.
 pub(crate) fn verify(rt: &HostRuntime, view: &View, files: &[&str]) -> Result<(), Stop> {
@@ -27,7 +28,7 @@ fn verify_file(rt: &HostRuntime, view: &View, name: &str) -> Result<Verdict, Sto
         Ok(file) => say(rt, view, name, &mut Input::new(file)),
         Err(error) => {
             let line = unopened_line(rt.alloc(), name, &error)?;
-            printed(println!(rt; "{line}"))?;
+            sent(println!(rt; "{line}"))?;
             Ok(Verdict::NotRead)
         }
     }
@@ -44,6 +45,15 @@ fn say<R: Read>(
         Ok(told) => told,
         Err(_) => return Err(Stop::Run(ToolFault::Memory)),
     };
-    printed(rt.stdout().write_all(&told.line))?;
+    sent(rt.stdout().write_all(&told.line))?;
     Ok(Verdict::of(&told.answer))
+}
+
+// A line that isn't written is a failed write, and ends the program quietly where the other end of a pipe is closed.
+fn sent(written: io::Result<()>) -> Result<(), Stop> {
+    match written {
+        Ok(()) => Ok(()),
+        Err(error) if error.kind() == ErrorKind::BrokenPipe => Err(Stop::Unread),
+        Err(_) => Err(Stop::Run(ToolFault::Write)),
+    }
 }
