@@ -8,7 +8,7 @@ use std::alloc::Global;
 enum Zone {
     Offset,
     Digits,
-    // The same, behind a space.
+    // A space behind digits: a second one ends them.
     Gap,
     Text,
 }

@@ -33,7 +33,7 @@ use Rattle.gob_go.specs.declared.description.DescriptionStage.{DescriptionStage}
 use Rattle.gob_go.specs.declared.filled.Definition.{Definition}
 use Rattle.gob_go.specs.declared.levels.Levels.{Levels}
 use Rattle.gob_go.specs.declared.number.NumberStage.{NumberStage}
-use Rattle.gob_go.specs.declared.part.Part.TheVariants as part
+use Rattle.gob_go.specs.declared.part.PutPart.TheVariants as part
 use Rattle.gob_go.specs.declared.part.PartTaken.{PartTaken}
 use Rattle.gob_go.specs.Machine.HasRead.{PartHasRead, in_held_description, in_next_count, NumberIs, OthersAre, no_end}
 use Rattle.gob_go.specs.Machine.HasRead as has_read

@@ -25,7 +25,7 @@ use Rattle.gob_go.specs.declared.inner_count.InnerCount.{InnerCount}
 use Rattle.gob_go.specs.declared.levels.Levels.{Levels}
 use Rattle.gob_go.specs.declared.number.NumberStage.{NumberStage}
 use Rattle.gob_go.specs.declared.number.NumberTaken.TheVariants as taken
-use Rattle.gob_go.specs.declared.part.Part.TheVariants as part
+use Rattle.gob_go.specs.declared.part.PutPart.TheVariants as part
 use Rattle.gob_go.specs.declared.part.PartTaken.{PartTaken}
 use Rattle.gob_go.specs.Machine.HasRead.{PartHasRead, in_held_number, in_inner_count, NumberIs}
 use Rattle.gob_go.specs.Machine.Held.{AwaitsType, awaits_type, IsBehindNumber, HeldNumberSteps}

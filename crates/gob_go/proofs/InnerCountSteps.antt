@@ -31,7 +31,7 @@ use Rattle.gob_go.specs.declared.level.Level as declared
 use Rattle.gob_go.specs.declared.levels.Levels.{Levels}
 use Rattle.gob_go.specs.declared.number.NumberStage.{NumberStage}
 use Rattle.gob_go.specs.declared.number.NumberTaken.TheVariants as taken
-use Rattle.gob_go.specs.declared.part.Part.TheVariants as part
+use Rattle.gob_go.specs.declared.part.PutPart.TheVariants as part
 use Rattle.gob_go.specs.declared.part.PartTaken.{PartTaken}
 use Rattle.gob_go.specs.Machine.HasRead.{PartHasRead, in_inner_count, OthersAre}
 use Rattle.gob_go.specs.Machine.Levels.{LevelAtNil, AreOuter, outer_then, HeldIs}

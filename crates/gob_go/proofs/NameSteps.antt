@@ -34,7 +34,7 @@ use Rattle.gob_go.specs.declared.level.Level as declared
 use Rattle.gob_go.specs.declared.levels.Levels.{Levels}
 use Rattle.gob_go.specs.declared.number.NumberStage.{NumberStage}
 use Rattle.gob_go.specs.declared.number.NumberTaken.TheVariants as taken
-use Rattle.gob_go.specs.declared.part.Part.TheVariants as part
+use Rattle.gob_go.specs.declared.part.PutPart.TheVariants as part
 use Rattle.gob_go.specs.Machine.HasRead.{PartHasRead, in_name_length, in_name, in_held_number, OthersAre}
 use Rattle.gob_go.specs.Machine.Levels.{LevelAtNil, HeldIs}
 use Rattle.gob_go.specs.Machine.Parts.{NumberAnswers, NumberIsWhole, RefusesNumber, bad_head, not_minimal, short}

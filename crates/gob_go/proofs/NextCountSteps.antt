@@ -33,7 +33,7 @@ use Rattle.gob_go.specs.declared.level.Level as declared
 use Rattle.gob_go.specs.declared.levels.Levels.{Levels}
 use Rattle.gob_go.specs.declared.number.NumberStage.{NumberStage}
 use Rattle.gob_go.specs.declared.number.NumberTaken.TheVariants as taken
-use Rattle.gob_go.specs.declared.part.Part.TheVariants as part
+use Rattle.gob_go.specs.declared.part.PutPart.TheVariants as part
 use Rattle.gob_go.specs.Opens.{Open}
 use Rattle.gob_go.specs.Reading.{RefusesWith}
 use Rattle.gob_go.specs.Machine.Levels.{LevelAtNil, HeldIs, AreOuter, none_outer, outer_then}

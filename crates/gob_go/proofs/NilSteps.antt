@@ -35,7 +35,7 @@ use Rattle.gob_go.specs.Opens.{Open, opens}
 use Rattle.gob_go.specs.Reading.{RefusesWith}
 use Rattle.gob_go.specs.declared.level.Level as declared
 use Rattle.gob_go.specs.declared.levels.Levels.{Levels}
-use Rattle.gob_go.specs.declared.part.Part.TheVariants as part
+use Rattle.gob_go.specs.declared.part.PutPart.TheVariants as part
 use Rattle.gob_go.specs.Machine.HasRead.{PartHasRead, in_skeleton, OthersAre}
 use Rattle.gob_go.specs.Machine.Levels.{FillingsAre, AreOuter}
 use Rattle.gob_go.specs.Machine.Parts.{FillAnswers}

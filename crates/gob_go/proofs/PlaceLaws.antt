@@ -13,8 +13,8 @@ use Rattle.gob_go.specs.declared.description.DescriptionStage.{DescriptionStage}
 use Rattle.gob_go.specs.declared.level.Level.{Level}
 use Rattle.gob_go.specs.declared.levels.Levels.{Levels}
 use Rattle.gob_go.specs.declared.number.NumberStage.{NumberStage}
-use Rattle.gob_go.specs.declared.part.Part.{Part}
-use Rattle.gob_go.specs.declared.part.Part.TheVariants as part
+use Rattle.gob_go.specs.declared.part.PutPart.{PutPart}
+use Rattle.gob_go.specs.declared.part.PutPart.TheVariants as part
 use Rattle.gob_go.specs.Machine.HasRead.{NumberIs, DescriptionIs, PartHasRead, in_skeleton, in_name_length, in_name}
 use Rattle.gob_go.specs.Machine.HasRead.{in_held_number, in_held_description, in_next_count, in_inner_count}
 use Rattle.gob_go.proofs.ReaderLaws.{announced_once, read_once}
@@ -72,7 +72,7 @@ one_in_description {stage = stage} a b =
 abbrev IsNumberAt : NumberStage → ℕ → Type 0
 IsNumberAt stage at = at ≡ stage.rest.begin + length stage.number
 
-abbrev IsPartAt : Levels → Part → ℕ → Type 0
+abbrev IsPartAt : Levels → PutPart → ℕ → Type 0
 IsPartAt levels part.Value at = IsLevelAt levels.innermost at
 IsPartAt levels (part.NameLength stage) at = IsNumberAt stage.number at
 IsPartAt levels (part.Name name) at = IsNameAt levels.innermost name.left at
@@ -81,7 +81,7 @@ IsPartAt levels (part.Description stage) at = IsDescriptionAt stage.description 
 IsPartAt levels (part.NextCount stage) at = IsNumberAt stage.number at
 IsPartAt levels (part.InnerCount stage) at = IsNumberAt stage.number at
 
-one_in_part : (levels : Levels) (next : Part) {m n : ℕ} → IsPartAt levels next m → IsPartAt levels next n → m ≡ n
+one_in_part : (levels : Levels) (next : PutPart) {m n : ℕ} → IsPartAt levels next m → IsPartAt levels next n → m ≡ n
 one_in_part levels part.Value a b = one_in_level a b
 one_in_part levels (part.NameLength stage) a b = omega arith
 one_in_part levels (part.Name name) a b = one_in_name a b
@@ -106,7 +106,7 @@ description_at {L = L} {U = U} {stage = stage} {y = y} h e = record {
   place = let b = h.begins in omega arith;
 }
 
-part_at : {L : Bounds} {T U : Table} {offset : ℕ} {levels : Levels} {next : Part} {z : List ℕ}
+part_at : {L : Bounds} {T U : Table} {offset : ℕ} {levels : Levels} {next : PutPart} {z : List ℕ}
     → PartHasRead L T offset U levels next z → IsPartAt levels next (offset + length z)
 part_at {U = U} (in_skeleton {z = z} {lv = lv} c p said w o) = record {
   table = U;
@@ -150,7 +150,7 @@ part_at (in_next_count {z = z} {b = b} q p said def ends h o held number) =
 part_at (in_inner_count {z = z} {n = n} q p said may sg h o held number) =
     number_at number (omega (arith, length-append z (n ++ q), length-append z n, length-append n q))
 
-pub same_place : {L M : Bounds} {S T U V : Table} {offset begin : ℕ} {levels : Levels} {next : Part} {y z : List ℕ}
+pub same_place : {L M : Bounds} {S T U V : Table} {offset begin : ℕ} {levels : Levels} {next : PutPart} {y z : List ℕ}
     → PartHasRead L S offset U levels next y → PartHasRead M T begin V levels next z
     → offset + length y ≡ begin + length z
 same_place {levels = levels} {next = next} h k = one_in_part levels next (part_at h) (part_at k)

@@ -8,7 +8,7 @@ use Rattle.gob_types.specs.Table.{Table}
 use Rattle.gob_stream.specs.declared.fault.Fault.{Fault}
 use Rattle.gob_stream.specs.Bounds.{Bounds}
 use Rattle.gob_go.specs.declared.levels.Levels.{Levels}
-use Rattle.gob_go.specs.declared.part.Part.{Part}
+use Rattle.gob_go.specs.declared.part.PutPart.{PutPart}
 use Rattle.gob_go.specs.declared.part.PartTaken.{PartTaken}
 use Rattle.gob_go.specs.declared.put.PutStage.{PutStage}
 use Rattle.gob_go.specs.declared.stage.Stage.TheVariants as stage
@@ -37,7 +37,7 @@ put_bound {piece = piece} w o a =
     part_bound w.bytes piece w.within w.taken_is (a.each w.table w.offset w.bytes (in_put_of w.in_item) o)
 
 -- what follows takes what the part took
-behind_used : (levels : Levels) (at used : ℕ) (next : Option Part) (stepped : Stepped)
+behind_used : (levels : Levels) (at used : ℕ) (next : Option PutPart) (stepped : Stepped)
     → StageBehind levels at used next stepped → stepped.used ≡ used
 behind_used levels at used (Some next) stepped b = ap (λ (s : Stepped). s.used) b
 behind_used levels at used None stepped b = ap (λ (s : Stepped). s.used) b.3

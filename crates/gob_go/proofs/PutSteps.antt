@@ -11,7 +11,7 @@ use Rattle.gob_go.specs.declared.filled.Filled.{Filled, out-Filled}
 use Rattle.gob_go.specs.declared.item.GoItem.TheVariants as item
 use Rattle.gob_go.specs.declared.level.Level.{Level}
 use Rattle.gob_go.specs.declared.levels.Levels.{Levels}
-use Rattle.gob_go.specs.declared.part.Part.{Part}
+use Rattle.gob_go.specs.declared.part.PutPart.{PutPart}
 use Rattle.gob_go.specs.declared.part.PartTaken.{PartTaken}
 use Rattle.gob_go.specs.declared.put.PutStage.{PutStage}
 use Rattle.gob_go.specs.declared.stage.Stage.TheVariants as stage
@@ -26,7 +26,7 @@ use Rattle.gob_go.specs.Machine.Stages.{GoesSteps, value_goes_on, goes_to_end, g
 use Rattle.gob_go.specs.Machine.Stages.{behind_value, no_memory_for_part, StepsOn, goes_on, gives, refuses_it}
 use Rattle.gob_go.specs.Machine.Stages.{no_memory}
 
-pub none_behind : (levels : Levels) (taken used : ℕ) {next : Option Part} {stepped : Stepped} {innermost : Level}
+pub none_behind : (levels : Levels) (taken used : ℕ) {next : Option PutPart} {stepped : Stepped} {innermost : Level}
     (kept : Filled) → next ≡ None → innermost ≡ levels.innermost
     → (out-Filled kept).skeleton ≡ innermost.skeleton → (out-Filled kept).fillings ≡ innermost.fillings
     → stepped ≡ record { used = used; stage = count_at (taken + used); item = Some (item.Put innermost.id kept) }

@@ -34,7 +34,7 @@ use Rattle.gob_go.specs.Machine.HasRead.{in_type_number, in_definition, in_put, 
 use Rattle.gob_go.specs.Reading.{LeadsAtMostTo, LeadsToTypes, behind_whole}
 use Rattle.gob_go.specs.declared.description.DescriptionStage.{DescriptionStage}
 use Rattle.gob_go.specs.declared.levels.Levels.{Levels}
-use Rattle.gob_go.specs.declared.part.Part.{Part}
+use Rattle.gob_go.specs.declared.part.PutPart.{PutPart}
 use Rattle.gob_go.specs.declared.stage.Stage.{Stage}
 use Rattle.gob_go.proofs.AtRestLaws.{count_begun, number_begun, description_begun, pos_negsuc, skeleton_step}
 use Rattle.gob_go.proofs.AtRestLaws.{skeleton_refusal, nil_viable, name_step, name_refusal, held_number_step}
@@ -77,7 +77,7 @@ description_viable {L = L} {U = U} {y = y} d =
     let b = d.begins in let e = d.ends in
     subst (λ n. IsViable U wire_type L.depth n y) (omega arith) d.read.viable
 
-pub part_at_rest : {L : Bounds} {T U : Table} {offset : ℕ} {levels : Levels} {next : Part} {y : List ℕ}
+pub part_at_rest : {L : Bounds} {T U : Table} {offset : ℕ} {levels : Levels} {next : PutPart} {y : List ℕ}
     → PartHasRead L T offset U levels next y → AtRest L T offset U y
 part_at_rest {U = U} {offset = offset} (in_skeleton {z = z} {lv = lv} {around = around} {left = left} c p said w o) =
     let r = w.rest in let short = w.viable.room in
@@ -401,7 +401,7 @@ under_way_lead (in_definition a y g k d) = leads_nowhere g (λ b.
 under_way_lead (in_put p) = let a = part_at_rest p in leads_at_most a.behind a.stands a.whole a.no_step a.types a.leads
 
 -- ---- types
-part_grown : {L : Bounds} {T U : Table} {offset : ℕ} {levels : Levels} {next : Part} {y : List ℕ}
+part_grown : {L : Bounds} {T U : Table} {offset : ℕ} {levels : Levels} {next : PutPart} {y : List ℕ}
     → PartHasRead L T offset U levels next y → Grown T U
 part_grown (in_skeleton c p said w o) = stands_grown p
 part_grown (in_name_length c a p said n o num rest) = stands_grown p
@@ -420,7 +420,7 @@ stage_grown (in_definition a y g k d) = same_grown g
 stage_grown (in_put p) = part_grown p
 
 -- ---- how far bytes come
-part_bound : {L : Bounds} {T U : Table} {offset : ℕ} {levels : Levels} {next : Part} {y : List ℕ}
+part_bound : {L : Bounds} {T U : Table} {offset : ℕ} {levels : Levels} {next : PutPart} {y : List ℕ}
     → PartHasRead L T offset U levels next y → offset + length y ≤ L.stream + 9
 part_bound {L = L} {offset = offset} (in_skeleton {z = z} {lv = lv} {around = around} c p said w o) =
     let s = within_stream L around lv _ (levels_nest p) in let r = w.rest in let short = w.viable.room in omega arith

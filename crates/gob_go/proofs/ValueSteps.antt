@@ -34,7 +34,7 @@ use Rattle.gob_go.specs.declared.level.Came.TheVariants as came
 use Rattle.gob_go.specs.declared.levels.Goes.{Goes}
 use Rattle.gob_go.specs.declared.levels.Levels.{Levels}
 use Rattle.gob_go.specs.declared.number.NumberStage.{NumberStage}
-use Rattle.gob_go.specs.declared.part.Part.TheVariants as part
+use Rattle.gob_go.specs.declared.part.PutPart.TheVariants as part
 use Rattle.gob_go.specs.Machine.HasRead.{PartHasRead, in_skeleton, in_name_length, OthersAre, NumberIs}
 use Rattle.gob_go.specs.declared.part.PartTaken.{PartTaken}
 use Rattle.gob_go.specs.Machine.Levels.{LevelIs, BeginsOrStands, begins, stands}

@@ -8,7 +8,7 @@ ghost use Rattle.gob_num.specs.Unsigned.{IsUnsigned};
 ghost use Rattle.gob_types.specs.Defined.{types};
 ghost use Rattle.gob_go.specs.Machine.HasRead.{no_end};
 ghost use Rattle.gob_go.specs.Machine.Parts.{ConcreteType, HeldBehind, used_of_described, end_around};
-ghost use Rattle.gob_go.specs.declared.part.Part.TheVariants as part;
+ghost use Rattle.gob_go.specs.declared.part.PutPart.TheVariants as part;
 
 use crate::around::Around;
 use crate::description::{Described, DescriptionStage};
@@ -16,7 +16,7 @@ use crate::inner_count::InnerCount;
 use crate::levels::Levels;
 use crate::next_count::NextCount;
 use crate::number::{NumberStage, NumberTaken};
-use crate::part::{Part, PartTaken};
+use crate::part::{PartTaken, PutPart};
 use gob_num::to_signed;
 use gob_stream::{Extent, Fault, judge_type};
 use gob_types::{Table, TypeId};
@@ -65,7 +65,7 @@ impl HeldTypeNumber {
         match number.take(around, piece)? {
             NumberTaken::More => Ok(PartTaken::more(
                 piece.len(),
-                Part::TypeNumber(HeldTypeNumber { number }),
+                PutPart::TypeNumber(HeldTypeNumber { number }),
             )),
             NumberTaken::Whole {
                 number: whole,
@@ -99,7 +99,7 @@ fn begin_held(
         return begin_definition(levels, around, table, rest, id, piece);
     }
     let count = concrete_type(around, table, rest.begin, rest.end, id)?;
-    Ok(PartTaken::more(0, Part::InnerCount(count)))
+    Ok(PartTaken::more(0, PutPart::InnerCount(count)))
 }
 
 // Takes the first bytes of the description of the type, whose number begins the extent.
@@ -179,7 +179,7 @@ fn behind_held(
     match described {
         Described::More(description) => Ok(PartTaken::more(
             piece.len(),
-            Part::Description(HeldDescription { description }),
+            PutPart::Description(HeldDescription { description }),
         )),
         Described::Whole { definition, used } => {
             let definitions = &mut levels.innermost.held.definitions;
@@ -187,7 +187,7 @@ fn behind_held(
                 return Err(Fault::Memory);
             }
             let count = NextCount::new(&around.behind(used), levels)?;
-            Ok(PartTaken::more(used, Part::NextCount(count)))
+            Ok(PartTaken::more(used, PutPart::NextCount(count)))
         }
     }
 }

@@ -2,13 +2,13 @@
 
 ghost use Rattle.gob_stream.specs.Bounds.{within_trees};
 ghost use Rattle.gob_go.specs.Machine.Stages.{IsInPut, PartAnswers};
-ghost use Rattle.gob_go.specs.declared.part.Part.TheVariants as part;
+ghost use Rattle.gob_go.specs.declared.part.PutPart.TheVariants as part;
 
 use crate::around::Around;
 use crate::levels::Levels;
 use crate::next_count::within;
 use crate::number::{NumberStage, NumberTaken};
-use crate::part::{Part, PartTaken};
+use crate::part::{PartTaken, PutPart};
 use gob_stream::Fault;
 use gob_types::{Table, TypeId};
 
@@ -41,7 +41,7 @@ impl InnerCount {
         match number.take(around, piece)? {
             NumberTaken::More => Ok(PartTaken::more(
                 piece.len(),
-                Part::InnerCount(InnerCount { id, number }),
+                PutPart::InnerCount(InnerCount { id, number }),
             )),
             NumberTaken::Whole {
                 number: count,

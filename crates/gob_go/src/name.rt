@@ -4,14 +4,14 @@ ghost use Rattle.std.specs.Prelude.{◌≡◌, []};
 ghost use Rattle.gob_stream.specs.Bounds.{within_trees};
 ghost use Rattle.gob_go.specs.Machine.Stages.{IsInPut, PartAnswers, IsInPutOfSome};
 ghost use Rattle.gob_types.specs.Defined.{Defined};
-ghost use Rattle.gob_go.specs.declared.part.Part.TheVariants as part;
+ghost use Rattle.gob_go.specs.declared.part.PutPart.TheVariants as part;
 
 use crate::around::Around;
 use crate::held::HeldTypeNumber;
 use crate::level::Held;
 use crate::levels::Levels;
 use crate::number::{NumberStage, NumberTaken};
-use crate::part::{Part, PartTaken};
+use crate::part::{PartTaken, PutPart};
 use gob_stream::Fault;
 use gob_types::Table;
 
@@ -59,7 +59,7 @@ impl NameLength {
         match number.take(around, piece)? {
             NumberTaken::More => Ok(PartTaken::more(
                 piece.len(),
-                Part::NameLength(NameLength { number }),
+                PutPart::NameLength(NameLength { number }),
             )),
             NumberTaken::Whole { number: 0, used } => {
                 let goes = levels.fill(&around.behind(used), table)?;
@@ -68,7 +68,7 @@ impl NameLength {
             NumberTaken::Whole { number: left, used } => {
                 around.behind(used).goes_on(levels.innermost.end)?;
                 levels.innermost.held = Held::new(around.alloc);
-                Ok(PartTaken::more(used, Part::Name(Name { left })))
+                Ok(PartTaken::more(used, PutPart::Name(Name { left })))
             }
         }
     }
@@ -99,9 +99,9 @@ impl Name {
         behind.goes_on(level.end)?;
         let left = self.left - used as u64;
         if left > 0 {
-            return Ok(PartTaken::more(used, Part::Name(Name { left })));
+            return Ok(PartTaken::more(used, PutPart::Name(Name { left })));
         }
         let number = HeldTypeNumber::new(&behind, level.end);
-        Ok(PartTaken::more(used, Part::TypeNumber(number)))
+        Ok(PartTaken::more(used, PutPart::TypeNumber(number)))
     }
 }

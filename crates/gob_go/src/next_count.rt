@@ -5,13 +5,13 @@ ghost use Rattle.gob_stream.specs.Bounds.{within_trees};
 ghost use Rattle.gob_go.specs.Machine.Stages.{IsInPut, IsInPutOfSome, PartAnswers};
 ghost use Rattle.gob_types.specs.Defined.{Defined};
 ghost use Rattle.gob_go.specs.Machine.Parts.{LiesWithin, ItemHasRoom, BeginsSegment, CountBegins, end_around};
-ghost use Rattle.gob_go.specs.declared.part.Part.TheVariants as part;
+ghost use Rattle.gob_go.specs.declared.part.PutPart.TheVariants as part;
 
 use crate::around::Around;
 use crate::held::HeldTypeNumber;
 use crate::levels::Levels;
 use crate::number::{NumberStage, NumberTaken};
-use crate::part::{Part, PartTaken};
+use crate::part::{PartTaken, PutPart};
 use gob_stream::{Fault, refusal};
 use gob_types::Reason;
 
@@ -54,7 +54,7 @@ impl NextCount {
         match number.take(around, piece)? {
             NumberTaken::More => Ok(PartTaken::more(
                 piece.len(),
-                Part::NextCount(NextCount { number }),
+                PutPart::NextCount(NextCount { number }),
             )),
             NumberTaken::Whole {
                 number: count,
@@ -65,7 +65,7 @@ impl NextCount {
                 let end = levels.innermost.end;
                 behind.goes_on(end)?;
                 let number = HeldTypeNumber::new(&behind, end);
-                Ok(PartTaken::more(used, Part::TypeNumber(number)))
+                Ok(PartTaken::more(used, PutPart::TypeNumber(number)))
             }
         }
     }

@@ -16,7 +16,7 @@ use gob_types::Table;
 
 /// What comes next in the innermost value.
 #[derive(Drop)]
-pub(crate) enum Part {
+pub(crate) enum PutPart {
     /// More of its skeleton.
     Value,
     /// The number of an interface: nil, or the length of a name.
@@ -39,12 +39,12 @@ pub(crate) struct PartTaken {
     /// How many bytes of the piece were taken.
     pub(crate) used: usize,
     /// What comes next. None where the item is whole.
-    pub(crate) next: Option<Part>,
+    pub(crate) next: Option<PutPart>,
 }
 
 impl PartTaken {
     /// So many bytes were taken, and this comes next.
-    pub(crate) fn more(used: usize, part: Part) -> PartTaken
+    pub(crate) fn more(used: usize, part: PutPart) -> PartTaken
         ensures { result ≡ record { used = used; next = Some part } }
     {
         PartTaken {
@@ -58,7 +58,7 @@ impl PartTaken {
         ensures { result ≡ record { used = used; next = behind_value goes } }
     {
         match goes {
-            Goes::On => PartTaken::more(used, Part::Value),
+            Goes::On => PartTaken::more(used, PutPart::Value),
             Goes::ToEnd => PartTaken { used, next: None },
         }
     }
@@ -76,7 +76,7 @@ impl PartTaken {
     }
 }
 
-impl Part {
+impl PutPart {
     /// Takes bytes of what comes next from the front of the piece, one at least where it has any.
     pub(crate) fn take(
         self,
@@ -91,13 +91,13 @@ impl Part {
             self piece.now result }
     {
         match self {
-            Part::Value => levels.take_value(around, table, piece),
-            Part::NameLength(length) => length.take(levels, around, table, piece),
-            Part::Name(name) => name.take(levels, around, piece),
-            Part::TypeNumber(number) => number.take(levels, around, table, piece),
-            Part::Description(description) => description.take(levels, around, table, piece),
-            Part::NextCount(count) => count.take(levels, around, piece),
-            Part::InnerCount(count) => count.take(levels, around, table, piece),
+            PutPart::Value => levels.take_value(around, table, piece),
+            PutPart::NameLength(length) => length.take(levels, around, table, piece),
+            PutPart::Name(name) => name.take(levels, around, piece),
+            PutPart::TypeNumber(number) => number.take(levels, around, table, piece),
+            PutPart::Description(description) => description.take(levels, around, table, piece),
+            PutPart::NextCount(count) => count.take(levels, around, piece),
+            PutPart::InnerCount(count) => count.take(levels, around, table, piece),
         }
     }
 }

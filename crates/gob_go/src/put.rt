@@ -8,7 +8,7 @@ ghost use Rattle.gob_go.specs.declared.stage.Stage.TheVariants as stage;
 use crate::around::Around;
 use crate::item::GoItem;
 use crate::levels::Levels;
-use crate::part::{Part, PartTaken};
+use crate::part::{PartTaken, PutPart};
 use crate::stage::{Stage, Stepped};
 use gob_stream::Fault;
 use gob_types::Table;
@@ -19,7 +19,7 @@ pub(crate) struct PutStage {
     /// The values that are open.
     pub(crate) levels: Levels,
     /// What comes next in the innermost one.
-    pub(crate) part: Part,
+    pub(crate) part: PutPart,
 }
 
 impl PutStage {

@@ -7,7 +7,7 @@ use crate::around::Around;
 use crate::level::Came;
 use crate::levels::Levels;
 use crate::name::NameLength;
-use crate::part::{Part, PartTaken};
+use crate::part::{PartTaken, PutPart};
 use gob_stream::Fault;
 use gob_types::Table;
 
@@ -26,7 +26,7 @@ impl Levels {
         // its contract says that no stream is so long that the sum wraps
         let _most = around.limits.stream();
         match self.innermost.take(around, table, piece)? {
-            Came::ToEnd => Ok(PartTaken::more(piece.len(), Part::Value)),
+            Came::ToEnd => Ok(PartTaken::more(piece.len(), PutPart::Value)),
             Came::ToNil { used } => {
                 let behind = around.behind(used);
                 let length = NameLength::new(&behind, self);

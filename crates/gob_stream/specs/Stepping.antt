@@ -33,7 +33,7 @@ pub record Stepping (X Item Told : Type 0) : Type 1 where
   pub means : Table → Item → Told → Type 0
   -- an item of the format, as one of the grammar
   pub told : StreamItem → Told
-  -- these are the types where the bytes lead behind the items, as far as the grammar says more of them than `behind`
+  -- these are the types to which the bytes lead behind the items, up to a fault
   pub leads : Bounds → List ℕ → List Told → Table → Type 0
 
 -- the items of what a step gave

@@ -12,7 +12,7 @@ const ERROR: &str = "error: ";
 
 const BLANK: &str = "\n\n";
 
-/// The first paragraph of what clap shows of a fault, which names the word and says what is wrong with it.
+/// The first paragraph of what clap shows of a fault, which names the word and says what is wrong with it, on one line.
 pub(crate) fn shown_line<D: Display>(alloc: Global, shown: &D) -> Result<String, AllocError>
     ensures { IfOk result (λ line. IsUnobeyed (string_bytes line)) }
 {
@@ -23,7 +23,14 @@ pub(crate) fn shown_line<D: Display>(alloc: Global, shown: &D) -> Result<String,
         Some((paragraph, _)) => paragraph,
         None => text.trim_end(),
     };
-    escaped(alloc, paragraph)
+    let mut line = String::new(alloc);
+    for part in paragraph.lines() {
+        if !line.is_empty() {
+            line.push(' ')?;
+        }
+        line.push_str(part.trim())?;
+    }
+    escaped(alloc, line.as_str())
 }
 
 /// Says in clap's words that the number of this option isn't one from `least` to `most`.

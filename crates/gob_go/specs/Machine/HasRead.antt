@@ -25,8 +25,8 @@ use Rattle.gob_go.specs.Machine.SessionState.{SessionState}
 use Rattle.gob_go.specs.declared.description.DescriptionStage.{DescriptionStage}
 use Rattle.gob_go.specs.declared.levels.Levels.{Levels}
 use Rattle.gob_go.specs.declared.number.NumberStage.{NumberStage}
-use Rattle.gob_go.specs.declared.part.Part.{Part}
-use Rattle.gob_go.specs.declared.part.Part.TheVariants as part
+use Rattle.gob_go.specs.declared.part.PutPart.{PutPart}
+use Rattle.gob_go.specs.declared.part.PutPart.TheVariants as part
 use Rattle.gob_go.specs.declared.stage.Stage.{Stage}
 use Rattle.gob_go.specs.declared.stage.Stage.TheVariants as stage
 
@@ -72,7 +72,7 @@ end_around (around ∷ levels) = around.end
 
 -- the reader has come so far in the value of an item that begins at the offset, where the types were those of T and are
 -- those of U
-pub data PartHasRead (L : Bounds) (T : Table) (offset : ℕ) (U : Table) (levels : Levels) : Part → List ℕ
+pub data PartHasRead (L : Bounds) (T : Table) (offset : ℕ) (U : Table) (levels : Levels) : PutPart → List ℕ
     → Type 0 where
   -- within the skeleton of the innermost value
   in_skeleton : {z : List ℕ} {lv : Level} {around : List Level} {left : ℕ} {o : Open} {os : List Open} (c : List ℕ)
@@ -149,7 +149,7 @@ pub data StageHasRead (L : Bounds) (T : Table) (offset : ℕ) (U : Table) : Stag
   in_definition : {m : ℕ} {c : List ℕ} {body : Extent} {description : DescriptionStage} (a y : List ℕ) → U ≡ T
       → IsCount L offset m c body → DescriptionIs L U description body.begin body.end a y
       → StageHasRead L T offset U (stage.Definition (record { description = description })) (c ++ (a ++ y))
-  in_put : {levels : Levels} {part : Part} {z : List ℕ} → PartHasRead L T offset U levels part z
+  in_put : {levels : Levels} {part : PutPart} {z : List ℕ} → PartHasRead L T offset U levels part z
       → StageHasRead L T offset U (stage.Put (record { levels = levels; part = part })) z
 
 -- the reader has given the items, and taken these bytes

@@ -55,7 +55,7 @@ use Rattle.gob_go.specs.declared.next_count.NextCount.{NextCount}
 use Rattle.gob_go.specs.declared.number.NumberStage.{NumberStage}
 use Rattle.gob_go.specs.declared.number.NumberTaken.{NumberTaken}
 use Rattle.gob_go.specs.declared.number.NumberTaken.TheVariants as taken
-use Rattle.gob_go.specs.declared.part.Part.TheVariants as part
+use Rattle.gob_go.specs.declared.part.PutPart.TheVariants as part
 use Rattle.gob_go.specs.declared.part.PartTaken.{PartTaken}
 
 -- ---- a number

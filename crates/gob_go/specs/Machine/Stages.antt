@@ -34,8 +34,8 @@ use Rattle.gob_go.specs.declared.level.Level as program
 use Rattle.gob_go.specs.declared.levels.Levels.{Levels}
 use Rattle.gob_go.specs.declared.levels.Goes.{Goes}
 use Rattle.gob_go.specs.declared.levels.Goes.TheVariants as goes
-use Rattle.gob_go.specs.declared.part.Part.{Part}
-use Rattle.gob_go.specs.declared.part.Part.TheVariants as part
+use Rattle.gob_go.specs.declared.part.PutPart.{PutPart}
+use Rattle.gob_go.specs.declared.part.PutPart.TheVariants as part
 use Rattle.gob_go.specs.declared.part.PartTaken.{PartTaken}
 use Rattle.gob_stream.specs.declared.session.Step.{Step}
 use Rattle.gob_go.specs.declared.stage.Stage.{Stage}
@@ -45,7 +45,7 @@ use Rattle.gob_go.specs.declared.stage.Stepped.{Stepped}
 -- ---- the item of a value
 
 -- the reader has come somewhere in the value of an item, with which so many bytes of the stream were taken
-pub record IsInPut (L : Bounds) (d : Defined) (taken : ℕ) (levels : Levels) (next : Part) : Type 0 where
+pub record IsInPut (L : Bounds) (d : Defined) (taken : ℕ) (levels : Levels) (next : PutPart) : Type 0 where
   pub table : Table
   pub offset : ℕ
   pub bytes : List ℕ
@@ -59,7 +59,7 @@ pub record IsInPut (L : Bounds) (d : Defined) (taken : ℕ) (levels : Levels) (n
 -- d is the table at hand; the second table is the one behind it
 pub data PartSteps (L : Bounds) (T : Table) (offset : ℕ) (d : Defined) (z piece : List ℕ) (levels' : Levels)
     : Defined → Result PartTaken Fault → Type 0 where
-  part_goes_on : {next : Part} {d' : Defined} {used : ℕ} → d'.most ≡ d.most → used ≤ length piece
+  part_goes_on : {next : PutPart} {d' : Defined} {used : ℕ} → d'.most ≡ d.most → used ≤ length piece
       → PartHasRead L T offset (types d') levels' next (z ++ take used piece)
       → PartSteps L T offset d z piece levels' d' (Ok (record { used = used; next = Some next }))
   item_ends : {d' : Defined} {used : ℕ} → d'.most ≡ d.most → used ≤ length piece
@@ -71,13 +71,13 @@ pub data PartSteps (L : Bounds) (T : Table) (offset : ℕ) (d : Defined) (z piec
       → PartSteps L T offset d z piece levels' d' (Err fault.Memory)
 
 -- what a step over a piece answers; one byte at least is taken of a piece that has any
-pub record PartAnswers (L : Bounds) (d d' : Defined) (old new : Levels) (next : Part) (piece : List ℕ)
+pub record PartAnswers (L : Bounds) (d d' : Defined) (old new : Levels) (next : PutPart) (piece : List ℕ)
     (result : Result PartTaken Fault) : Type 0 where
   pub each : (T : Table) (offset : ℕ) (z : List ℕ) → PartHasRead L T offset (types d) old next z
       → AreBytes (z ++ piece) → PartSteps L T offset d z piece new d' result
   pub some : 0 < length piece → IfOk result (λ taken. 0 < taken.used)
 
-pub record IsInPutOfSome (L : Bounds) (taken : ℕ) (levels : Levels) (next : Part) : Type 0 where
+pub record IsInPutOfSome (L : Bounds) (taken : ℕ) (levels : Levels) (next : PutPart) : Type 0 where
   pub types : Defined
   pub is : IsInPut L types taken levels next
 
@@ -142,7 +142,7 @@ pub record IsBehindValue (L : Bounds) (d : Defined) (taken : ℕ) (levels : Leve
   pub known : AreTypes L d
 
 -- what comes next behind a value
-abbrev pub behind_value : Goes → Option Part
+abbrev pub behind_value : Goes → Option PutPart
 behind_value goes.On = Some part.Value
 behind_value goes.ToEnd = None
 
@@ -239,7 +239,7 @@ pub record IsWithinItemOfSome (L : Bounds) (taken : ℕ) (expects : Stage) : Typ
   pub is : IsWithinItem L types taken expects
 
 -- what follows behind what was taken of the item of a value, of which this comes next
-abbrev pub StageBehind : Levels → (taken used : ℕ) → Option Part → Stepped → Type 0
+abbrev pub StageBehind : Levels → (taken used : ℕ) → Option PutPart → Stepped → Type 0
 StageBehind levels taken used (Some next) stepped =
     stepped ≡ record { used = used; stage = stage.Put (record { levels = levels; part = next }); item = None }
 StageBehind levels taken used None stepped = (kept : Filled)

@@ -1,6 +1,7 @@
 -- What the session of the format answers, in the words of any session.
 use Rattle.std.proofs.Common.{◌≡◌, ◌<◌, ℕ, List, [], ◌∷◌, ◌++◌, length, Option, Ok, Err, Result, ◌∙◌, ap, sym}
-use Rattle.std.proofs.Common.{subst, refl, append-nil, append_assoc, arith, take, length-append, None, Some, IfOk, IfSome}
+use Rattle.std.proofs.Common.{subst, refl, append-nil, append_assoc, arith, take, length-append, None, Some, IfOk}
+use Rattle.std.proofs.Common.{IfSome}
 use Rattle.std.proofs.Common.{Bool, true, false, IsTrue, MatchBool, OnErr}
 use Rattle.std.proofs.lemmas.List.{take-append-le, length-take-le}
 use Rattle.gob_types.specs.Base.{base_table}

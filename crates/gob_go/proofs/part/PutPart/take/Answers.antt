@@ -1,5 +1,5 @@
 use Rattle.gob_go.proofs.PartNames.{part_there, part_of_some, part_answers, each_answers, in_value_there, value_answers}
-use Rattle.gob_go.proofs.part.Part.take.Goals as goal
+use Rattle.gob_go.proofs.part.PutPart.take.Goals as goal
 
 pub take_value-requires : goal.take_value-requires
 take_value-requires c = in_value_there c.in-Value.is c.requires.has_read
