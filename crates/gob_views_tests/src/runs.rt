@@ -95,7 +95,7 @@ fn shown(alloc: Global, view: &View<'_>, stream: &str) -> Result<Vec<u8>, AllocE
 }
 
 // A view without options.
-fn usual(command: ViewCommand) -> View<'static> {
+fn usual(alloc: Global, command: ViewCommand) -> View<'static> {
     View {
         command,
         input: None,
@@ -106,6 +106,10 @@ fn usual(command: ViewCommand) -> View<'static> {
         tagged: false,
         typed: false,
         only: None,
+        each: false,
+        kinds: Vec::new(alloc),
+        main: false,
+        progress: false,
         hoist: false,
         fault: false,
         at: None,
@@ -134,38 +138,38 @@ const TIME: &str = "TIME 13 ff 82 00 0f 01 00 00 00 0e c2 8b e7 70 00 00 00 00 f
 #[test]
 fn views_are_run(rt: HostRuntime) -> Result<(), Fail> {
     let alloc = rt.alloc();
-    let values = shown(alloc, &usual(ViewCommand::Values), POINT)?;
+    let values = shown(alloc, &usual(alloc, ViewCommand::Values), POINT)?;
     assert!(rt;
         values.as_slice() == b"{\"X\":22,\"Y\":33}\n".as_slice(),
         "values"
     );
-    let types = shown(alloc, &usual(ViewCommand::Types), POINT)?;
+    let types = shown(alloc, &usual(alloc, ViewCommand::Types), POINT)?;
     assert!(rt;
         types
             .as_slice()
             .starts_with(b"package types\n\n// type 65\n"),
         "types"
     );
-    let why = shown(alloc, &usual(ViewCommand::Why), POINT)?;
+    let why = shown(alloc, &usual(alloc, ViewCommand::Why), POINT)?;
     assert!(rt;
         why.as_slice() == b"ok: 2 items, 1 types, 40 bytes\n1 value of type 65, Point\n".as_slice(),
         "why"
     );
-    let explain = shown(alloc, &usual(ViewCommand::Explain), POINT)?;
+    let explain = shown(alloc, &usual(alloc, ViewCommand::Explain), POINT)?;
     assert!(rt;
         explain
             .as_slice()
             .starts_with(b"     0  1f                       an item of 31 bytes\n"),
         "explain"
     );
-    let version = shown(alloc, &usual(ViewCommand::Version), POINT)?;
+    let version = shown(alloc, &usual(alloc, ViewCommand::Version), POINT)?;
     assert!(rt; version.as_slice() == b"gob 0.1.0\n".as_slice(), "version");
     Ok(())
 }
 
 // Whether the value of the stream is printed so, with the names of held types or without.
 fn prints(alloc: Global, tagged: bool, stream: &str, due: &[u8]) -> Result<bool, AllocError> {
-    let mut view = usual(ViewCommand::Values);
+    let mut view = usual(alloc, ViewCommand::Values);
     view.tagged = tagged;
     let printed = shown(alloc, &view, stream)?;
     Ok(printed.as_slice() == due)
@@ -182,7 +186,7 @@ const TYPED: [(Option<&str>, &str); 5] = [
 
 // Whether the values are printed so, each under the name of its type.
 fn prints_typed(alloc: Global, only: Option<&'static str>, due: &str) -> Result<bool, AllocError> {
-    let mut view = usual(ViewCommand::Values);
+    let mut view = usual(alloc, ViewCommand::Values);
     view.typed = true;
     view.only = only;
     let printed = shown(alloc, &view, POINT_AND_INT)?;
@@ -221,7 +225,7 @@ fn files_are_told(rt: HostRuntime) {
 
 // Whether the stream is rewritten as the other one, with its definitions hoisted or not.
 fn rewrites(alloc: Global, hoist: bool, stream: &str, due: &str) -> Result<bool, AllocError> {
-    let mut view = usual(ViewCommand::RewriteGo);
+    let mut view = usual(alloc, ViewCommand::RewriteGo);
     view.hoist = hoist;
     let due = bytes_of(alloc, due)?;
     let rewritten = shown(alloc, &view, stream)?;
@@ -250,21 +254,21 @@ fn what_interfaces_hold_is_viewed(rt: HostRuntime) {
 #[test]
 fn values_are_shown_in_a_style(rt: HostRuntime) -> Result<(), Fail> {
     let alloc = rt.alloc();
-    let mut zeros = usual(ViewCommand::Values);
+    let mut zeros = usual(alloc, ViewCommand::Values);
     zeros.zeros = true;
     let second = shown(alloc, &zeros, "POINT 05 ff 82 02 42 00")?;
     assert!(rt;
         second.as_slice() == b"{\"X\":0,\"Y\":33}\n".as_slice(),
         "zeros"
     );
-    let mut raw = usual(ViewCommand::Values);
+    let mut raw = usual(alloc, ViewCommand::Values);
     raw.raw = true;
     let bytes = shown(alloc, &raw, TIME)?;
     assert!(rt;
         bytes.as_slice() == b"\"AQAAAA7Ci+dwAAAAAP//\"\n".as_slice(),
         "raw"
     );
-    let time = shown(alloc, &usual(ViewCommand::Values), TIME)?;
+    let time = shown(alloc, &usual(alloc, ViewCommand::Values), TIME)?;
     assert!(rt;
         time.as_slice() == b"\"2009-11-10T23:00:00Z\"\n".as_slice(),
         "a time"

@@ -1,4 +1,5 @@
 pub mod WordLaws
+pub mod KindLaws
 pub mod ViewLaws
 pub mod EscapedLaws
 pub mod ShellLaws

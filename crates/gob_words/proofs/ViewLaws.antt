@@ -1,7 +1,7 @@
 -- What is read of clap's matches where something is to be shown.
 use Rattle.std.proofs.Common.{rules, ◌≡◌, ◌≢◌, ◌∙◌, [], ◌≤◌, ap, sym, refl, codes, ℕ, List, Option, Some}
 use Rattle.std.proofs.Common.{None, Result, Ok, Err, option_map, slice_index, subst, ◌==◌, if◌then◌else◌, MatchResult}
-use Rattle.std.proofs.Common.{IsErrAnd, true, inl, inr, unwrap_or}
+use Rattle.std.proofs.Common.{IsErrAnd, IfOk, MatchBool, Bool, true, false, inl, inr, unwrap_or, ◌⊎◌}
 use Rattle.clap.specs.Words.{Row, Text, all_of, first_of, subcommand_of, takes, fault_of, kind_of, HasKind, IsAmong}
 use Rattle.clap.specs.declared.error.Error.{Error}
 use Rattle.clap.specs.declared.error.kind.ErrorKind.{ErrorKind}
@@ -14,10 +14,10 @@ use Rattle.gob_words.specs.declared.view.ViewCommand.TheVariants.{Values, Types,
 use Rattle.gob_words.specs.declared.view.ViewCommand.TheVariants.{ShowGo, CheckGo, RewriteGo}
 use Rattle.gob_words.specs.declared.view.ViewFault.{ViewFault}
 use Rattle.gob_words.specs.declared.view.ViewFault.TheVariants as view_fault
-use Rattle.gob_words.specs.Words.{HasNoFault, IsNumber, IsFaultOf, program}
+use Rattle.gob_words.specs.Words.{HasNoFault, IsNumber, IsFaultOf, IsSet, program}
 use Rattle.gob_words.specs.Views.{AsksToView, IsAskedFor, IsPlaceOf, IsViewFaultOf, IsViewOf, IsWordAtFault}
-use Rattle.gob_words.specs.Views.{AsksForNothing, RefusesToView, files_in}
-use Rattle.gob_words.specs.Views.{IsVersionView, view_name}
+use Rattle.gob_words.specs.Views.{AsksForNothing, IsGiven, IsNoView, RefusesToView, SaysNoKinds, kind_words_in}
+use Rattle.gob_words.specs.Views.{IsVersionView, view_name, words_in}
 use Rattle.gob_words.specs.ViewDepths.{greatest_view_depth}
 use Rattle.gob_words.proofs.WordLaws.{name_met, rows_met, some_fault, the_one, together}
 
@@ -91,14 +91,26 @@ pub asked_alike : (command : ViewCommand) (go other hoist another : Option Text)
 asked_alike command go other hoist another e f h = subst (λ w. IsAskedFor command other w) f
     (subst (λ w. IsAskedFor command w hoist) e h)
 
--- the files that what was met names are those of its rows
-pub files_met : (met : Option (Text × List Row)) (rows : List Row) (files : Option (List Text))
-    → Some rows ≡ option_map (λ (p : Text × List Row). p.1) met → files ≡ all_of (codes "FILE") rows
-    → unwrap_or files [] ≡ files_in met
-files_met None rows files p q = search rules
-files_met (Some met) rows files p q =
+-- the words that what was met gives for this are those of its rows
+pub words_met : (name : Text) (met : Option (Text × List Row)) (rows : List Row) (words : Option (List Text))
+    → Some rows ≡ option_map (λ (p : Text × List Row). p.1) met → words ≡ all_of name rows
+    → unwrap_or words [] ≡ words_in name met
+words_met name None rows words p q = search rules
+words_met name (Some met) rows words p q =
     let same : rows ≡ met.1 = cc in
-    ap (λ (o : Option (List Text)). unwrap_or o []) (q ∙ ap (λ (r : List Row). all_of (codes "FILE") r) same)
+    ap (λ (o : Option (List Text)). unwrap_or o []) (q ∙ ap (λ (r : List Row). all_of name r) same)
+
+-- nothing was met, so no word was
+pub no_words_met : (name : Text) (met : Option (Text × List Row))
+    → None ≡ option_map (λ (p : Text × List Row). p.1) met → words_in name met ≡ []
+no_words_met name None e = refl
+no_words_met name (Some met) e = search rules
+
+-- a flag is given where its word is set
+pub given_as_set : (value word : Option Text) (flag : Bool) → value ≡ word
+    → MatchBool flag (IsSet value) (¬ IsSet value) → IsGiven word flag
+given_as_set value word true e h = record { given = λ _. refl; absent = λ other. absurd (other (sym e ∙ h)) }
+given_as_set value word false e h = record { given = λ is. absurd (h (e ∙ is)); absent = λ _. refl }
 
 -- where clap finds no fault it gives no error, but for want of memory
 pub no_kind : (words : List Text) (error : Error) → HasNoFault words → kind_of error ≢ OutOfMemory
@@ -109,7 +121,7 @@ no_kind words error none other (inr among) = subst (λ kinds. IsAmong (kind_of e
 
 -- ---- the ends
 
-pub asks_as_met : (words : List Text) (met : Option (Text × List Row)) (view : View)
+asks_as_met : (words : List Text) (met : Option (Text × List Row)) (view : View)
     → met ≡ subcommand_of program words → IsViewOf met view → AsksToView words view
 unfolding AsksToView
 asks_as_met words met view e h = inl (subst (λ m. IsViewOf m view) e h)
@@ -124,14 +136,41 @@ asks_as_unmet words met e none h = (
 )
 
 -- nothing is asked for, so a word is wrong
-pub refuses_as_met : (words : List Text) (met : Option (Text × List Row)) (fault : ViewFault)
-    → met ≡ subcommand_of program words → fault_of program words ≡ [] → ((view : View) → ¬ IsViewOf met view)
-    → IsWordAtFault fault → RefusesToView words fault
+pub no_view : (met : Option (Text × List Row)) (fault : ViewFault) → ((view : View) → ¬ IsViewOf met view)
+    → IsWordAtFault fault → IsNoView met fault
+no_view met (view_fault.Word line) none is = (none, is)
+no_view met (view_fault.Order (fault.Help text)) none is = absurd is
+no_view met (view_fault.Order fault.Words) none is = (none, is)
+no_view met (view_fault.Order fault.Memory) none is = tt
+
+-- nor where a word says nothing of a type
+pub no_view_without_kinds : (met : Option (Text × List Row)) (fault : ViewFault)
+    → SaysNoKinds (kind_words_in met) fault → IsNoView met fault
+no_view_without_kinds met (view_fault.Word line) h = (λ view is. h.0 view.kinds.items is.kinds, h.1)
+no_view_without_kinds met (view_fault.Order (fault.Help text)) h = absurd h.1
+no_view_without_kinds met (view_fault.Order fault.Words) h = (λ view is. h.0 view.kinds.items is.kinds, h.1)
+no_view_without_kinds met (view_fault.Order fault.Memory) h = tt
+
+refuses_as_met : (words : List Text) (met : Option (Text × List Row)) (fault : ViewFault)
+    → met ≡ subcommand_of program words → fault_of program words ≡ [] → IsNoView met fault → RefusesToView words fault
 unfolding RefusesToView
-refuses_as_met words met (view_fault.Word line) e none h is = (asks_as_unmet words met e none h, is)
-refuses_as_met words met (view_fault.Order (fault.Help text)) e none h is = absurd is
-refuses_as_met words met (view_fault.Order fault.Words) e none h is = asks_as_unmet words met e none h
-refuses_as_met words met (view_fault.Order fault.Memory) e none h is = tt
+refuses_as_met words met (view_fault.Word line) e none h = (asks_as_unmet words met e none h.0, h.1)
+refuses_as_met words met (view_fault.Order (fault.Help text)) e none h = absurd h.1
+refuses_as_met words met (view_fault.Order fault.Words) e none h = asks_as_unmet words met e none h.0
+refuses_as_met words met (view_fault.Order fault.Memory) e none h = tt
+
+-- what was met of words in which clap finds no fault is what they ask for
+pub answers_as_met : (words : List Text) (met : Option (Text × List Row)) (r : Result View ViewFault)
+    → met ≡ subcommand_of program words → fault_of program words ≡ [] → MatchResult r (IsViewOf met) (IsNoView met)
+    → MatchResult r (AsksToView words) (RefusesToView words)
+answers_as_met words met (Ok view) e none h = asks_as_met words met view e h
+answers_as_met words met (Err fault) e none h = refuses_as_met words met fault e none h
+
+pub accepted_as_met : (words : List Text) (r : Result View ViewFault) → fault_of program words ≡ []
+    → IfOk r (λ view. HasNoFault words ⊎ IsVersionView view)
+unfolding HasNoFault
+accepted_as_met words (Ok view) none = inl none
+accepted_as_met words (Err fault) none = tt
 
 -- words that clap refuses by such an error ask for nothing
 asks_as_refused : (words : List Text) (error : Error) → (kind_of error ≢ OutOfMemory) × (kind_of error ≢ DisplayHelp)

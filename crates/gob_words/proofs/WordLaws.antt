@@ -114,6 +114,7 @@ pub record Meets (command : Chosen) (rows : List Row) (order : Order) : Type 0 w
   pub most : order.depth ≤ most_depth command
   pub plain : ¬ IsSet (first_of (codes "go") rows)
   pub in_place : ¬ IsSet (first_of (codes "hoist") rows)
+  pub quiet : ¬ IsSet (first_of (codes "progress") rows)
 
 pub meets : (met : Option (Text × List Row)) (command : Chosen) (rows : List Row) (order : Order)
     → met ≡ Some (name_of command, rows) → IsOrderOf met order → Meets command rows order
@@ -128,6 +129,7 @@ meets met command rows order e h =
       most = subst (λ c. order.depth ≤ most_depth c) same.0 h.most;
       plain = subst (λ r. ¬ IsSet (first_of (codes "go") r)) same.1 h.plain;
       in_place = subst (λ r. ¬ IsSet (first_of (codes "hoist") r)) same.1 h.in_place;
+      quiet = subst (λ r. ¬ IsSet (first_of (codes "progress") r)) same.1 h.quiet;
     }
 
 -- a name is there where its text is

@@ -1,5 +1,6 @@
 pub mod Depths
 pub mod Words
+pub mod Kinds
 pub mod Views
 pub mod ViewDepths
 pub mod Escaped

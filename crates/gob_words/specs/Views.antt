@@ -10,7 +10,9 @@ use Rattle.gob_words.specs.declared.view.ViewCommand.TheVariants as view
 use Rattle.gob_words.specs.declared.view.ViewFault.{ViewFault}
 use Rattle.gob_words.specs.declared.view.ViewFault.TheVariants as view_fault
 use Rattle.gob_words.specs.declared.words.OrderFault.TheVariants as fault
+use Rattle.gob_words.specs.declared.kinds.TypeKind.{TypeKind}
 use Rattle.gob_words.specs.Escaped.{IsUnobeyed}
+use Rattle.gob_words.specs.Kinds.{SayKinds}
 use Rattle.gob_words.specs.ViewDepths.{greatest_view_depth}
 use Rattle.gob_words.specs.Words.{AsksForHelp, IsNumber, IsSet, order_line, order_status, program, text_of}
 
@@ -73,6 +75,15 @@ abbrev pub IsPlaceOf : ViewCommand → Option Text → Option ℕ → Type 0
 IsPlaceOf view.Explain word at = IsPlaceIn word at
 IsPlaceOf _ word at = at ≡ None
 
+-- all words that a command's words give for this
+abbrev pub words_in : Text → Option (Text × List Row) → List Text
+words_in name None = []
+words_in name (Some met) = unwrap_or (all_of name met.1) []
+
+-- those that say of types what their bytes are
+abbrev pub kind_words_in : Option (Text × List Row) → List Text
+kind_words_in met = words_in (codes "as") met
+
 -- clap met a subcommand with these rows, and this is what they ask for
 pub record IsViewOf (met : Option (Text × List Row)) (view : View) : Type 0 where
   pub rows : List Row
@@ -86,6 +97,10 @@ pub record IsViewOf (met : Option (Text × List Row)) (view : View) : Type 0 whe
   pub tagged : IsFlagOf view.command (first_of (codes "tagged") rows) view.tagged
   pub typed : IsFlagOf view.command (first_of (codes "typed") rows) view.typed
   pub only : IsOnlyOf view.command (first_of (codes "only") rows) (text_of view.only)
+  pub each : IsGiven (first_of (codes "each") rows) view.each
+  pub kinds : SayKinds (kind_words_in met) view.kinds.items
+  pub main : IsGiven (first_of (codes "main") rows) view.main
+  pub progress : IsGiven (first_of (codes "progress") rows) view.progress
   pub hoist : IsHoistFlagOf view.command (first_of (codes "hoist") rows) view.hoist
   pub fault : IsFaultFlagOf view.command (first_of (codes "fault") rows) view.fault
   pub at : IsPlaceOf view.command (first_of (codes "at") rows) view.at
@@ -97,11 +112,11 @@ abbrev pub IsVersionView : View → Type 0
 IsVersionView given = (given.command ≡ view.Version) × (given.input ≡ None) × (given.depth ≡ 1000)
     × (given.item ≡ 67108864) × (given.zeros ≡ false) × (given.raw ≡ false) × (given.tagged ≡ false)
     × (given.typed ≡ false) × (given.only ≡ None) × (given.hoist ≡ false) × (given.fault ≡ false) × (given.at ≡ None)
+    × (given.each ≡ false) × (given.kinds.items ≡ []) × (given.main ≡ false) × (given.progress ≡ false)
 
 -- the files that a command's words name, in order, where it takes some
 abbrev pub files_in : Option (Text × List Row) → List Text
-files_in None = []
-files_in (Some met) = unwrap_or (all_of (codes "FILE") met.1) []
+files_in met = words_in (codes "FILE") met
 
 -- the words, the program's name first, ask for this: by its name, or for the version by an option
 unfoldable pub AsksToView : List Text → View → Type 0
@@ -138,6 +153,16 @@ abbrev pub IsWordAtFault : ViewFault → Type 0
 IsWordAtFault (view_fault.Word line) = IsUnobeyed (string_bytes line)
 IsWordAtFault (view_fault.Order (fault.Help text)) = ⊥
 IsWordAtFault _ = ⊤
+
+-- the words say no kinds of types, or no memory was had
+abbrev pub SaysNoKinds : List Text → ViewFault → Type 0
+SaysNoKinds words (view_fault.Order fault.Memory) = ⊤
+SaysNoKinds words fault = ((said : List TypeKind) → ¬ SayKinds words said) × IsWordAtFault fault
+
+-- what was met asks for nothing to be shown, or no memory was had
+abbrev pub IsNoView : Option (Text × List Row) → ViewFault → Type 0
+IsNoView met (view_fault.Order fault.Memory) = ⊤
+IsNoView met fault = ((view : View) → ¬ IsViewOf met view) × IsWordAtFault fault
 
 -- ---- what comes of them
 

@@ -34,6 +34,10 @@ with_options name =
 abbrev pub with_input : App → App
 with_input app = with_rule app (new_rule (codes "IN"))
 
+-- the flag for which it is told how far the reading is
+abbrev pub with_progress : App → App
+with_progress app = with_rule app (flag_rule (codes "progress"))
+
 -- a command on one stream
 abbrev pub one_stream : Text → App
 one_stream name = with_input (with_options name)
@@ -45,7 +49,7 @@ two_streams name =
 
 -- a command on one stream, with the flag that says that Go's encoder wrote it
 abbrev pub go_stream : Text → App
-go_stream name = with_input (with_rule (with_options name) (flag_rule (codes "go")))
+go_stream name = with_input (with_progress (with_rule (with_options name) (flag_rule (codes "go"))))
 
 -- the command that writes a stream anew, which has beside that flag the one for definitions in values
 abbrev pub with_go_flags : App → App
@@ -62,9 +66,21 @@ with_flags app = with_rule (with_rule (with_rule app (flag_rule (codes "zeros"))
 abbrev pub with_types : App → App
 with_types app = with_rule (with_rule app (flag_rule (codes "typed"))) (option_rule (codes "only"))
 
+-- what the bytes of types are, in a word of an option that may be given several times
+abbrev pub kinds_rule : Rule
+kinds_rule = record (option_rule (codes "as")) { action = Some Append }
+
+-- the flag for a line an element, the option for what bytes are, and the flag for progress
+abbrev pub with_elements : App → App
+with_elements app = with_progress (with_rule (with_rule app (flag_rule (codes "each"))) kinds_rule)
+
 -- the command that shows values
 abbrev pub values : App
-values = with_input (with_types (with_flags (with_options (codes "values"))))
+values = with_input (with_elements (with_types (with_flags (with_options (codes "values")))))
+
+-- the command that shows types, with the flag for a program
+abbrev pub types : App
+types = with_input (with_progress (with_rule (with_options (codes "types")) (flag_rule (codes "main"))))
 
 -- the flag and the option that say which part of a stream is shown
 abbrev pub with_parts : App → App
@@ -80,7 +96,7 @@ files_rule = record (new_rule (codes "FILE")) { required = true; action = Some A
 
 -- the command that reads some streams
 abbrev pub verify : App
-verify = with_rule (with_options (codes "verify")) files_rule
+verify = with_rule (with_progress (with_options (codes "verify"))) files_rule
 
 -- the commands for people
 abbrev pub people_program : App
@@ -88,7 +104,7 @@ people_program =
     let top = (new_app (codes "gob")).top in
     let bare : App = record { top = record top { has_version = true; subcommand_required = true }; subs = [] } in
     with_subcommand (with_subcommand (with_subcommand (with_subcommand (with_subcommand (with_subcommand bare
-    values.top) (one_stream (codes "types")).top) (one_stream (codes "why")).top) explain.top) verify.top)
+    values.top) types.top) (one_stream (codes "why")).top) explain.top) verify.top)
     (one_stream (codes "salvage")).top
 
 -- and those that write exactly what a stream has
@@ -128,13 +144,15 @@ text_of = option_map (λ word. word.now)
 abbrev pub IsSet : Option Text → Type 0
 IsSet value = value ≡ Some (codes "true")
 
--- clap met a subcommand with these rows, and this is the order that they make: with a flag for Go's encoder none
+-- clap met a subcommand with these rows, and this is the order that they make: none with a flag for Go's encoder, or
+-- with the one for progress
 pub record IsOrderOf (met : Option (Text × List Row)) (order : Order) : Type 0 where
   pub rows : List Row
   pub command : met ≡ Some (name_of order.command, rows)
   pub wanted : text_of order.wanted ≡ wanted_in order.command rows
   pub plain : ¬ IsSet (first_of (codes "go") rows)
   pub in_place : ¬ IsSet (first_of (codes "hoist") rows)
+  pub quiet : ¬ IsSet (first_of (codes "progress") rows)
   pub input : text_of order.input ≡ first_of (codes "IN") rows
   pub depth : IsNumber (first_of (codes "depth") rows) 1000 order.depth
   pub item : IsNumber (first_of (codes "item") rows) 67108864 order.item

@@ -5,7 +5,8 @@ ghost use Rattle.clap.specs.Words.{App, app_of, rule_of, with_subcommand};
 ghost use Rattle.clap.specs.declared.builder.Command.TheViews.{out-Command};
 ghost use Rattle.gob_words.specs.Words.{flag_rule, option_rule, with_flags, with_options, with_input, one_stream};
 ghost use Rattle.gob_words.specs.Words.{explain, go_stream, people_program, program, rewrite, two_streams, values};
-ghost use Rattle.gob_words.specs.Words.{verify, with_go_flags, with_parts, with_types};
+ghost use Rattle.gob_words.specs.Words.{kinds_rule, types, verify, with_elements, with_go_flags, with_parts};
+ghost use Rattle.gob_words.specs.Words.{with_progress, with_types};
 
 use crate::help;
 use clap::{Arg, ArgAction, Command};
@@ -39,8 +40,7 @@ fn people_program<'a>(alloc: Global) -> Result<Command<'a>, AllocError>
         .after_help(help::USE)
         .subcommand_required(true);
     let valuing = with_command(bare, values(alloc))?;
-    let types = one_stream(alloc, "types", help::TYPES, help::DEPTH, help::FILE);
-    let typing = with_command(valuing, types)?;
+    let typing = with_command(valuing, types(alloc))?;
     let why = one_stream(alloc, "why", help::WHY, help::DEPTH, help::FILE);
     let telling = with_command(typing, why)?;
     let explaining = with_command(telling, explain(alloc))?;
@@ -58,7 +58,18 @@ fn values<'a>(alloc: Global) -> Result<Command<'a>, AllocError>
 {
     let options = with_options(alloc, "values", help::VALUES, help::DEPTH)?;
     let flagged = with_flags(alloc, options)?;
-    with_input(alloc, with_types(alloc, flagged)?, help::FILE)
+    let typed = with_types(alloc, flagged)?;
+    with_input(alloc, with_elements(alloc, typed)?, help::FILE)
+}
+
+// The command that shows types, with the flag for a program behind the options that other commands have too.
+fn types<'a>(alloc: Global) -> Result<Command<'a>, AllocError>
+    ensures app { IfOk result (λ command. app_of command ≡ types) }
+    ensures local { IfOk result (λ command. (out-Command command).has_globals ≡ false) }
+{
+    let options = with_options(alloc, "types", help::TYPES, help::DEPTH)?;
+    let flagged = options.arg(flag(alloc, "main", help::MAIN))?;
+    with_input(alloc, with_progress(alloc, flagged)?, help::FILE)
 }
 
 // The command that reads some streams, with their names behind the options.
@@ -70,7 +81,8 @@ fn verify<'a>(alloc: Global) -> Result<Command<'a>, AllocError>
         .required(true)
         .action(ArgAction::Append)
         .help(help::FILES);
-    with_options(alloc, "verify", help::VERIFY, help::DEPTH)?.arg(files)
+    let options = with_options(alloc, "verify", help::VERIFY, help::DEPTH)?;
+    with_progress(alloc, options)?.arg(files)
 }
 
 // The command that explains bytes, with a flag and an option behind those that other commands have too.
@@ -103,7 +115,7 @@ fn go_stream<'a>(
 {
     let options = with_options(alloc, name, about, depth)?;
     let flagged = options.arg(flag(alloc, "go", help::GO))?;
-    with_input(alloc, flagged, help::INPUT)
+    with_input(alloc, with_progress(alloc, flagged)?, help::INPUT)
 }
 
 // The program with one command more, where that was made. Here alone a program is dropped.
@@ -200,6 +212,33 @@ fn with_types<'a>(alloc: Global, command: Command<'a>) -> Result<Command<'a>, Al
     command
         .arg(flag(alloc, "typed", help::TYPED))?
         .arg(option(alloc, "only", "TYPE", help::ONLY))
+}
+
+// The command with the flag for a line an element, the option that says what bytes are, and the flag for progress.
+fn with_elements<'a>(alloc: Global, command: Command<'a>) -> Result<Command<'a>, AllocError>
+    requires { (out-Command command).has_globals ≡ false }
+    ensures app { IfOk result (λ more. app_of more ≡ with_elements (app_of command.entry)) }
+    ensures local { IfOk result (λ more. (out-Command more).has_globals ≡ false) }
+{
+    let flagged = command.arg(flag(alloc, "each", help::EACH))?;
+    with_progress(alloc, flagged.arg(kinds(alloc))?)
+}
+
+// The option that says what the bytes of a type are: of several types where it is given several times.
+fn kinds<'a>(alloc: Global) -> Arg<'a>
+    ensures rule { rule_of result ≡ kinds_rule }
+    ensures local { result.global ≡ false }
+{
+    option(alloc, "as", "ID=KIND", help::AS).action(ArgAction::Append)
+}
+
+// The command with the flag for which it is told how far the reading is.
+fn with_progress<'a>(alloc: Global, command: Command<'a>) -> Result<Command<'a>, AllocError>
+    requires { (out-Command command).has_globals ≡ false }
+    ensures app { IfOk result (λ more. app_of more ≡ with_progress (app_of command.entry)) }
+    ensures local { IfOk result (λ more. (out-Command more).has_globals ≡ false) }
+{
+    command.arg(flag(alloc, "progress", help::PROGRESS))
 }
 
 // The command with the flags that say that Go's encoder wrote the stream, and where definitions are to stand.

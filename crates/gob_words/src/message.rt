@@ -49,6 +49,17 @@ pub(crate) fn number_line(
     escaped(alloc, line.as_str())
 }
 
+/// Says in clap's words that what was given for `--as` says nothing of a type.
+pub(crate) fn kind_line(alloc: Global, word: &str) -> Result<String, AllocError>
+    ensures { IfOk result (λ line. IsUnobeyed (string_bytes line)) }
+{
+    let line = format!(in alloc;
+        "invalid value '{word}' for '--as <ID=KIND>': no type id, =, and one of time.Time, big.Int, \
+        big.Float, big.Rat, uuid, netip.Addr, text, base64"
+    )?;
+    escaped(alloc, line.as_str())
+}
+
 /// The text, in which each character that a terminal obeys stands as `\u{..}`.
 pub fn escaped(alloc: Global, text: &str) -> Result<String, AllocError>
     ensures characters { IfOk result (λ line. chars (string_bytes line) ≡ escaped_text (chars text.now)) }

@@ -68,6 +68,9 @@ fn order_in<'a>(matches: &ArgMatches<'a>) -> Option<Order<'a>>
     if is_set(matches.get_str("go")) || is_set(matches.get_str("hoist")) {
         return None;
     }
+    if is_set(matches.get_str("progress")) {
+        return None;
+    }
     let wanted = wanted_in(command, matches);
     let depth = number_of(matches.get_str("depth"), USUAL_DEPTH)?;
     let item = number_of(matches.get_str("item"), USUAL_ITEM)?;

@@ -3,6 +3,7 @@
 ghost use Rattle.std.specs.Prelude.{◌≡◌, ◌≤◌};
 ghost use Rattle.gob_words.specs.ViewDepths.{greatest_view_depth};
 
+use crate::kinds::TypeKind;
 use crate::words::OrderFault;
 use std::alloc::AllocError;
 use std::fmt;
@@ -39,7 +40,7 @@ pub enum ViewCommand {
 
 /// What the words ask to be shown. [`ViewCommand::Version`] reads no file, and its other fields are the usual ones. The
 /// files of [`ViewCommand::Verify`] are those of [`crate::files_of`], and `input` is none of them.
-#[derive(Clone, Copy, Debug, PartialEq, Eq)]
+#[derive(Debug, Drop)]
 pub struct View<'a> {
     /// What to show.
     pub command: ViewCommand,
@@ -59,6 +60,16 @@ pub struct View<'a> {
     pub typed: bool,
     /// The name or the id of the type whose values alone are shown: for [`ViewCommand::Values`] alone.
     pub only: Option<&'a str>,
+    /// Whether each element of a list or a map is shown on a line of its own: for [`ViewCommand::Values`] alone.
+    pub each: bool,
+    /// What is said of types whose values encode themselves, in the order of the words; of two that say something of
+    /// one type, the later counts. For [`ViewCommand::Values`] alone.
+    pub kinds: Vec<TypeKind>,
+    /// Whether a program is printed that reads the stream and prints its values: for [`ViewCommand::Types`] alone.
+    pub main: bool,
+    /// Whether it is told on standard error how far the reading is: for [`ViewCommand::Values`], `Types`, `Verify`,
+    /// `ShowGo` and `CheckGo` alone.
+    pub progress: bool,
     /// Whether each definition in a value stands in an item of its own before the value's: for
     /// [`ViewCommand::RewriteGo`] alone.
     pub hoist: bool,

@@ -8,11 +8,14 @@ ghost use Rattle.gob_words.specs.declared.view.ViewCommand.{ViewCommand};
 ghost use Rattle.gob_words.specs.Escaped.{IsUnobeyed};
 ghost use Rattle.gob_words.specs.Views.{AsksToView, IsFileOf, IsViewFaultOf, IsViewOf, RefusesToView, view_name};
 ghost use Rattle.gob_words.specs.Views.{IsAskedFor, IsFaultFlagOf, IsFlagOf, IsHoistFlagOf, IsOnlyOf, IsPlaceIn};
-ghost use Rattle.gob_words.specs.Views.{IsPlaceOf, IsVersionView, IsWordAtFault};
+ghost use Rattle.gob_words.specs.Views.{IsNoView, IsPlaceOf, IsVersionView, IsWordAtFault, SaysNoKinds};
+ghost use Rattle.gob_words.specs.Views.{kind_words_in};
+ghost use Rattle.gob_words.specs.Kinds.{SayKinds};
 ghost use Rattle.gob_words.specs.Words.{HasNoFault, text_of};
 
 use crate::command_line::program;
 use crate::decimal::number_of;
+use crate::kinds::{TypeKind, kinds_in};
 use crate::message::{number_line, shown_line};
 use crate::orders::{USUAL_DEPTH, USUAL_ITEM, fault_of, is_set};
 use crate::view::{GREATEST_DEPTH, View, ViewCommand, ViewFault};
@@ -32,19 +35,16 @@ pub fn view_of<'a>(alloc: Global, words: &'a [&'a str]) -> Result<View<'a>, View
         ⊎ IsVersionView view) }
 {
     match program(alloc)?.try_get_matches_from(words) {
-        Ok(matches) => match view_in(&matches) {
-            Some(view) => Ok(view),
-            None => Err(number_fault(alloc, &matches)),
-        },
+        Ok(matches) => view_met(alloc, &matches),
         Err(error) => match error.kind() {
-            ErrorKind::DisplayVersion => Ok(version_view()),
+            ErrorKind::DisplayVersion => Ok(version_view(alloc)),
             kind => Err(word_fault(alloc, words, kind, &error)),
         },
     }
 }
 
 // What the option that asks for the version stands for.
-fn version_view<'a>() -> View<'a>
+fn version_view<'a>(alloc: Global) -> View<'a>
     ensures { IsVersionView result }
 {
     View {
@@ -57,14 +57,46 @@ fn version_view<'a>() -> View<'a>
         tagged: false,
         typed: false,
         only: None,
+        each: false,
+        kinds: Vec::new(alloc),
+        main: false,
+        progress: false,
         hoist: false,
         fault: false,
         at: None,
     }
 }
 
-// What clap's matches ask for. None: no such command is named, or a number is none or out of its range.
-fn view_in<'a>(matches: &ArgMatches<'a>) -> Option<View<'a>>
+// What clap's matches ask for.
+fn view_met<'a>(alloc: Global, matches: &ArgMatches<'a>) -> Result<View<'a>, ViewFault>
+    ensures { MatchResult result (IsViewOf (subcommand_rows_of matches.now))
+        (IsNoView (subcommand_rows_of matches.now)) }
+{
+    let kinds = kinds_met(alloc, matches)?;
+    match view_in(matches, kinds) {
+        Some(view) => Ok(view),
+        None => Err(number_fault(alloc, matches)),
+    }
+}
+
+// What clap's matches say of types.
+fn kinds_met(alloc: Global, matches: &ArgMatches<'_>) -> Result<Vec<TypeKind>, ViewFault>
+    ensures { MatchResult result (λ kinds. SayKinds (kind_words_in (subcommand_rows_of matches.now)) kinds.items)
+        (SaysNoKinds (kind_words_in (subcommand_rows_of matches.now))) }
+{
+    let Some((_, matches)) = matches.subcommand() else {
+        return Ok(Vec::new(alloc));
+    };
+    match matches.get_strs("as") {
+        Some(words) => kinds_in(alloc, words),
+        None => Ok(Vec::new(alloc)),
+    }
+}
+
+// What clap's matches ask for, which say these kinds of types. None: no such command is named, or a number is none or
+// out of its range.
+fn view_in<'a>(matches: &ArgMatches<'a>, kinds: Vec<TypeKind>) -> Option<View<'a>>
+    requires { SayKinds (kind_words_in (subcommand_rows_of matches.now)) kinds.items }
     ensures { MatchOption result
         ((view : View) → ¬ IsViewOf (subcommand_rows_of matches.now) view)
         (IsViewOf (subcommand_rows_of matches.now)) }
@@ -90,6 +122,10 @@ fn view_in<'a>(matches: &ArgMatches<'a>) -> Option<View<'a>>
         tagged: is_given(command, matches.get_str("tagged")),
         typed: is_given(command, matches.get_str("typed")),
         only: only_of(command, matches.get_str("only")),
+        each: is_set(matches.get_str("each")),
+        kinds,
+        main: is_set(matches.get_str("main")),
+        progress: is_set(matches.get_str("progress")),
         hoist: is_hoist_asked(command, matches.get_str("hoist")),
         fault: is_fault_asked(command, matches.get_str("fault")),
         at,
@@ -320,7 +356,7 @@ fn has_flag(words: &[&str], flag: &str) -> bool {
 }
 
 // A fault that is told by this line.
-fn said(line: Result<String, AllocError>) -> ViewFault
+pub(crate) fn said(line: Result<String, AllocError>) -> ViewFault
     requires { IfOk line (λ text. IsUnobeyed (string_bytes text)) }
     ensures { IsWordAtFault result }
 {

@@ -59,12 +59,14 @@ Usage: gob check [OPTIONS] [IN]
 --depth <N>
 --item <N>
 --go 
+--progress 
 1 to 65536,
 1000 with --go,";
 
 const SHOW: &str = "\
 Usage: gob show [OPTIONS] [IN]
 --go 
+--progress 
 1 to 1000,";
 
 const TAKE: &str = "\
@@ -82,6 +84,10 @@ where it is -,
 pandas
 --typed 
 --only <TYPE>
+--each 
+--as <ID=KIND>
+time.Time, big.Int, big.Float, big.Rat, uuid, netip.Addr, text or base64
+--progress 
 --raw 
 --tagged 
 1 to 1000,";
@@ -122,7 +128,7 @@ const HELPS: [(&str, &str); 13] = [
     ("help values", VALUES),
     ("help verify", VERIFY),
     ("help rewrite", REWRITE),
-    ("types --help", "1 to 1000,"),
+    ("types --help", "--main \n--progress \n1 to 1000,"),
     ("why --help", "1 to 1000,"),
     ("help explain", EXPLAIN),
 ];

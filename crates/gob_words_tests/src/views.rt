@@ -1,7 +1,7 @@
 //! The words that ask for a stream to be shown.
 
 use crate::lines::words_of;
-use gob_words::{OrderFault, VERSION, View, ViewFault, escaped, order_of, view_of};
+use gob_words::{OrderFault, TypeKind, VERSION, View, ViewFault, escaped, order_of, view_of};
 use std::alloc::{AllocError, Global};
 use std::test::*;
 
@@ -62,6 +62,24 @@ verify a.gob b.gob
 Verify None 1000 67108864 None
 verify --depth 5 --item 0 -- --go
 Verify None 5 0 None
+values --each --progress f
+Values Some("f") 1000 67108864 None each progress
+values --as 66=big.Int f
+Values Some("f") 1000 67108864 None as 66=BigInt
+values --as=66=text --as 0067=netip.Addr --each --as 66=base64 -
+Values None 1000 67108864 None each as 66=Text 67=NetipAddr 66=Base64
+values --as 1=time.Time --as 2=big.Float --as 3=big.Rat --as 18446744073709551615=uuid
+Values None 1000 67108864 None as 1=Time 2=BigFloat 3=BigRat 18446744073709551615=Uuid
+types --main f
+Types Some("f") 1000 67108864 None main
+types --progress --main
+Types None 1000 67108864 None main progress
+verify --progress a.gob
+Verify None 1000 67108864 None progress
+show --progress --go f
+ShowGo Some("f") 1000 67108864 None progress
+check --go --progress
+CheckGo None 1000 67108864 None progress
 values --zeros
 Values None 1000 67108864 None zeros
 values --raw
@@ -74,6 +92,18 @@ values --zeros -- --raw
 Values Some("--raw") 1000 67108864 None zeros
 "#;
 
+// Appends what is said of types, as the lines have it.
+fn push_kinds(kinds: &[TypeKind], text: &mut String) -> Result<(), AllocError> {
+    if !kinds.is_empty() {
+        text.push_str(" as")?;
+    }
+    for said in kinds {
+        let (id, kind) = (said.id, said.kind);
+        write!(text, " {id}={kind:?}")?;
+    }
+    Ok(())
+}
+
 // What the view is, as the lines have it.
 fn shown(alloc: Global, view: &View<'_>) -> Result<String, AllocError> {
     let (command, input, at) = (view.command, view.input, view.at);
@@ -84,6 +114,9 @@ fn shown(alloc: Global, view: &View<'_>) -> Result<String, AllocError> {
         (view.raw, " raw"),
         (view.tagged, " tagged"),
         (view.typed, " typed"),
+        (view.each, " each"),
+        (view.main, " main"),
+        (view.progress, " progress"),
         (view.hoist, " hoist"),
         (view.fault, " fault"),
     ] {
@@ -95,6 +128,7 @@ fn shown(alloc: Global, view: &View<'_>) -> Result<String, AllocError> {
         text.push_str(" only ")?;
         text.push_str(only)?;
     }
+    push_kinds(&view.kinds, &mut text)?;
     Ok(text)
 }
 
@@ -196,6 +230,42 @@ values --only
 gob: a value is required for '--only <TYPE>' but none was supplied
 verify --typed f
 gob: unexpected argument '--typed' found
+values --as 66
+gob: invalid value '66' for '--as <ID=KIND>': no type id, =, and one of \
+    time.Time, big.Int, big.Float, big.Rat, uuid, netip.Addr, text, base64
+values --as 66=big.int f
+gob: invalid value '66=big.int' for '--as <ID=KIND>': no type id, =, and one of \
+    time.Time, big.Int, big.Float, big.Rat, uuid, netip.Addr, text, base64
+values --as =uuid
+gob: invalid value '=uuid' for '--as <ID=KIND>': no type id, =, and one of \
+    time.Time, big.Int, big.Float, big.Rat, uuid, netip.Addr, text, base64
+values --as 66=uuid --as x=uuid --as z=text
+gob: invalid value 'x=uuid' for '--as <ID=KIND>': no type id, =, and one of \
+    time.Time, big.Int, big.Float, big.Rat, uuid, netip.Addr, text, base64
+values --as 18446744073709551616=text
+gob: invalid value '18446744073709551616=text' for '--as <ID=KIND>': no type id, =, and one of \
+    time.Time, big.Int, big.Float, big.Rat, uuid, netip.Addr, text, base64
+values --as 66=text=
+gob: invalid value '66=text=' for '--as <ID=KIND>': no type id, =, and one of \
+    time.Time, big.Int, big.Float, big.Rat, uuid, netip.Addr, text, base64
+values --as
+gob: a value is required for '--as <ID=KIND>' but none was supplied
+values --main
+gob: unexpected argument '--main' found
+types --each
+gob: unexpected argument '--each' found
+types --as 66=text
+gob: unexpected argument '--as' found
+why --progress f
+gob: unexpected argument '--progress' found
+show --progress f
+gob: bad arguments
+check --progress f
+gob: bad arguments
+rewrite --go --progress f
+gob: unexpected argument '--progress' found
+verify
+gob: the following required arguments were not provided: <FILE>...
 verify f --depth 0
 gob: invalid value '0' for '--depth <N>': no number from 1 to 1000
 values --deep 5
@@ -349,7 +419,7 @@ fn is_told(alloc: Global, word: &str, told: &str) -> bool {
 // Words, and how they are told.
 const TOLD: [(&str, &str); 2] = [
     ("a\u{1b}b", "unexpected argument 'a\\u{1b}b' found"),
-    ("a\nb", "unexpected argument 'a\\u{a}b' found"),
+    ("a\nb", "unexpected argument 'a b' found"),
 ];
 
 #[test]

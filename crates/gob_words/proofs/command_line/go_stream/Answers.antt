@@ -1,9 +1,9 @@
 -- The flag stands behind the options, and the input behind it.
-use Rattle.std.proofs.Common.{◌≡◌, ◌∙◌, ap₂, subst}
+use Rattle.std.proofs.Common.{◌≡◌, ◌∙◌, ap, ap₂, subst}
 use Rattle.std.specs.Result.{IfOk}
 use Rattle.std.proofs.lemmas.Result.{IfOk-from_err}
 use Rattle.clap.specs.Words.{App, app_of, with_rule}
-use Rattle.gob_words.specs.Words.{go_stream, with_input}
+use Rattle.gob_words.specs.Words.{go_stream, with_input, with_progress}
 use Rattle.gob_words.proofs.command_line.go_stream.Goals as goal
 
 pub returns-in_err-options-clause-app : goal.returns-in_err-options-clause-app
@@ -20,7 +20,8 @@ pub returns-clause-app : goal.returns-clause-app
 returns-clause-app c =
     let flagged = c.in_ok-flagged.ensures.shape c.flag.ensures.local
     ∙ ap₂ with_rule c.in_ok-options.ensures.app c.flag.ensures.rule in
-    subst (λ (a : App). IfOk c.with_input.result (λ more. app_of more ≡ with_input a)) flagged c.with_input.ensures.app
+    let telling = c.in_ok-with_progress.ensures.app ∙ ap with_progress flagged in
+    subst (λ (a : App). IfOk c.with_input.result (λ more. app_of more ≡ with_input a)) telling c.with_input.ensures.app
 
 pub returns-clause-local : goal.returns-clause-local
 returns-clause-local c = c.with_input.ensures.local

@@ -3,7 +3,7 @@ use Rattle.std.proofs.Common.{◌≡◌, ◌∙◌, ap, subst, true}
 use Rattle.std.specs.Result.{IfOk}
 use Rattle.clap.specs.Words.{App, app_of, with_subcommand}
 use Rattle.clap.specs.Simple.{app_of_fields}
-use Rattle.gob_words.specs.Words.{explain, one_stream, values, verify}
+use Rattle.gob_words.specs.Words.{explain, one_stream, types, values, verify}
 use Rattle.std.specs.Prelude.{codes}
 use Rattle.gob_words.proofs.command_line.people_program.Goals as goal
 
@@ -17,8 +17,8 @@ returns c =
     ∙ ap (λ (x : App). record { top = record x.top { subcommand_required = true }; subs = x.subs }) used in
     let valuing = c.in_ok-valuing.ensures values c.values.ensures.app
     ∙ ap (λ (x : App). with_subcommand x values.top) bare in
-    let typing = c.in_ok-typing.ensures (one_stream (codes "types")) c.one_stream-types.ensures.app
-    ∙ ap (λ (x : App). with_subcommand x (one_stream (codes "types")).top) valuing in
+    let typing = c.in_ok-typing.ensures types c.types.ensures.app
+    ∙ ap (λ (x : App). with_subcommand x types.top) valuing in
     let telling = c.in_ok-telling.ensures (one_stream (codes "why")) c.one_stream-why.ensures.app
     ∙ ap (λ (x : App). with_subcommand x (one_stream (codes "why")).top) typing in
     let explaining = c.in_ok-explaining.ensures explain c.explain.ensures.app

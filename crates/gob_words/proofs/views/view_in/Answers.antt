@@ -4,7 +4,7 @@ use Rattle.clap.specs.Words.{found_of, rows_of, subcommand_rows_of}
 use Rattle.clap.proofs.WalkLemmas.{first_value-rows}
 use Rattle.gob_words.specs.Views.{IsPlaceOf}
 use Rattle.gob_words.proofs.WordLaws.{one_number, writes_alike}
-use Rattle.gob_words.proofs.ViewLaws.{asked_alike, view_meets, views_together}
+use Rattle.gob_words.proofs.ViewLaws.{asked_alike, given_as_set, view_meets, views_together}
 use Rattle.gob_words.proofs.views.view_in.Goals.{then-depth-lt1-via-then-depth-lt1}
 use Rattle.gob_words.proofs.views.view_in.Goals.{then-depth-lt1-via-else-depth-lt1+then-depth-gt-GREATEST_DEPTH}
 use Rattle.gob_words.proofs.views.view_in.Goals as goal
@@ -80,8 +80,12 @@ returns c =
       tagged = rw (← c.get_str-9.ensures ∙ first_value-rows f (codes "tagged")) c.is_given-3.ensures;
       typed = rw (← c.get_str-10.ensures ∙ first_value-rows f (codes "typed")) c.is_given-4.ensures;
       only = rw (← c.get_str-11.ensures ∙ first_value-rows f (codes "only")) c.only_of.ensures;
-      hoist = rw (← c.get_str-12.ensures ∙ first_value-rows f (codes "hoist")) c.is_hoist_asked.ensures;
-      fault = rw (← c.get_str-13.ensures ∙ first_value-rows f (codes "fault")) c.is_fault_asked.ensures;
+      each = given_as_set _ _ _ (c.get_str-12.ensures ∙ first_value-rows f (codes "each")) c.is_set.ensures;
+      kinds = c.requires;
+      main = given_as_set _ _ _ (c.get_str-13.ensures ∙ first_value-rows f (codes "main")) c.is_set-2.ensures;
+      progress = given_as_set _ _ _ (c.get_str-14.ensures ∙ first_value-rows f (codes "progress")) c.is_set-3.ensures;
+      hoist = rw (← c.get_str-15.ensures ∙ first_value-rows f (codes "hoist")) c.is_hoist_asked.ensures;
+      fault = rw (← c.get_str-16.ensures ∙ first_value-rows f (codes "fault")) c.is_fault_asked.ensures;
       at = rw (← c.get_str-5.ensures ∙ first_value-rows f (codes "at")) c.in_ok-at.ensures;
       least = omega (arith, c.if-depth-lt1.false);
       most = omega (arith, c.if-depth-gt-GREATEST_DEPTH.false);

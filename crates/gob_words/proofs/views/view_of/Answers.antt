@@ -1,31 +1,24 @@
 -- What clap says of the words, and what is read of its matches.
-use Rattle.std.proofs.Common.{rules, ◌≡◌, ◌≢◌, ◌∙◌, ap, sym, true, subst, map, inl, inr}
+use Rattle.std.proofs.Common.{rules, ◌≡◌, ◌≢◌, ◌∙◌, ap, sym, true, subst, map, inr}
 use Rattle.clap.specs.declared.error.kind.ErrorKind.TheVariants.{DisplayVersion, OutOfMemory}
 use Rattle.clap.specs.Words.{subcommand_of, takes, fault_of, kind_of, HasKind}
 use Rattle.gob_words.specs.Views.{IsViewFaultOf}
-use Rattle.gob_words.specs.Words.{HasNoFault, program}
+use Rattle.gob_words.specs.Words.{program}
 use Rattle.gob_words.proofs.WordLaws.{simple, simple_and_free}
-use Rattle.gob_words.proofs.ViewLaws.{asks_as_met, asks_for_version, no_view_without_memory, refuses_as_met}
-use Rattle.gob_words.proofs.ViewLaws.{refuses_as_shown}
+use Rattle.gob_words.proofs.ViewLaws.{accepted_as_met, answers_as_met, asks_for_version}
+use Rattle.gob_words.proofs.ViewLaws.{no_view_without_memory, refuses_as_shown}
 use Rattle.gob_words.proofs.views.view_of.Goals as goal
 
 pub returns-in_err-program-clause-view : goal.returns-in_err-program-clause-view
 returns-in_err-program-clause-view c =
     no_view_without_memory (map (λ word. word.now) c.args.words.now) c.from_residual.result c.from_residual.ensures.1
 
-pub returns-in-Some-clause-view : goal.returns-in-Some-clause-view
-returns-in-Some-clause-view c =
+pub returns-in-Ok-clause-accepted : goal.returns-in-Ok-clause-accepted
+returns-in-Ok-clause-accepted c =
     let words = map (λ word. word.now) c.args.words.now in
     let same = c.in_ok-program.ensures in
-    let met = (c.in-Ok.ensures.matches (simple _ same)).1 ∙ ap (λ app. subcommand_of app words) same in
-    asks_as_met words _ _ met (search rules)
-
-pub returns-in-Some-clause-accepted : goal.returns-in-Some-clause-accepted
-unfolding HasNoFault
-returns-in-Some-clause-accepted c =
-    let words = map (λ word. word.now) c.args.words.now in
-    let same = c.in_ok-program.ensures in
-    inl (ap (λ app. fault_of app words) (sym same) ∙ c.in-Ok.ensures.kinds (simple_and_free _ same))
+    accepted_as_met words c.view_met.result
+    (ap (λ app. fault_of app words) (sym same) ∙ c.in-Ok.ensures.kinds (simple_and_free _ same))
 
 pub returns-in-DisplayVersion-clause-accepted : goal.returns-in-DisplayVersion-clause-accepted
 returns-in-DisplayVersion-clause-accepted c = inr c.version_view.ensures
@@ -36,7 +29,7 @@ returns-in-Ok-clause-view c =
     let same = c.in_ok-program.ensures in
     let met = (c.in-Ok.ensures.matches (simple _ same)).1 ∙ ap (λ app. subcommand_of app words) same in
     let none = ap (λ app. fault_of app words) (sym same) ∙ c.in-Ok.ensures.kinds (simple_and_free _ same) in
-    refuses_as_met words _ _ met none (search rules) c.number_fault.ensures
+    answers_as_met words _ c.view_met.result met none c.view_met.ensures
 
 pub returns-in-DisplayVersion-clause-view : goal.returns-in-DisplayVersion-clause-view
 returns-in-DisplayVersion-clause-view c =
