@@ -1,0 +1,4 @@
+pub mod PartTypes
+pub mod Standing
+pub mod Event
+pub mod Told
