@@ -7,8 +7,7 @@ pub mod PlainLaws
 pub mod EscapeLaws
 pub mod LeafLaws
 pub mod HeadLaws
-pub mod StandingLaws
-pub mod SendLaws
-pub mod EndLaws
+pub mod IntLaws
+pub mod EventLaws
 pub mod LineLaws
 pub mod PublicLaws

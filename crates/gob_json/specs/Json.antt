@@ -1,47 +1,17 @@
--- The JSON of a value of a type. A part's type is told by the shape that its type has in the table; where the table has
--- no such shape, which no value that fits its type meets, the type counts as 0, which is none, and the name as empty.
+-- The JSON of a value of a type. A part's type is told by the shape that its type has in the table.
 -- (docs/FORMAT.md, The JSON lines: this project's own.)
-use Rattle.std.specs.Prelude.{ℕ, ℤ, pos, negsuc, List, [], codes, Option, Some, None, slice_get, if◌then◌else◌}
+use Rattle.std.specs.Prelude.{ℕ, ℤ, pos, negsuc, List, codes, slice_get, if◌then◌else◌}
 use Rattle.std.specs.Int.{to_be_bytes, w64}
-use Rattle.std.specs.Option.{unwrap_or}
 use Rattle.std.specs.Str.{is_utf8}
 use Rattle.hex.specs.Hex.{encode_lower}
 use Rattle.serde_json.specs.Data.{unsigned, negative, Data, null, boolean, number, string, array, object, Items}
 use Rattle.serde_json.specs.Data.{no_items, item, no_members, member}
 use Rattle.gob_types.specs.declared.id.TypeId.{TypeId}
 use Rattle.gob_types.specs.declared.kind.Field.{Field}
-use Rattle.gob_types.specs.declared.kind.Shape.{Shape}
-use Rattle.gob_types.specs.KindParts.{elem_named, key_named, fields_named}
 use Rattle.gob_types.specs.Table.{Table, shape_of}
 use Rattle.gob_value.specs.Tree.{Tree, Trees, no_tree, tree, Pairs, no_pair, pair, Fields, no_field, field}
 use Rattle.gob_value.specs.Tree as Value
-
--- the number of no type
-abbrev pub no_type : TypeId
-no_type = record { 0 = 0 }
-
--- the type of the elements of a slice, an array or a map
-abbrev pub element_type : Option Shape → TypeId
-element_type None = no_type
-element_type (Some s) = unwrap_or (elem_named s.kind) no_type
-
--- the type of the keys of a map
-abbrev pub key_type : Option Shape → TypeId
-key_type None = no_type
-key_type (Some s) = unwrap_or (key_named s.kind) no_type
-
--- the fields of a struct
-abbrev pub struct_fields : Option Shape → List Field
-struct_fields None = []
-struct_fields (Some s) = unwrap_or (fields_named s.kind) []
-
-abbrev pub field_name : Option Field → List ℕ
-field_name None = []
-field_name (Some f) = f.name
-
-abbrev pub field_type : Option Field → TypeId
-field_type None = no_type
-field_type (Some f) = f.id
+pub use Rattle.gob_walk.specs.PartTypes.{no_type, element_type, key_type, struct_fields, field_name, field_type}
 
 -- bytes in lower case hexadecimal
 abbrev pub hex_json : List ℕ → Data

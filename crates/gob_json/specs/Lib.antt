@@ -1,4 +1,5 @@
 pub mod Json
 pub mod DefinitionJson
 pub mod TextWhole
+pub mod EventText
 pub mod Machine

@@ -5,4 +5,3 @@ pub mod Gathered
 pub mod Heads
 pub mod Piece
 pub mod TextParts
-pub mod TextSent

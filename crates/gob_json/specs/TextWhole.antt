@@ -1,21 +1,13 @@
 -- A value that stands whole at the front of a piece of a stream, no deeper than a limit, what stands behind it, and its
 -- text: what was appended is the compact text of the value's JSON. (docs/FORMAT.md, Values; Depth; The JSON lines.)
-use Rattle.std.specs.Prelude.{◌≡◌, ℕ, ◌≤◌, List, [], ◌∷◌, ◌++◌, Some, codes}
+use Rattle.std.specs.Prelude.{◌≡◌, ℕ, ◌≤◌, List, [], ◌∷◌, ◌++◌, codes}
 use Rattle.std.specs.Fmt.{decimal}
 use Rattle.serde_json.specs.Written.{compact_text}
 use Rattle.gob_types.specs.declared.id.TypeId.{TypeId}
-use Rattle.gob_types.specs.declared.kind.Kind.{Kind}
-use Rattle.gob_types.specs.declared.kind.Shape.{Shape}
-use Rattle.gob_types.specs.Table.{Table, shape_of}
+use Rattle.gob_types.specs.Table.{Table}
 use Rattle.gob_value.specs.Tree.{Tree, depth}
 use Rattle.gob_value.specs.Top.{SpellsTop}
 use Rattle.gob_json.specs.Json.{put_json}
-
--- the type is one of this kind
-pub record IsOfKind (T : Table) (t : TypeId) (k : Kind) : Type 0 where
-  pub shape : Shape
-  pub found : shape_of T t ≡ Some shape
-  pub same : shape.kind ≡ k
 
 -- the bytes are a value of the type behind its tag, and the line of the value with its type was appended
 pub record LineOfWhole (T : Table) (t : TypeId) (limit : ℕ) (bytes old new : List ℕ) : Type 0 where

@@ -1,21 +1,18 @@
 //! The line of a value, written straight from the bytes that spell it: no tree is made, and nothing is kept of a
 //! part once its text stands.
 
-mod basic;
 mod between;
 mod block;
 mod digits;
 mod escape;
+mod exact;
 mod gathered;
 mod heads;
 mod integers;
 mod leaf;
-mod number;
 mod out;
 mod piece;
 mod plain;
-mod stop;
-mod value;
 mod whole;
 
 pub use out::TextOut;

@@ -29,10 +29,10 @@ impl Heads {
     /// Of the values of this kind, where it is a struct and there are many of them. It is worth while for bytes that
     /// are known to be whole alone, which are those of large items.
     #[inline(always)]
-    pub(crate) fn of_many<const KNOWN: bool>(kind: &Kind, count: u64) -> Option<Heads>
+    pub(crate) fn of_many(kind: &Kind, count: u64, known: bool) -> Option<Heads>
         ensures { IfSome result (λ heads. AreHeadsOf kind.now heads) }
     {
-        if !KNOWN || count < MANY {
+        if !known || count < MANY {
             return None;
         }
         Some(Heads::of(kind.fields()?))

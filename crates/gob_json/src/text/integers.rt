@@ -9,14 +9,13 @@ ghost use Rattle.gob_types.specs.Table.{Table};
 ghost use Rattle.gob_value.specs.Tree.{Trees, tree_count};
 ghost use Rattle.gob_value.specs.Machine.Begins.{BeginsEach};
 ghost use Rattle.gob_json.specs.Json.{elements_json};
-ghost use Rattle.gob_json.specs.TextWhole.{IsOfKind};
-ghost use Rattle.gob_json.specs.Machine.TextSent.{BeginsElements, EndsAt, Reaches, Sends};
+ghost use Rattle.gob_walk.specs.Standing.{BeginsElements, EndsAt, IsOfKind};
+ghost use Rattle.gob_walk.specs.Told.{Reaches, Sends};
 
 use super::block::{comma_at, integer_at};
 use super::gathered::PartOut;
-use super::number::number_at;
-use super::stop::{Stop, closed};
 use gob_num::to_signed;
+use gob_walk::{Stop, closed, number_at};
 
 // The most bytes of an int in a list: a comma, a sign and the digits.
 const PART: usize = 22;

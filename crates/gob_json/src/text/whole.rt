@@ -1,25 +1,23 @@
 //! The text of a whole item's value, and its line.
 
-ghost use Rattle.std.specs.Prelude.{◌≡◌, ◌≢◌, ◌≤◌, ◌++◌, ◌∷◌, [], None, Some, IsTrue, IfOk, IfSome, OnErr, OnOk};
-ghost use Rattle.std.specs.Prelude.{false, length, slice_get};
+ghost use Rattle.std.specs.Prelude.{◌≡◌, ◌≤◌, ◌++◌, ◌∷◌, [], IsTrue, IfOk, OnErr, OnOk, false};
 ghost use Rattle.serde_json.specs.Written.{compact_text};
-ghost use Rattle.gob_value.specs.Top.{IsStruct, SpellsTop};
+ghost use Rattle.gob_value.specs.Top.{SpellsTop};
 ghost use Rattle.gob_value.specs.Tree.{Tree, depth as DepthOf};
 ghost use Rattle.gob_value.specs.Whole.{IsWhole};
 ghost use Rattle.gob_json.specs.Json.{put_json};
 ghost use Rattle.gob_json.specs.TextWhole.{LineOfWhole, head_text};
 ghost use Rattle.gob_json.specs.Machine.Piece.{piece_text};
-ghost use Rattle.gob_json.specs.Machine.TextParts.{IsBehindTag};
-ghost use Rattle.gob_json.specs.Machine.TextSent.{Reaches};
+ghost use Rattle.gob_walk.specs.Told.{Reaches};
 
+use super::exact::put_value;
 use super::gathered::{Gathered, PartOut};
 use super::leaf::put_natural;
 use super::out::TextOut;
 use super::piece::Piece;
-use super::stop::Stop;
-use super::value::put_value;
 use gob_num::Memory;
-use gob_types::{Kind, Shapes, TypeId};
+use gob_types::{Shapes, TypeId};
+use gob_walk::Stop;
 use std::mem;
 
 // How deep a value may be whose text is written: each level is a call within a call.
@@ -144,17 +142,8 @@ fn put_line<S: Shapes, O: PartOut, const KNOWN: bool>(
         → Reaches O.puts out.old out.new (compact_text (put_json (S.table shapes.now) id v) ++ 10 ∷ []) result }
     ensures whole { KNOWN ≡ false → OnOk result (IsWhole (S.table shapes.now) id depth body.now) }
 {
-    let Some(shape) = shapes.shape_of(id) else {
-        return Err(Stop::NotWhole);
-    };
-    let Some(begin) = behind_tag(&shape.kind, body) else {
-        return Err(Stop::NotWhole);
-    };
     put_head(id, out)?;
-    let end = put_value::<S, O, KNOWN>(shapes, &shape.kind, None, body, begin, depth, out)?;
-    if end != body.len() {
-        return Err(Stop::NotWhole);
-    }
+    put_value::<S, O, KNOWN>(shapes, id, body, depth, out)?;
     Ok(put_end(out)?)
 }
 
@@ -165,22 +154,6 @@ fn put_end<O: PartOut>(out: &mut O) -> Result<(), O::Fault>
 {
     out.put_mark(b'}')?;
     out.put_mark(b'\n')
-}
-
-// Where the value begins: behind the tag, which a struct doesn't have. None says that the tag isn't there.
-// item: struct | 0 value
-fn behind_tag(kind: &Kind, body: &[u8]) -> Option<usize>
-    ensures begins { IfSome result (λ begin. IsBehindTag kind.now body.now begin) }
-    ensures inside { IfSome result (λ begin. begin ≤ length body.now) }
-    ensures none { result ≡ None → (¬ IsStruct kind.now) × (slice_get body.now 0 ≢ Some 0) }
-{
-    match kind {
-        Kind::Struct { .. } => Some(0),
-        _ => match body.first() {
-            Some(0) => Some(1),
-            _ => None,
-        },
-    }
 }
 
 // Puts out what stands before the value.

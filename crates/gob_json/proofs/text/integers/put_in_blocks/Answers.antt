@@ -8,12 +8,12 @@ use Rattle.gob_types.specs.declared.kind.Kind.TheVariants as kind
 use Rattle.gob_types.specs.declared.basic.Basic.TheVariants as basic
 use Rattle.gob_value.proofs.WholeSteps.{basic_element, int_begins, none_stand}
 use Rattle.gob_json.specs.Json.{elements_json, integer_json}
-use Rattle.gob_json.specs.Machine.TextSent.{HoldsKind, Reaches, as_stop}
-use Rattle.gob_json.proofs.EndLaws.{end_found, end_of_both}
-use Rattle.gob_json.proofs.StandingLaws.{value_as}
-use Rattle.gob_json.proofs.SendLaws.{ElementsWait, sent_failed, all_wait, elements_ended, end_as, int_here, later_on}
-use Rattle.gob_json.proofs.SendLaws.{next_waits, reached, reached_both, reached_prefix, stopped, took, waiting_failed}
-use Rattle.gob_json.proofs.SendLaws.{waiting_first, waiting_gone, waiting_put}
+use Rattle.gob_walk.specs.Standing.{HoldsKind}
+use Rattle.gob_walk.specs.Told.{Reaches, as_stop}
+use Rattle.gob_walk.proofs.PublicLaws.{end_as, end_found, end_of_both, later_on, reached, reached_both, reached_prefix}
+use Rattle.gob_walk.proofs.PublicLaws.{sent_failed, stopped, took, value_as}
+use Rattle.gob_json.proofs.IntLaws.{ElementsWait, all_wait, int_here, next_waits, waiting_ended, waiting_failed}
+use Rattle.gob_json.proofs.IntLaws.{waiting_first, waiting_gone}
 use Rattle.gob_json.proofs.text.integers.put_in_blocks.Goals.{then-len+in_ok-put, else-len}
 use Rattle.gob_json.proofs.text.integers.put_in_blocks.Goals as goal
 
@@ -79,7 +79,7 @@ integers-preserved g c = record {
       let text = digits ∙ ap (λ l. l ++ json) c.comma_at-behind.ensures.text ∙ append_assoc waits separator json in
       let next = next_waits (Reaches g.O.TextOut.puts) (reached_both g.O.TextOut.puts g.met.O.TextOut.joined)
       (reached_prefix g.O.TextOut.puts g.met.O.TextOut.cut) left (omega arith) (λ v r p.
-      let here = int_here (Reaches g.O.TextOut.puts) e c.args.body.now c.integers.at c.in-Some.end c.in-Some.number
+      let here = int_here e c.args.body.now c.integers.at c.in-Some.end c.in-Some.number
       c.to_signed.result c.in-Some.ensures.found c.to_signed.ensures
       (subst (λ k. HoldsKind T k v (drop c.integers.at c.args.body.now) r) is.same (value_as is.shape is.found p)) in
       (here.0, text ∙ ap (λ l. waits ++ (separator ++ l)) here.1)) in
@@ -100,13 +100,10 @@ returns-in_err-put-2-clause-stands g c =
 
 pub returns-clause-sent : goal.returns-clause-sent
 returns-clause-sent g c = λ T e limit vs rest is b counted.
-    let left = waiting_put (Reaches g.O.TextOut.puts) (reached_both g.O.TextOut.puts g.met.O.TextOut.joined)
-    (reached_prefix g.O.TextOut.puts g.met.O.TextOut.cut)
-    (c.integers.invariant.left T e limit vs rest is b counted) (took g.O.TextOut.puts c.in_ok-put-2.ensures) in
-    elements_ended (Reaches g.O.TextOut.puts) (reached_both g.O.TextOut.puts g.met.O.TextOut.joined)
-    (reached_prefix g.O.TextOut.puts g.met.O.TextOut.cut) left
-    c.integers.at (as_stop c.put_mark.result) c.closed.result c.closed.ensures
-    refl (omega arith) (reached g.O.TextOut.puts c.put_mark.result c.put_mark.ensures)
+    waiting_ended (Reaches g.O.TextOut.puts) (reached_both g.O.TextOut.puts g.met.O.TextOut.joined)
+    (reached_prefix g.O.TextOut.puts g.met.O.TextOut.cut) (c.integers.invariant.left T e limit vs rest is b counted)
+    c.integers.at (as_stop c.put_mark.result) c.closed.result c.closed.ensures refl (omega arith)
+    (took g.O.TextOut.puts c.in_ok-put-2.ensures) (reached g.O.TextOut.puts c.put_mark.result c.put_mark.ensures)
 
 pub returns-clause-stands : goal.returns-clause-stands
 returns-clause-stands g c = end_as _ c.integers.at (as_stop c.put_mark.result) c.closed.result c.closed.ensures

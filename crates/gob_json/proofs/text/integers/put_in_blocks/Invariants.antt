@@ -8,10 +8,10 @@ use Rattle.gob_types.specs.Table.{Table}
 use Rattle.gob_value.specs.Tree.{Trees, tree_count}
 use Rattle.gob_value.specs.Machine.Begins.{BeginsEach}
 use Rattle.gob_json.specs.Json.{elements_json}
-use Rattle.gob_json.specs.Machine.TextSent.{BeginsElements, EndsAt, Reaches}
-use Rattle.gob_json.specs.TextWhole.{IsOfKind}
-use Rattle.gob_json.proofs.EndLaws.{is_known}
-use Rattle.gob_json.proofs.SendLaws.{ElementsWait}
+use Rattle.gob_walk.specs.Standing.{BeginsElements, EndsAt, IsOfKind}
+use Rattle.gob_walk.specs.Told.{Reaches}
+use Rattle.gob_walk.proofs.PublicLaws.{is_known}
+use Rattle.gob_json.proofs.IntLaws.{ElementsWait}
 use Rattle.gob_json.proofs.text.integers.put_in_blocks.Given as goal
 
 abbrev pub invariant-integers : goal.invariant-integers
