@@ -48,9 +48,9 @@ named_word None = 0
 -- the words of a node
 abbrev pub flat : Noted → FlatNode
 flat n = record {
-  number = number_of n.field;
   first = first_number n.content;
   second = second_of n.content;
+  number = number_of n.field;
   kind = content_code n.content;
   named = named_word n.field;
 }

@@ -1,6 +1,6 @@
 //! A tape in words that programs in other languages read: its flat nodes, and its pool. (docs/LIBRARY.md, Flat nodes.)
 
-ghost use Rattle.std.specs.Prelude.{◌≡◌, ◌≤◌, ◌++◌, IsTrue, false, length, map, drop};
+ghost use Rattle.std.specs.Prelude.{◌≡◌, ◌≤◌, ◌++◌, length, map, drop};
 ghost use Rattle.gob_tape.specs.FlatNodes.{flat, number_code, raw_code, group_code};
 
 use crate::node::{Content, Node};
@@ -12,20 +12,23 @@ use gob_types::Basic;
 #[repr(C)]
 #[derive(Clone, Copy)]
 pub struct FlatNode {
-    /// Its number in its struct, from 0, where it is a field; else 0.
-    pub number: u64,
     /// Of a part that is told by its numbers the first; of raw bytes where they begin in the pool, from 0; else
     /// how many elements, pairs or fields there are.
     pub first: u64,
     /// Of a part that is told by its numbers the second; of raw bytes how many there are; else how many nodes the part
     /// has, its own among them.
     pub second: u64,
+    /// Its number in its struct, from 0, where it is a field; else 0.
+    pub number: u32,
     /// 1 bool, 2 int, 3 uint, 4 float, 5 bytes, 6 string, 7 complex, 8 nil, 9 list, 10 map, 11 struct, 12 opaque. The
     /// first eight are the type ids of the basic types.
-    pub kind: u32,
+    pub kind: u16,
     /// 1 where it is a field of a struct, else 0.
-    pub named: u32,
+    pub named: u16,
 }
+
+// After so many nodes the memory of those that were moved is given back.
+const GIVEN_BACK: usize = 65536;
 
 impl Tape {
     /// How many nodes there are.
@@ -42,22 +45,31 @@ impl Tape {
         &self.pool
     }
 
-    /// Writes the words of all nodes to the front of `out`. False exactly where there is no room for them: then nothing
-    /// was written.
-    pub fn write_flat(&self, out: &mut [FlatNode]) -> bool
-        ensures written { IsTrue result
-            → out.new ≡ map flat self.now.nodes ++ drop (length self.now.nodes) out.old }
-        ensures kept { result ≡ false → out.new ≡ out.old }
-        ensures room { length self.now.nodes ≤ length out.old → IsTrue result }
+    /// Moves the words of all nodes to the front of `out`, the last one first. The memory of those that were moved is
+    /// given back meanwhile: so tape and words take little more than one of the two. The pool goes with the tape.
+    pub fn move_flat(self, out: &mut [FlatNode])
+        requires { length self.nodes ≤ length out.old }
+        ensures written { out.new ≡ map flat self.nodes ++ drop (length self.nodes) out.old }
         ensures length { length out.new ≡ length out.old }
     {
-        if self.nodes.len() > out.len() {
-            return false;
+        let Tape { nodes, pool, .. } = self;
+        drop(pool);
+        move_nodes(nodes, out);
+    }
+}
+
+// Moves the words of the nodes to the front of `out`.
+fn move_nodes(nodes: Vec<Node>, out: &mut [FlatNode])
+    requires { length nodes.items ≤ length out.old }
+    ensures { out.new ≡ map flat nodes.items ++ drop (length nodes.items) out.old }
+{
+    let mut left = nodes;
+    'nodes: while let Some(node) = left.pop() {
+        let place = left.len();
+        out[place] = flatten(node);
+        if place % GIVEN_BACK == 0 {
+            left.shrink_to_fit();
         }
-        'nodes: for place in 0..self.nodes.len() {
-            out[place] = flatten(self.nodes[place]);
-        }
-        true
     }
 }
 
@@ -70,18 +82,18 @@ fn flatten(node: Node) -> FlatNode
         Content::Raw(kind, start, count) => (raw_code(kind), start as u64, count as u64),
         Content::Group(kind, count, nodes) => (group_code(kind), count as u64, nodes as u64),
     };
-    let field = node.field();
+    let field = node.kept_field();
     FlatNode {
-        number: field.unwrap_or(0),
         first,
         second,
+        number: field.unwrap_or(0),
         kind,
-        named: field.is_some() as u32,
+        named: field.is_some() as u16,
     }
 }
 
 // The code of a part that is told by its numbers.
-fn number_code(kind: Basic) -> u32
+fn number_code(kind: Basic) -> u16
     ensures { result ≡ number_code kind }
 {
     match kind {
@@ -97,7 +109,7 @@ fn number_code(kind: Basic) -> u32
 }
 
 // The code of a part of raw bytes.
-fn raw_code(kind: RawKind) -> u32
+fn raw_code(kind: RawKind) -> u16
     ensures { result ≡ raw_code kind }
 {
     match kind {
@@ -108,7 +120,7 @@ fn raw_code(kind: RawKind) -> u32
 }
 
 // The code of a part that has parts.
-fn group_code(kind: GroupKind) -> u32
+fn group_code(kind: GroupKind) -> u16
     ensures { result ≡ group_code kind }
 {
     match kind {

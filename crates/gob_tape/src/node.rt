@@ -69,17 +69,17 @@ pub(crate) enum PartKind {
     Group(GroupKind),
 }
 
-/// One part of a value, which contracts see as its number in a struct and its content. Kept in 32 bytes, as a tape has
+/// One part of a value, which contracts see as its number in a struct and its content. Kept in 24 bytes, as a tape has
 /// a node for each part.
 #[derive(Clone, Copy)]
 pub(crate) struct Node {
+    first: u64,
+    second: u64,
+    /// Its number, where it is a field; else 0.
+    number: u32,
     kind: PartKind,
     /// Whether it is a field of a struct.
     named: bool,
-    /// Its number, where it is a field; else 0.
-    number: u64,
-    first: u64,
-    second: u64,
 }
 
 impl Model for Node {
@@ -103,7 +103,7 @@ impl Node {
     ghost use Rattle.gob_tape.specs.Meaning.{node};
 
     /// A node of a part with this number in a struct, or in none.
-    pub(crate) fn new(field: Option<u64>, content: Content) -> Node
+    pub(crate) fn new(field: Option<u32>, content: Content) -> Node
         ensures { result ≡ node field content }
     {
         let (kind, first, second) = match content {
@@ -116,16 +116,27 @@ impl Node {
             ),
         };
         Node {
-            kind,
-            named: field.is_some(),
-            number: field.unwrap_or(0),
             first,
             second,
+            number: field.unwrap_or(0),
+            kind,
+            named: field.is_some(),
         }
     }
 
     /// Its number, where it is a field of a struct.
     pub(crate) fn field(self) -> Option<u64>
+        ensures { result ≡ self.field }
+    {
+        if self.named {
+            Some(self.number as u64)
+        } else {
+            None
+        }
+    }
+
+    /// That number, as a node keeps it.
+    pub(crate) fn kept_field(self) -> Option<u32>
         ensures { result ≡ self.field }
     {
         if self.named { Some(self.number) } else { None }

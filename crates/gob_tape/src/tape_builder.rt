@@ -27,7 +27,7 @@ pub struct TapeBuilder {
     /// The parts that have begun and not ended, innermost last.
     begun: Vec<Begun>,
     /// The number of the next part, in a struct.
-    field: Option<u64>,
+    field: Option<u32>,
     /// The depth of the deepest part so far.
     deepest: u64,
     held: u64,
@@ -88,7 +88,7 @@ impl TapeBuilder {
         let nodes = self.nodes.len();
         let pool = self.pool.len();
         if let Some(node) = self.nodes.get_mut(begun.node) {
-            *node = Node::new(node.field(), node.content().ended(begun, nodes, pool));
+            *node = Node::new(node.kept_field(), node.content().ended(begun, nodes, pool));
         }
     }
 
@@ -105,7 +105,7 @@ impl TapeBuilder {
     }
 
     /// The number of the next part, where it is a field of a struct.
-    pub(crate) fn name(&mut self, field: Option<u64>)
+    pub(crate) fn name(&mut self, field: Option<u32>)
         ensures { TapeGoesOn (state_of self.old) (state_of self.new) (name_told field) }
     {
         if let Some(next) = field {
@@ -204,8 +204,12 @@ impl Builder for TapeBuilder {
         Ok(())
     }
 
+    // (no memory holds the definition of a struct that has a field with a greater number)
     fn field(&mut self, number: u64) -> Result<(), Memory> {
-        self.field = Some(number);
+        if number > u32::MAX as u64 {
+            return Err(Memory);
+        }
+        self.field = Some(number as u32);
         Ok(())
     }
 

@@ -186,7 +186,7 @@ fn tell_part(
     if node.field().is_some() && is_dropped(kind, node.content()) {
         return Ok(());
     }
-    builder.name(node.field());
+    builder.name(node.kept_field());
     builder.begin(node.content(), pool)?;
     enter(place, node.content(), kind, id, stack)
 }

@@ -16,23 +16,23 @@ a field of each kind | 74 | 01 01 01 06 01 07 01 fe 31 40 01 01 41 01 02 68 69 0
 ";
 
 const NO_NODE: FlatNode = FlatNode {
-    number: 7,
     first: 7,
     second: 7,
+    number: 7,
     kind: 7,
     named: 7,
 };
 
-/// Whether the tape has these words and this pool, and there is no room for its nodes in none.
-pub(crate) fn is_flat(tape: &Tape, due: &[u64], pool: &str) -> bool {
+/// Whether the tape has these words and this pool.
+pub(crate) fn is_flat(tape: Tape, due: &[u64], pool: &str) -> bool {
     let mut room = [NO_NODE; 20];
-    let fits_nowhere = !tape.write_flat(&mut []);
-    let is_written = tape.write_flat(&mut room);
-    fits_nowhere
-        && is_written
-        && is_left(room.get(tape.node_count()))
-        && are_nodes(&room, tape.node_count(), due)
-        && is_text(tape.pool(), pool)
+    let count = tape.node_count();
+    let has_pool = is_text(tape.pool(), pool);
+    if count >= room.len() {
+        return false;
+    }
+    tape.move_flat(&mut room);
+    has_pool && is_left(room.get(count)) && are_nodes(&room, count, due)
 }
 
 // Whether the node was left as it was.
@@ -58,7 +58,7 @@ fn are_nodes(room: &[FlatNode], count: usize, due: &[u64]) -> bool {
 fn has_words(node: &FlatNode, words: &[u64]) -> bool {
     words
         == [
-            node.number,
+            u64::from(node.number),
             node.first,
             node.second,
             u64::from(node.kind),

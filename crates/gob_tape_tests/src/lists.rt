@@ -63,11 +63,11 @@ fn is_shown(
     shown: Shown,
     text: &str,
     body: &Body,
-    tape: &Tape,
+    tape: Tape,
 ) -> Result<bool, Memory> {
     match shown {
-        Shown::Parts => tapes::is_right(alloc, table, body, part(text, 4), tape),
-        Shown::Depth => tapes::is_deep(alloc, body, tape),
+        Shown::Parts => tapes::is_right(alloc, table, body, part(text, 4), &tape),
+        Shown::Depth => tapes::is_deep(alloc, body, &tape),
         Shown::Flat => Ok(flat::is_flat(tape, &body.due, part(text, 4))),
         Shown::Sum => { Ok(sum_of_ints(tape.root()) == part(text, 3).parse().unwrap_or(i64::MAX)) }
     }
@@ -83,7 +83,7 @@ fn is_read(
     piece: usize,
 ) -> Result<bool, Memory> {
     match read::<TapeBuilder>(alloc, table, body, piece) {
-        Ok(Some(tape)) => is_shown(alloc, table, shown, text, body, &tape),
+        Ok(Some(tape)) => is_shown(alloc, table, shown, text, body, tape),
         Ok(None) => Ok(false),
         Err(stop) => is_refusal(stop, &body.due),
     }

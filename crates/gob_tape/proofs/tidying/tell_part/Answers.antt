@@ -49,5 +49,5 @@ returns c =
     ] in
     on_ok_weaker c.enter.result
     (λ enter.
-    stays kept c.field-2.ensures c.name.ensures c.content-2.ensures c.in_ok-begin.ensures c.content-3.ensures enter)
+    stays kept c.kept_field.ensures c.name.ensures c.content-2.ensures c.in_ok-begin.ensures c.content-3.ensures enter)
     c.enter.ensures
