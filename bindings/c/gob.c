@@ -9,6 +9,9 @@
 /* So much room there is at first, for the items of a piece of 64 KiB or so. */
 enum { HEADS = 4096, NODES = 32768, BYTES = 262144 };
 
+/* Room for a large item, so many times that at first or more, is given back once the item's pointers stand no more. */
+enum { LARGE = 16 };
+
 struct gob_reader {
     void *raw;
     gob_head *heads;
@@ -118,6 +121,18 @@ static bool more_room(gob_reader *reader) {
     return true;
 }
 
+/* Gives back room that a large item took. */
+static void less_room(gob_reader *reader) {
+    if (reader->node_room >= (size_t)LARGE * NODES) {
+        gob_node *fewer = realloc(reader->nodes, NODES * sizeof *fewer);
+        if (fewer != NULL) reader->nodes = fewer, reader->node_room = NODES;
+    }
+    if (reader->byte_room >= (size_t)LARGE * BYTES) {
+        unsigned char *fewer = realloc(reader->bytes, BYTES);
+        if (fewer != NULL) reader->bytes = fewer, reader->byte_room = BYTES;
+    }
+}
+
 static void hand_out(gob_reader *reader) {
     gob_raw_take(&reader->raw, reader->heads, HEADS, reader->nodes, reader->node_room, reader->bytes, reader->byte_room,
                  &reader->handed);
@@ -130,6 +145,7 @@ static int some_items(gob_reader *reader) {
     hand_out(reader);
     if (reader->handed.items == 0 && reader->handed.waiting != 0 && more_room(reader)) hand_out(reader);
     reader->lacks = reader->handed.items == 0 && reader->handed.waiting != 0;
+    if (reader->handed.items == 0 && !reader->lacks) less_room(reader);
     return reader->lacks ? -1 : reader->handed.items != 0;
 }
 

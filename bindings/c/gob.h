@@ -22,10 +22,10 @@
  * library keeps no pointer that it is given: a piece may be reused as soon as gob_feed returns. What it hands out it
  * owns: see gob_next, gob_take and gob_type for how long that stands. All memory comes from malloc.
  *
- * Memory. A reader takes 1.5 MB, and of an item some 64 bytes for each of its parts while it is handed out; for an
- * interface that holds a number, all in all 350 bytes. An item of 64 MiB, which is the standard limit, may have as
- * many parts as bytes, and takes 4 GB then. A server sets gob_limits.item to what it can spare: 1048576 makes that 64
- * MB.
+ * Memory. A reader takes 1.3 MB, and of an item its bytes and 24 bytes for each of its parts; for an interface that
+ * holds a number, all in all 260 bytes. An item of 64 MiB, the standard limit, may have as many parts as bytes, and
+ * takes 1.7 GB then, or of interfaces 2.2 GB. A server sets gob_limits.item to what it can spare: 1048576 makes that
+ * 35 MB.
  *
  * Misuse. NULL for a reader or a check, as gob_close leaves none, and NULL for a piece that has a length are answered:
  * GOB_MISUSED, -1 or NULL. Nothing can tell a reader that was let go, one that another thread is in, a piece that is
@@ -164,16 +164,16 @@ enum {
  * writer registered the type, and behind it the nodes of the value, which may hold others again.
  *
  * A definition has first a node of the type's kind: `first` and `second` are where its name stands and how long it is,
- * and `number` is an array's length, how many fields a struct has, or of an opaque type 1 for GobEncode, 2 for
- * MarshalBinary and 3 for MarshalText. Behind it stands a node of the kind GOB_TYPE for each type that it names, whose
- * `number` is that type's id: of a list or an array the elements', of a map the keys' and then the elements', of a
- * struct each field's, with the field's name. */
+ * and `number` is of an opaque type 1 for GobEncode, 2 for MarshalBinary and 3 for MarshalText. Behind it stands a node
+ * of the kind GOB_TYPE for each type that it names, whose `number` is that type's id: of a list or an array the
+ * elements', of a map the keys' and then the elements', of a struct each field's, with the field's name. `first` of an
+ * array's is how many elements it has. */
 typedef struct gob_node {
-    uint64_t number; /* of a field of a struct its number there, from 0; else 0 */
     uint64_t first;
     uint64_t second;
-    uint32_t kind;
-    uint32_t named;  /* 1 where it is a field of a struct, else 0 */
+    uint32_t number; /* of a field of a struct its number there, from 0; else 0 */
+    uint16_t kind;
+    uint16_t named;  /* 1 where it is a field of a struct, else 0 */
 } gob_node;
 
 enum { GOB_DEFINE = 1, GOB_VALUE = 2 };

@@ -36,7 +36,7 @@ func (i item) typeOf(id uint32) *Type {
 	case Slice:
 		defined.Elem = uint32(named[0].number)
 	case Array:
-		defined.Elem, defined.Len = uint32(named[0].number), uint64(top.number)
+		defined.Elem, defined.Len = uint32(named[0].number), uint64(named[0].first)
 	case Encoded:
 		defined.Method = methods[top.number]
 	case Structure:

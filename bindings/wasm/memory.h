@@ -4,6 +4,7 @@
 #define GOB_WASM_MEMORY_H
 
 typedef __SIZE_TYPE__ size_t;
+typedef __UINT16_TYPE__ uint16_t;
 typedef __UINT32_TYPE__ uint32_t;
 typedef __INT64_TYPE__ int64_t;
 typedef __UINT64_TYPE__ uint64_t;

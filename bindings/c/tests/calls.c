@@ -56,7 +56,7 @@ static int is_fault(const gob_fault *fault, uint32_t status) {
 static void due_definition(const gob_item *item) {
     DUE(item->kind == GOB_DEFINE && item->id == 65 && item->count == 3 && item->size == 7);
     DUE(memcmp(item->bytes, "PointXY", 7) == 0);
-    DUE(is_node(&item->nodes[0], GOB_STRUCT, 2, 0, 5, 0));
+    DUE(is_node(&item->nodes[0], GOB_STRUCT, 0, 0, 5, 0));
     DUE(is_node(&item->nodes[1], GOB_TYPE, 2, 5, 1, 0));
     DUE(is_node(&item->nodes[2], GOB_TYPE, 2, 6, 1, 0));
 }
@@ -331,8 +331,8 @@ static void fields_are_due(void) {
     DUE(gob_as_bool(NULL, &is) == 0 && gob_as_int(NULL, &number) == 0 && gob_as_text(&item, NULL, &length) == NULL);
     gob_close(reader);
     static const gob_node leaves[] = {
-        {0, 1, 0, GOB_BOOL, 0}, {0, 200, 0, GOB_UINT, 0}, {0, 0x3ff8000000000000, 0, GOB_FLOAT, 0},
-        {0, 1, 2, GOB_STRING, 0},
+        {1, 0, 0, GOB_BOOL, 0}, {200, 0, 0, GOB_UINT, 0}, {0x3ff8000000000000, 0, 0, GOB_FLOAT, 0},
+        {1, 2, 0, GOB_STRING, 0},
     };
     item.bytes = (const unsigned char *)"go!";
     DUE(gob_as_bool(&leaves[0], &is) == 1 && is == 1 && gob_as_uint(&leaves[1], &size) == 1 && size == 200);

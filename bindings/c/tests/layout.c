@@ -21,9 +21,9 @@ int main(void) {
     MEMBER(gob_limits, types);
     MEMBER(gob_limits, stream);
     STRUCT(gob_node);
-    MEMBER(gob_node, number);
     MEMBER(gob_node, first);
     MEMBER(gob_node, second);
+    MEMBER(gob_node, number);
     MEMBER(gob_node, kind);
     MEMBER(gob_node, named);
     STRUCT(gob_item);

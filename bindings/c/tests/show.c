@@ -102,7 +102,7 @@ static const gob_node *put(const gob_item *item, const gob_node *node, uint32_t 
         putchar('[');
         for (uint64_t i = 0; i < node->first; i++) {
             const gob_node *field = &definition->nodes[1 + part->number];
-            printf(i ? ",[%" PRIu64 "," : "[%" PRIu64 ",", part->number);
+            printf(i ? ",[%" PRIu32 "," : "[%" PRIu32 ",", part->number);
             put_text(gob_bytes_of(definition, field), field->second);
             putchar(',');
             part = put(item, part, field->number);
@@ -120,15 +120,15 @@ static void put_type(const gob_item *d) {
     const gob_node *n = d->nodes;
     printf("{\"define\":%" PRIu32, d->id);
     switch (n->kind) {
-    case GOB_ARRAY: printf(",\"elem\":%" PRIu64 ",\"kind\":\"array\",\"len\":%" PRIu64, n[1].number, n->number); break;
-    case GOB_LIST: printf(",\"elem\":%" PRIu64 ",\"kind\":\"slice\"", n[1].number); break;
-    case GOB_MAP: printf(",\"elem\":%" PRIu64 ",\"key\":%" PRIu64 ",\"kind\":\"map\"", n[2].number, n[1].number); break;
+    case GOB_ARRAY: printf(",\"elem\":%" PRIu32 ",\"kind\":\"array\",\"len\":%" PRIu64, n[1].number, n[1].first); break;
+    case GOB_LIST: printf(",\"elem\":%" PRIu32 ",\"kind\":\"slice\"", n[1].number); break;
+    case GOB_MAP: printf(",\"elem\":%" PRIu32 ",\"key\":%" PRIu32 ",\"kind\":\"map\"", n[2].number, n[1].number); break;
     case GOB_STRUCT:
         printf(",\"fields\":[");
         for (size_t i = 1; i < d->count; i++) {
             printf(i > 1 ? ",[" : "[");
             put_text(gob_bytes_of(d, &n[i]), n[i].second);
-            printf(",%" PRIu64 "]", n[i].number);
+            printf(",%" PRIu32 "]", n[i].number);
         }
         printf("],\"kind\":\"struct\"");
         break;

@@ -4,7 +4,7 @@
 const OK = 0, REFUSED = 1, NO_MEMORY = 2;
 const PIECE = 1 << 18;
 // so many bytes a head of an item, a node and a fault have, and what a call tells: a batch at the most, of 48
-const HEAD = 64, NODE = 32, FAULT = 40, TOLD = 128;
+const HEAD = 64, NODE = 24, FAULT = 40, TOLD = 128;
 
 /** Items that the library handed out: their heads, their nodes and their bytes, as gob.h lays them out. */
 class Batch {
@@ -32,24 +32,23 @@ class Batch {
     offset(word) { return this.shift + 0x100000000 * this.heads[word + 1] + this.heads[word]; }
 
     // of a node
-    kind(node) { return this.words[8 * node + 6]; }
-    number(node) { return this.words[8 * node]; }
-    wide(node) { return this.wides[4 * node]; }
-    low(node) { return this.words[8 * node + 2]; }
-    high(node) { return this.words[8 * node + 3]; }
-    bits(node, which) { return this.wides[4 * node + 1 + which]; }
-    real(node, which) { return this.reals[4 * node + 1 + which]; }
-    length(node) { return this.words[8 * node + 4]; }
+    kind(node) { return this.words[6 * node + 5] & 0xffff; }
+    number(node) { return this.words[6 * node + 4]; }
+    low(node) { return this.words[6 * node]; }
+    high(node) { return this.words[6 * node + 1]; }
+    bits(node, which) { return this.wides[3 * node + which]; }
+    real(node, which) { return this.reals[3 * node + which]; }
+    length(node) { return this.words[6 * node + 2]; }
 
     /** The node behind this part and all that is in it. */
     after(node) {
-        const kind = this.words[8 * node + 6];
-        return node + (kind >= LIST && kind <= STRUCT ? this.words[8 * node + 4] : 1);
+        const kind = this.kind(node);
+        return node + (kind >= LIST && kind <= STRUCT ? this.length(node) : 1);
     }
 
     /** The number of an int in decimal; small ones are told without numbers of 64 bits, which are slow. */
     integer(node) {
-        const low = this.words[8 * node + 2];
+        const low = this.low(node);
         if (this.high(node) !== 0) return signedOf(this.bits(node, 0)).toString();
         return String(low & 1 ? -(low >>> 1) - 1 : low >>> 1);
     }
@@ -83,7 +82,7 @@ class Batch {
     copy(from, to) {
         const node = this.node(from), base = this.base(from), last = to - 1;
         const heads = this.heads.slice(16 * from, 16 * to);
-        const words = this.words.slice(8 * node, 8 * (this.node(last) + this.nodes(last)));
+        const words = this.words.slice(6 * node, 6 * (this.node(last) + this.nodes(last)));
         const pool = this.pool.slice(base, this.base(last) + this.size(last));
         for (let item = 0; item < to - from; item++) {
             heads[16 * item + 2] -= node;

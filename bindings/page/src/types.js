@@ -11,7 +11,7 @@ function typeOf(id, batch, node, count, base) {
     const named = (behind) => batch.number(node + behind);
     switch (batch.kind(node)) {
     case LIST: return { id, name, kind: "slice", elem: named(1) };
-    case ARRAY: return { id, name, kind: "array", elem: named(1), len: batch.wide(node) };
+    case ARRAY: return { id, name, kind: "array", elem: named(1), len: batch.bits(node + 1, 0) };
     case MAP: return { id, name, kind: "map", key: named(1), elem: named(2) };
     case OPAQUE: return { id, name, kind: "opaque", marshal: MARSHAL[named(0)] };
     default: return { id, name, kind: "struct", fields: fieldsOf(batch, node, count, base) };

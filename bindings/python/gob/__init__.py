@@ -285,7 +285,7 @@ class Reader:
         for at, kind in enumerate(kinds if 1 in kinds else []):
             if kind == 1:
                 id, first, count, begin, size = heads[_HEAD_WORDS * at:][:5].tolist()
-                of_nodes = words[4 * first:4 * (first + count)].tolist()
+                of_nodes = words[3 * first:3 * (first + count)].tolist()
                 self._types[id] = _type_from(id, of_nodes, pool[begin:begin + size])
                 self._order.append(id)
 
@@ -344,7 +344,8 @@ def _copied(at: int | None, size: int) -> bytes:
 
 
 def _type_from(id: int, words: list[int], names: bytes) -> Type:
-    nodes = [(*words[i:i + 3], words[i + 3] & 0xFFFFFFFF) for i in range(0, len(words), 4)]
+    nodes = [(first, second, last & 0xFFFFFFFF, last >> 32 & 0xFFFF)
+             for first, second, last in zip(words[0::3], words[1::3], words[2::3])]
     return type_of(id, nodes, lambda start, count: names[start:start + count].decode("utf-8", "surrogateescape"))
 
 

@@ -60,11 +60,11 @@ class Decoder:
         self.made: dict[int, _Decode] = {}
 
     def fill(self, nodes: memoryview, pool: bytes) -> None:
-        """Takes the next batch: its nodes, four words each, which stand until the next, and its bytes."""
+        """Takes the next batch: its nodes, three words each, which stand until the next, and its bytes."""
         words = nodes.cast("Q")
-        self.number[:] = words[0::4].tolist()
-        self.first[:] = words[1::4].tolist()
-        self.second[:] = words[2::4].tolist()
+        self.first[:] = words[0::3].tolist()
+        self.second[:] = words[1::3].tolist()
+        self.number[:] = nodes.cast("I")[4::6].tolist()
         self.nodes = nodes
         if self.has_reals:
             self._fill_reals()
@@ -78,7 +78,7 @@ class Decoder:
     def _fill_reals(self) -> None:
         """From the first float on each number is told as one too."""
         self.has_reals = True
-        self.reals[:] = self.nodes.cast("d")[1::4].tolist()
+        self.reals[:] = self.nodes.cast("d")[0::3].tolist()
 
     def of(self, id: int) -> _Decode:
         """The decoder of a type."""

@@ -50,8 +50,8 @@ class Counts(ctypes.Structure):
 class Node(ctypes.Structure):
     """gob_node."""
 
-    _fields_ = [("number", ctypes.c_uint64), ("first", ctypes.c_uint64), ("second", ctypes.c_uint64),
-                ("kind", ctypes.c_uint32), ("named", ctypes.c_uint32)]
+    _fields_ = [("first", ctypes.c_uint64), ("second", ctypes.c_uint64), ("number", ctypes.c_uint32),
+                ("kind", ctypes.c_uint16), ("named", ctypes.c_uint16)]
 
 
 class Item(ctypes.Structure):

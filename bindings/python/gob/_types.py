@@ -45,15 +45,15 @@ class Type:
 
 
 def type_of(id: int, nodes: Sequence[Sequence[int]], text: Callable[[int, int], str]) -> Type:
-    """The type that a definition's nodes give: a list of (number, first, second, kind), and what gives a name."""
-    number, first, second, word = nodes[0]
+    """The type that a definition's nodes give: a list of (first, second, number, kind), and what gives a name."""
+    first, second, number, word = nodes[0]
     name, kind, rest = text(first, second), _KINDS[word], nodes[1:]
     if kind == "struct":
-        return Type(id, name, kind, fields=tuple(Field(text(f, s), n) for n, f, s, _ in rest))
+        return Type(id, name, kind, fields=tuple(Field(text(f, s), n) for f, s, n, _ in rest))
     if kind == "map":
-        return Type(id, name, kind, key=rest[0][0], elem=rest[1][0])
+        return Type(id, name, kind, key=rest[0][2], elem=rest[1][2])
     if kind == "array":
-        return Type(id, name, kind, elem=rest[0][0], len=number)
+        return Type(id, name, kind, elem=rest[0][2], len=rest[0][0])
     if kind == "slice":
-        return Type(id, name, kind, elem=rest[0][0])
+        return Type(id, name, kind, elem=rest[0][2])
     return Type(id, name, kind, marshal=MARSHAL.get(number, ""))

@@ -100,7 +100,7 @@ impl<'a> Part<'a> {
 
     fn held(&self) -> Held<'a> {
         let (place, id) = (self.at + self.node().first as usize, self.node().second as u32);
-        Held { name: self.part(place, raw::STRING).raw(), part: self.part(place + 1, id) }
+        Held { name: self.part(place, raw::STRING.into()).raw(), part: self.part(place + 1, id) }
     }
 
     fn parts(&self) -> Parts<'a> {

@@ -13,19 +13,19 @@ pub const BAD_LIMITS: u32 = 4;
 
 pub const DEFINE: u32 = 1;
 
-pub const BOOL: u32 = 1;
-pub const INT: u32 = 2;
-pub const UINT: u32 = 3;
-pub const FLOAT: u32 = 4;
-pub const BYTES: u32 = 5;
-pub const STRING: u32 = 6;
-pub const COMPLEX: u32 = 7;
-pub const LIST: u32 = 9;
-pub const MAP: u32 = 10;
-pub const STRUCT: u32 = 11;
-pub const OPAQUE: u32 = 12;
-pub const ARRAY: u32 = 13;
-pub const HELD: u32 = 15;
+pub const BOOL: u16 = 1;
+pub const INT: u16 = 2;
+pub const UINT: u16 = 3;
+pub const FLOAT: u16 = 4;
+pub const BYTES: u16 = 5;
+pub const STRING: u16 = 6;
+pub const COMPLEX: u16 = 7;
+pub const LIST: u16 = 9;
+pub const MAP: u16 = 10;
+pub const STRUCT: u16 = 11;
+pub const OPAQUE: u16 = 12;
+pub const ARRAY: u16 = 13;
+pub const HELD: u16 = 15;
 
 /// gob_reader, of which the library alone knows what it is.
 #[repr(C)]
@@ -55,11 +55,11 @@ pub struct Limits {
 #[repr(C)]
 #[derive(Clone, Copy)]
 pub struct Node {
-    pub number: u64,
     pub first: u64,
     pub second: u64,
-    pub kind: u32,
-    pub named: u32,
+    pub number: u32,
+    pub kind: u16,
+    pub named: u16,
 }
 
 #[repr(C)]
@@ -77,7 +77,7 @@ pub struct Item {
 
 // what they take in gob.h, where pointers have 64 bits
 const _: () = assert!(size_of::<Fault>() == 40 && size_of::<Limits>() == 32);
-const _: () = assert!(size_of::<Node>() == 32 && size_of::<Item>() == 56);
+const _: () = assert!(size_of::<Node>() == 24 && size_of::<Item>() == 56);
 
 extern "C" {
     pub fn gob_abi() -> u32;

@@ -84,7 +84,7 @@ fn type_of(id: u32, nodes: &[raw::Node], bytes: &[u8]) -> Type {
     let (own, named) = (&nodes[0], &nodes[1..]);
     let kind = match own.kind {
         raw::LIST => Kind::Slice { elem: id_of(&named[0]) },
-        raw::ARRAY => Kind::Array { elem: id_of(&named[0]), len: own.number },
+        raw::ARRAY => Kind::Array { elem: id_of(&named[0]), len: named[0].first },
         raw::MAP => Kind::Map { key: id_of(&named[0]), elem: id_of(&named[1]) },
         raw::STRUCT => Kind::Struct { fields: named.iter().map(|node| field_of(node, bytes)).collect() },
         _ => Kind::Opaque { marshal: marshal_of(own.number) },
@@ -93,14 +93,14 @@ fn type_of(id: u32, nodes: &[raw::Node], bytes: &[u8]) -> Type {
 }
 
 fn id_of(node: &raw::Node) -> u32 {
-    node.number as u32
+    node.number
 }
 
 fn field_of(node: &raw::Node, bytes: &[u8]) -> Field {
     Field { name: raw_bytes(node, bytes).to_vec(), id: id_of(node) }
 }
 
-fn marshal_of(number: u64) -> Marshal {
+fn marshal_of(number: u32) -> Marshal {
     match number {
         1 => Marshal::GobEncode,
         2 => Marshal::MarshalBinary,

@@ -3,3 +3,4 @@ mod FillingLaws
 mod EverLaws
 mod ReadingLaws
 mod HandoutLaws
+mod LeftLaws

@@ -2,7 +2,7 @@
 use Rattle.std.proofs.Common.{◌≡◌, ℕ, ◌+◌, ◌-◌, ◌<◌, ◌≤◌, take, get_or, subst, set, ap₂, drop, refl, suc, min}
 use Rattle.std.proofs.Common.{List, [], ◌∷◌, ◌++◌, length, append_assoc, arith, sym, ap, ◌∙◌}
 use Rattle.std.proofs.lemmas.List.{length-append, append-nil, length-take, take_more, take_more_set, take-take}
-use Rattle.std.proofs.lemmas.List.{take-append-drop, drop_more}
+use Rattle.std.proofs.lemmas.List.{take-append-drop, drop_more, get_or-drop}
 use Rattle.gob_tape.specs.declared.flat.FlatNode.{FlatNode}
 use Rattle.gob_types.specs.declared.kind.Field.{Field}
 use Rattle.gob_types.specs.Table.{Table}
@@ -11,7 +11,7 @@ use Rattle.gob_handed.specs.Handed.{AreHanded, one_more, handout_head, handout_n
 use Rattle.gob_handed.specs.declared.handout.Handout.{Handout}
 use Rattle.gob_handed.specs.declared.place.Place.{Place}
 use Rattle.gob_handed.specs.Puts.{PutsNodes, PutsBytes}
-use Rattle.gob_handed.specs.Definition.{name_node, field_nodes, field_names}
+use Rattle.gob_handed.specs.Definition.{name_node, id_number, field_nodes, field_names}
 
 -- ---- one behind another
 pub nodes_on : {a b c : Place} {o n m xs ys : List FlatNode} → PutsNodes a b o n xs → PutsNodes b c n m ys
@@ -62,12 +62,12 @@ kept_bytes_on a b o m n bs puts = kept_on a.bytes b.bytes o m n (omega (arith, p
 -- ---- fields
 -- one more field
 pub field_nodes-more : (start : ℕ) (fs : List Field) (f : Field) → field_nodes start (fs ++ f ∷ [])
-    ≡ field_nodes start fs ++ name_node 14 f.id.0 (start + length (field_names fs)) f.name ∷ []
-field_nodes-more start [] f = ap (λ n. name_node 14 f.id.0 n f.name ∷ []) (omega arith)
+    ≡ field_nodes start fs ++ name_node 14 (id_number f.id) (start + length (field_names fs)) f.name ∷ []
+field_nodes-more start [] f = ap (λ n. name_node 14 (id_number f.id) n f.name ∷ []) (omega arith)
 field_nodes-more start (g ∷ fs) f =
     let next = start + length g.name in
-    ap (λ l. name_node 14 g.id.0 start g.name ∷ l) (field_nodes-more next fs f
-    ∙ ap (λ n. field_nodes next fs ++ name_node 14 f.id.0 n f.name ∷ [])
+    ap (λ l. name_node 14 (id_number g.id) start g.name ∷ l) (field_nodes-more next fs f
+    ∙ ap (λ n. field_nodes next fs ++ name_node 14 (id_number f.id) n f.name ∷ [])
     (omega (arith, length-append g.name (field_names fs))))
 
 pub field_names-more : (fs : List Field) (f : Field) → field_names (fs ++ f ∷ []) ≡ field_names fs ++ f.name
@@ -85,7 +85,7 @@ pub field_step : (from at to : Place) (base : ℕ) (o n m : List FlatNode) (p q 
     (f : Field) (name : List ℕ) → i < length fs → f ≡ get_or fs i f → name ≡ f.name → base ≤ from.bytes
     → PutsNodes from at o n (field_nodes (from.bytes - base) (take i fs))
     × PutsBytes from at p q (field_names (take i fs))
-    → PutsNodes at to n m (name_node 14 f.id.0 (at.bytes - base) name ∷ []) → PutsBytes at to q r name
+    → PutsNodes at to n m (name_node 14 (id_number f.id) (at.bytes - base) name ∷ []) → PutsBytes at to q r name
     → PutsNodes from to o m (field_nodes (from.bytes - base) (take (i + 1) fs))
     × PutsBytes from to p r (field_names (take (i + 1) fs))
 field_step from at to base o n m p q r fs i f name lt is named le before ns bs =
@@ -93,10 +93,10 @@ field_step from at to base o n m p q r fs i f name lt is named le before ns bs =
     let prefix = field_nodes s (take i fs) in
     let more : take (i + 1) fs ≡ take i fs ++ f ∷ [] = take_more fs i f lt ∙ ap (λ x. take i fs ++ x ∷ []) (sym is) in
     let start : s + length (field_names (take i fs)) ≡ at.bytes - base = omega (arith, before.1.end) in
-    let nodes : field_nodes s (take (i + 1) fs) ≡ prefix ++ name_node 14 f.id.0 (at.bytes - base) name ∷ [] =
+    let nodes : field_nodes s (take (i + 1) fs) ≡ prefix ++ name_node 14 (id_number f.id) (at.bytes - base) name ∷ [] =
     ap (λ l. field_nodes s l) more ∙ field_nodes-more s (take i fs) f
-    ∙ ap (λ k. prefix ++ name_node 14 f.id.0 k f.name ∷ []) start
-    ∙ ap (λ l. prefix ++ name_node 14 f.id.0 (at.bytes - base) l ∷ []) (sym named) in
+    ∙ ap (λ k. prefix ++ name_node 14 (id_number f.id) k f.name ∷ []) start
+    ∙ ap (λ l. prefix ++ name_node 14 (id_number f.id) (at.bytes - base) l ∷ []) (sym named) in
     let bytes : field_names (take (i + 1) fs) ≡ field_names (take i fs) ++ name =
     ap field_names more ∙ field_names-more (take i fs) f ∙ ap (λ l. field_names (take i fs) ++ l) (sym named) in (
       subst (λ l. PutsNodes from to o m l) (sym nodes) (nodes_on before.0 ns),
@@ -151,6 +151,12 @@ names_step fs i f b m lt is before =
     omega (arith, before, long)
 
 -- ---- handouts
+-- lists that are the same from there on have the same there
+pub same_at : {X : Type 0} (xs ys : List X) (i : ℕ) (d : X) → drop i xs ≡ drop i ys → get_or xs i d ≡ get_or ys i d
+same_at xs ys i d e =
+    ap (λ n. get_or xs n d) (omega arith) ∙ sym (get_or-drop i xs 0 d) ∙ ap (λ l. get_or l 0 d) e ∙ get_or-drop i ys 0 d
+    ∙ ap (λ n. get_or ys n d) (omega arith)
+
 -- one more
 pub hand_step : (T : Table) (handouts : List Handout) (i : ℕ) (handout : Handout) (heads : List Head) (head : Head)
     (at to : Place) (nodes nodes' : List FlatNode) (pool pool' : List ℕ)

@@ -1,6 +1,6 @@
 -- A definition as nodes: one of its kind and name, and behind it one for each type that it names. Names stand in the
 -- item's bytes. (docs/LIBRARY.md, Flat nodes: this project's own.)
-use Rattle.std.specs.Prelude.{ℕ, ◌+◌, List, [], ◌∷◌, ◌++◌, Option, Some, None, length}
+use Rattle.std.specs.Prelude.{ℕ, ◌+◌, ◌-◌, ◌^◌, List, [], ◌∷◌, ◌++◌, Option, Some, None, length, min}
 use Rattle.gob_types.specs.declared.id.TypeId.{TypeId}
 use Rattle.gob_types.specs.declared.kind.Field.{Field}
 use Rattle.gob_types.specs.declared.kind.Kind.{Kind}
@@ -13,21 +13,29 @@ use Rattle.gob_tape.specs.declared.flat.FlatNode.{FlatNode}
 -- a node with a name, which begins there in the item's bytes
 abbrev pub name_node : (kind number start : ℕ) → (name : List ℕ) → FlatNode
 name_node kind number start name = record {
-  number = number;
   first = start;
   second = length name;
+  number = number;
   kind = kind;
   named = 0;
 }
 
+-- the number of a type, in 32 bits: no type of a stream has a greater one than 2 ^ 31 - 1
+abbrev pub id_number : TypeId → ℕ
+id_number id = min id.0 (2 ^ 32 - 1)
+
+-- a node that names the type of the elements of an array that has so many
+abbrev pub elem_node : TypeId → ℕ → FlatNode
+elem_node id count = record { first = count; second = 0; number = id_number id; kind = 14; named = 0 }
+
 -- a node that names a type
 abbrev pub type_node : TypeId → FlatNode
-type_node id = record { number = id.0; first = 0; second = 0; kind = 14; named = 0 }
+type_node id = elem_node id 0
 
 -- the fields of a struct, whose names begin there
 abbrev pub field_nodes : ℕ → List Field → List FlatNode
 field_nodes start [] = []
-field_nodes start (f ∷ fs) = name_node 14 f.id.0 start f.name ∷ field_nodes (start + length f.name) fs
+field_nodes start (f ∷ fs) = name_node 14 (id_number f.id) start f.name ∷ field_nodes (start + length f.name) fs
 
 -- their names, one behind another
 abbrev pub field_names : List Field → List ℕ
@@ -49,16 +57,14 @@ marshal_code marshal.Gob = 1
 marshal_code marshal.Binary = 2
 marshal_code marshal.Text = 3
 
--- an array's length, how many fields a struct has, or by which method a type encodes itself
+-- by which method an opaque type does
 abbrev pub kind_number : Kind → ℕ
-kind_number (kind.Array e n) = n
-kind_number (kind.Struct fs) = length fs
 kind_number (kind.Opaque m) = marshal_code m
 kind_number _ = 0
 
 -- the nodes behind the first; names begin there
 abbrev pub named_nodes : ℕ → Kind → List FlatNode
-named_nodes start (kind.Array e n) = type_node e ∷ []
+named_nodes start (kind.Array e n) = elem_node e n ∷ []
 named_nodes start (kind.Slice e) = type_node e ∷ []
 named_nodes start (kind.Map k e) = type_node k ∷ (type_node e ∷ [])
 named_nodes start (kind.Struct fs) = field_nodes start fs

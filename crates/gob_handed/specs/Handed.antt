@@ -12,23 +12,26 @@ use Rattle.gob_handed.specs.declared.handout.Content.{Content}
 use Rattle.gob_handed.specs.declared.handout.Content.TheVariants as content
 use Rattle.gob_handed.specs.Definition.{shape_nodes, shape_bytes}
 
--- 1 for a definition, 2 for a value
+-- 1 for a definition, 2 for a value, 0 where it was handed out
 abbrev pub content_kind : Content → ℕ
 content_kind content.Definition = 1
 content_kind (content.Tape tape) = 2
 content_kind (content.Filled value) = 2
+content_kind content.Handed = 0
 
 -- the nodes of what is given of the type: of a definition those of the shape that the type has in the table
 abbrev pub content_nodes : Table → TypeId → Content → List FlatNode
 content_nodes T id content.Definition = shape_nodes (shape_of T id)
 content_nodes T id (content.Tape tape) = map flat tape.nodes
 content_nodes T id (content.Filled value) = value.nodes.items
+content_nodes T id content.Handed = []
 
 -- and its bytes
 abbrev pub content_bytes : Table → TypeId → Content → List ℕ
 content_bytes T id content.Definition = shape_bytes (shape_of T id)
 content_bytes T id (content.Tape tape) = tape.pool
 content_bytes T id (content.Filled value) = value.pool.items
+content_bytes T id content.Handed = []
 
 abbrev pub handout_nodes : Table → Handout → List FlatNode
 handout_nodes T u = content_nodes T u.id u.content

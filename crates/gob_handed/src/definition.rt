@@ -3,7 +3,8 @@
 ghost use Rattle.std.specs.Prelude.{◌≡◌, ◌≤◌, ◌+◌, ◌-◌, ◌∷◌, ◌^◌, [], IfSome, IsSome, length, take, min};
 ghost use Rattle.std.specs.Option.{option_copied};
 ghost use Rattle.gob_handed.specs.Puts.{PutsNodes, PutsBytes};
-ghost use Rattle.gob_handed.specs.Definition.{name_node, type_node, field_nodes, field_names, kind_code, kind_number};
+ghost use Rattle.gob_handed.specs.Definition.{name_node, type_node, elem_node, id_number, field_nodes, field_names};
+ghost use Rattle.gob_handed.specs.Definition.{kind_code, kind_number};
 ghost use Rattle.gob_handed.specs.Definition.{named_nodes, named_bytes, shape_nodes, shape_bytes};
 
 use crate::place::Place;
@@ -11,17 +12,17 @@ use gob_tape::FlatNode;
 use gob_types::{Field, Kind, Marshal, Shape, TypeId};
 
 // The kinds of nodes. The first four are those that parts of values have too.
-const LIST: u32 = 9;
+const LIST: u16 = 9;
 
-const MAP: u32 = 10;
+const MAP: u16 = 10;
 
-const STRUCT: u32 = 11;
+const STRUCT: u16 = 11;
 
-const OPAQUE: u32 = 12;
+const OPAQUE: u16 = 12;
 
-const ARRAY: u32 = 13;
+const ARRAY: u16 = 13;
 
-const REFERENCE: u32 = 14;
+const REFERENCE: u16 = 14;
 
 /// The place behind the definition of a type that is put here: a node of its kind and name, and one for each type that
 /// it names, in order: of an array or a slice the elements', of a map the keys' and the elements', of a struct each
@@ -83,7 +84,7 @@ fn put_named(
     ensures same_bytes { length pool.new ≡ length pool.old }
 {
     match kind {
-        Kind::Array { elem, .. } => put_type(*elem, at, nodes),
+        Kind::Array { elem, len } => put_elem(*elem, *len, at, nodes),
         Kind::Slice { elem } => put_type(*elem, at, nodes),
         Kind::Map { key, elem } => put_types(*key, *elem, at, nodes),
         Kind::Struct { fields } => put_fields(fields.as_slice(), base, at, nodes, pool),
@@ -92,17 +93,16 @@ fn put_named(
     }
 }
 
-// The code of a kind, and its number: an array's length, a struct's count of fields, or by which method a type encodes
-// itself.
-fn head_of(kind: &Kind) -> (u32, u64)
+// The code of a kind, and by which method a type encodes itself.
+fn head_of(kind: &Kind) -> (u16, u32)
     ensures { (result.0 ≡ kind_code kind.now) × (result.1 ≡ kind_number kind.now) }
 {
     match kind {
         Kind::Basic(_) => (REFERENCE, 0),
-        Kind::Array { len, .. } => (ARRAY, *len),
+        Kind::Array { .. } => (ARRAY, 0),
         Kind::Slice { .. } => (LIST, 0),
         Kind::Map { .. } => (MAP, 0),
-        Kind::Struct { fields } => (STRUCT, fields.count()),
+        Kind::Struct { .. } => (STRUCT, 0),
         Kind::Opaque(Marshal::Gob) => (OPAQUE, 1),
         Kind::Opaque(Marshal::Binary) => (OPAQUE, 2),
         Kind::Opaque(Marshal::Text) => (OPAQUE, 3),
@@ -111,8 +111,8 @@ fn head_of(kind: &Kind) -> (u32, u64)
 
 // The place behind a node with a name. The item's bytes begin at `base`.
 fn put_name(
-    kind: u32,
-    number: u64,
+    kind: u16,
+    number: u32,
     name: &[u8],
     base: usize,
     at: Place,
@@ -131,9 +131,9 @@ fn put_name(
     let first = at.bytes.saturating_sub(base) as u64;
     let behind = at.bytes(pool, name)?;
     let node = FlatNode {
-        number,
         first,
         second: name.len() as u64,
+        number,
         kind,
         named: 0,
     };
@@ -148,14 +148,32 @@ fn put_type(id: TypeId, at: Place, nodes: &mut [FlatNode]) -> Option<Place>
     ensures kept_nodes { take at.nodes nodes.new ≡ take at.nodes nodes.old }
     ensures same_nodes { length nodes.new ≡ length nodes.old }
 {
+    put_elem(id, 0, at, nodes)
+}
+
+// The place behind a node that names the type of the elements of an array that has so many.
+fn put_elem(id: TypeId, count: u64, at: Place, nodes: &mut [FlatNode]) -> Option<Place>
+    ensures nodes { IfSome result (λ to. PutsNodes at to nodes.old nodes.new (elem_node id count ∷ [])) }
+    ensures bytes { IfSome result (λ to. to.bytes ≡ at.bytes) }
+    ensures room { at.nodes + 1 ≤ length nodes.old → IsSome result }
+    ensures kept_nodes { take at.nodes nodes.new ≡ take at.nodes nodes.old }
+    ensures same_nodes { length nodes.new ≡ length nodes.old }
+{
     let node = FlatNode {
-        number: id.0,
-        first: 0,
+        first: count,
         second: 0,
+        number: id_number(id),
         kind: REFERENCE,
         named: 0,
     };
     at.node(nodes, node)
+}
+
+// The number of a type, as a node has it.
+fn id_number(id: TypeId) -> u32
+    ensures { result ≡ id_number id }
+{
+    id.0.min(u32::MAX as u64) as u32
 }
 
 // The place behind the nodes of a map's types.
@@ -199,7 +217,7 @@ fn put_fields(
         let field = &fields[place];
         at = put_name(
             REFERENCE,
-            field.id.0,
+            id_number(field.id),
             field.name.as_bytes(),
             base,
             at,

@@ -19,20 +19,20 @@ use gob_types::{Table, TypeId};
 use std::alloc::Global;
 
 // The kinds of the nodes that are made here, or looked at. No part of a skeleton is an interface that holds a value.
-const BYTES: u32 = 5;
+const BYTES: u16 = 5;
 
-const TEXT: u32 = 6;
+const TEXT: u16 = 6;
 
-const NIL: u32 = 8;
+const NIL: u16 = 8;
 
-const OPAQUE: u32 = 12;
+const OPAQUE: u16 = 12;
 
-const HELD: u32 = 15;
+const HELD: u16 = 15;
 
 const NO_NODE: FlatNode = FlatNode {
-    number: 0,
     first: 0,
     second: 0,
+    number: 0,
     kind: 0,
     named: 0,
 };
@@ -77,7 +77,7 @@ pub(crate) fn push_value(
     let tape = tape_of(alloc, table, id, &value.skeleton)?;
     let gaps = gaps_of(alloc, table, id, &value.skeleton, &value.fillings)?;
     let first = out.nodes.len();
-    push_tape(alloc, &tape, out)?;
+    push_tape(tape, out)?;
     push_fillings(alloc, table, first, &value.fillings, &gaps, out)
 }
 
@@ -147,9 +147,9 @@ fn hold(nil: usize, id: TypeId, out: &mut FlatValue) -> Result<(), Memory>
         return Err(Memory);
     }
     out.nodes[nil] = FlatNode {
-        number: old.number,
         first: (count - nil) as u64,
         second: id.0,
+        number: old.number,
         kind: HELD,
         named: old.named,
     };
@@ -163,9 +163,9 @@ fn push_name(name: &[u8], out: &mut FlatValue) -> Result<(), Memory>
     ensures pool { OnOk result (out.new.pool.items ≡ out.old.pool.items ++ name.now) }
 {
     out.nodes.push(FlatNode {
-        number: 0,
         first: out.pool.len() as u64,
         second: name.len() as u64,
+        number: 0,
         kind: TEXT,
         named: 0,
     })?;
@@ -173,34 +173,27 @@ fn push_name(name: &[u8], out: &mut FlatValue) -> Result<(), Memory>
 }
 
 /// Appends the nodes and the bytes of a tape.
-fn push_tape(alloc: Global, tape: &Tape, out: &mut FlatValue) -> Result<(), Memory>
+fn push_tape(tape: Tape, out: &mut FlatValue) -> Result<(), Memory>
     ensures nodes { OnOk result (out.new.nodes.items
-        ≡ out.old.nodes.items ++ map (behind (length out.old.pool.items)) (map flat tape.now.nodes)) }
-    ensures pool { OnOk result (out.new.pool.items ≡ out.old.pool.items ++ tape.now.pool) }
+        ≡ out.old.nodes.items ++ map (behind (length out.old.pool.items)) (map flat tape.nodes)) }
+    ensures pool { OnOk result (out.new.pool.items ≡ out.old.pool.items ++ tape.pool) }
 {
-    let words = words_of(alloc, tape)?;
-    push_behind(out.pool.len() as u64, &words, &mut out.nodes)?;
-    Ok(out.pool.extend_from_slice(tape.pool())?)
+    let more = out.pool.len() as u64;
+    out.pool.extend_from_slice(tape.pool())?;
+    let first = out.nodes.len();
+    let count = tape.node_count();
+    let all = first.checked_add(count).ok_or(Memory)?;
+    out.nodes.resize(all, NO_NODE)?;
+    tape.move_flat(&mut out.nodes[first..]);
+    put_behind(more, &mut out.nodes[first..])
 }
 
-/// The words of the nodes of a tape.
-fn words_of(alloc: Global, tape: &Tape) -> Result<Vec<FlatNode>, Memory>
-    ensures { IfOk result (λ words. words.items ≡ map flat tape.now.nodes) }
-{
-    let mut words = vec![in alloc; NO_NODE; tape.node_count()]?;
-    if !tape.write_flat(&mut words) {
-        return Err(Memory);
-    }
-    Ok(words)
-}
-
-/// Appends the nodes, whose bytes stand behind so many others.
-fn push_behind(more: u64, nodes: &[FlatNode], out: &mut Vec<FlatNode>) -> Result<(), Memory>
-    ensures { OnOk result (out.new.items ≡ out.old.items ++ map (behind more) nodes.now) }
+/// Puts each node behind so many other bytes.
+fn put_behind(more: u64, nodes: &mut [FlatNode]) -> Result<(), Memory>
+    ensures { OnOk result (nodes.new ≡ map (behind more) nodes.old) }
 {
     'nodes: for place in 0..nodes.len() {
-        let node = behind(more, nodes[place])?;
-        out.push(node)?;
+        nodes[place] = behind(more, nodes[place])?;
     }
     Ok(())
 }
@@ -211,16 +204,16 @@ fn behind(more: u64, node: FlatNode) -> Result<FlatNode, Memory>
 {
     let first = begun(more, node.kind, node.first)?;
     Ok(FlatNode {
-        number: node.number,
         first,
         second: node.second,
+        number: node.number,
         kind: node.kind,
         named: node.named,
     })
 }
 
 /// Where the bytes begin of a node of this kind, behind so many others.
-fn begun(more: u64, kind: u32, first: u64) -> Result<u64, Memory>
+fn begun(more: u64, kind: u16, first: u64) -> Result<u64, Memory>
     ensures { IfOk result (λ n. n ≡ begun more kind first) }
 {
     if kind == BYTES || kind == TEXT || kind == OPAQUE {

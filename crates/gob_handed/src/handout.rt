@@ -38,6 +38,8 @@ pub enum Content {
     Tape(Tape),
     /// A value with the others that it holds.
     Filled(FlatValue),
+    /// Nothing more, since it was handed out.
+    Handed,
 }
 
 /// Appends a handout.

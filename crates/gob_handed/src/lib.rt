@@ -9,7 +9,7 @@
 //!
 //! ```text
 //! heads    define 65: 3 nodes from 0, 7 bytes from 0     value of 65: 3 nodes from 3, 0 bytes from 7
-//! nodes    struct, 2 fields, name 5 from 0               struct, 2 fields, 3 nodes
+//! nodes    struct, name 5 from 0                         struct, 2 fields, 3 nodes
 //!            type 2, name 1 from 5                         field 0: int 44
 //!            type 2, name 1 from 6                         field 1: int 66
 //! bytes    P o i n t X Y

@@ -1,6 +1,11 @@
 //! Places in the room that is given for nodes and bytes.
 
+ghost use Rattle.std.specs.Prelude.{◌≡◌, ◌≤◌, ◌++◌, drop, length};
+
 use gob_tape::FlatNode;
+
+// After so many nodes the memory of those that were moved is given back.
+const GIVEN_BACK: usize = 65536;
 
 /// How much of the room is taken.
 #[derive(Clone, Copy)]
@@ -15,7 +20,7 @@ pub(crate) struct Place {
 pub(crate) const FRONT: Place = Place { nodes: 0, bytes: 0 };
 
 impl Place {
-    ghost use Rattle.std.specs.Prelude.{◌≡◌, ◌+◌, ◌≤◌, ◌∷◌, [], IfSome, IsSome, length, take};
+    ghost use Rattle.std.specs.Prelude.{◌≡◌, ◌↔◌, ◌+◌, ◌≤◌, ◌∷◌, [], IfSome, IsSome, IsTrue, length, take};
     ghost use Rattle.gob_handed.specs.Puts.{PutsNodes, PutsBytes};
 
     /// The place behind a node that is put here; None where there is no room for it.
@@ -37,10 +42,10 @@ impl Place {
     }
 
     /// The place behind nodes that are put here; None where there is no room for them.
-    pub(crate) fn nodes(self, out: &mut [FlatNode], nodes: &[FlatNode]) -> Option<Place>
-        ensures put { IfSome result (λ to. PutsNodes self to out.old out.new nodes.now) }
+    pub(crate) fn nodes(self, out: &mut [FlatNode], nodes: Vec<FlatNode>) -> Option<Place>
+        ensures put { IfSome result (λ to. PutsNodes self to out.old out.new nodes.items) }
         ensures bytes { IfSome result (λ to. to.bytes ≡ self.bytes) }
-        ensures room { self.nodes + length nodes.now ≤ length out.old → IsSome result }
+        ensures room { self.nodes + length nodes.items ≤ length out.old → IsSome result }
         ensures kept { take self.nodes out.new ≡ take self.nodes out.old }
         ensures length { length out.new ≡ length out.old }
     {
@@ -48,11 +53,21 @@ impl Place {
             return None;
         }
         let end = self.nodes + nodes.len();
-        out[self.nodes..end].copy_from_slice(nodes);
+        move_nodes(nodes, &mut out[self.nodes..]);
         Some(Place {
             nodes: end,
             bytes: self.bytes,
         })
+    }
+
+    /// Whether there is room for so much more in so many nodes and bytes.
+    pub(crate) fn has_room(self, more: Place, nodes: usize, bytes: usize) -> bool
+        ensures { IsTrue result ↔ ((self.nodes + more.nodes ≤ nodes) × (self.bytes + more.bytes ≤ bytes)) }
+    {
+        self.nodes <= nodes
+            && more.nodes <= nodes - self.nodes
+            && self.bytes <= bytes
+            && more.bytes <= bytes - self.bytes
     }
 
     /// The place behind bytes that are put here; None where there is no room for them.
@@ -72,5 +87,20 @@ impl Place {
             nodes: self.nodes,
             bytes: end,
         })
+    }
+}
+
+// Moves the nodes to the front of `out`, the last one first, and gives their memory back meanwhile.
+fn move_nodes(nodes: Vec<FlatNode>, out: &mut [FlatNode])
+    requires { length nodes.items ≤ length out.old }
+    ensures { out.new ≡ nodes.items ++ drop (length nodes.items) out.old }
+{
+    let mut left = nodes;
+    'nodes: while let Some(node) = left.pop() {
+        let place = left.len();
+        out[place] = node;
+        if place % GIVEN_BACK == 0 {
+            left.shrink_to_fit();
+        }
     }
 }

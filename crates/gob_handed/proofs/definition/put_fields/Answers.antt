@@ -10,7 +10,8 @@ fields-preserved c =
       field_step from at c.in_ok-at.at c.args.base c.args.nodes.now c.fields.nodes c.put_name.new.nodes
           c.args.pool.now c.fields.pool c.put_name.new.pool c.args.fields.now c.fields.place
           c.index-fields-place.result c.as_bytes.result.now c.fields-test.true c.index-fields-place.is
-          c.as_bytes.ensures c.requires.base before.0 c.in_ok-at.ensures.nodes c.in_ok-at.ensures.bytes,
+          c.as_bytes.ensures c.requires.base before.0
+          (rw c.id_number.ensures at c.in_ok-at.ensures.nodes) c.in_ok-at.ensures.bytes,
       (
         kept_nodes_on from at c.args.nodes.now c.fields.nodes c.put_name.new.nodes _ before.0.0 before.1.0
             c.put_name.ensures.kept_nodes,
