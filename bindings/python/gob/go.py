@@ -1,6 +1,6 @@
 """What some types of Go's standard library write when they encode themselves. Outside what is proved.
 
-    gob.load(path, opaque=gob.go.known)     # time.Time as datetime, big.Int as int, where the type has that name
+    gob.load(path, opaque=gob.go.known)     # time.Time as datetime, big.Int as int, by the type's name or its bytes
     gob.go.time(opaque)                     # of one value
 
 A stream names a type without its package, so a type of another package may have one of these names: each function
@@ -205,8 +205,26 @@ def text(value: Opaque) -> str:
     return value.data.decode("utf-8")
 
 
+def _unnamed(value: Opaque) -> Any:
+    """A time or a whole number, of a type without a name: of bytes that Go's own type writes and no others."""
+    data = value.data
+    if value.marshal != "GobEncode":
+        raise ValueError("no type of Go's library")
+    try:
+        if len(data) == 16:
+            minutes, seconds = struct.unpack(">hb", data[13:])
+            if minutes == -1 or not 0 < abs(seconds) < 60 or minutes * seconds < 0:
+                raise ValueError("no time.Time")
+        return time(value)
+    except (ValueError, OverflowError):
+        if data != b"\2" and (len(data) < 2 or data[1] == 0):
+            raise ValueError("no big.Int") from None
+        return big_int(value)
+
+
+# Go sends no name of a type that it met first behind a pointer, or as a map's key or element
 _KNOWN: dict[str, Callable[[Opaque], Any]] = {
-    "Time": time, "Int": big_int, "Rat": big_rat, "Float": big_float,
+    "": _unnamed, "Time": time, "Int": big_int, "Rat": big_rat, "Float": big_float,
     "Addr": address, "AddrPort": address_port, "Prefix": prefix, "URL": text,
 }
 

@@ -473,6 +473,18 @@ class Opaque(unittest.TestCase):
         self.assertEqual(gob.go.known(opaque("05", "Time")), opaque("05", "Time"))
         self.assertEqual(gob.go.known(opaque("020100", "Int")), 256)
 
+    def test_types_without_a_name(self):
+        known = {data: gob.go.known(opaque(data, "")) for data in (
+            "010000000ee0e92ca5075bcd15ffff", "020000000ee0e92ca5075bcd15003c1e", "030100", "02",  # as Go writes them
+            "03", "020001", "020000000ee0e92ca5075bcd15003c00")}
+        utc, ahead, *numbers = known.values()
+        self.assertEqual((utc.isoformat(), utc.nanosecond), ("2026-01-02T03:04:05.123456+00:00", 123456789))
+        self.assertEqual(ahead.isoformat(), "2026-01-02T04:04:35.123456+01:00:30")
+        self.assertEqual(numbers[:2], [-256, 0])
+        self.assertEqual(numbers[2:], [opaque(data, "") for data in list(known)[4:]])
+        text = gob.Opaque("", "MarshalBinary", b"\2")
+        self.assertEqual(gob.go.known(text), text)
+
 
 @unittest.skipUnless(importlib.util.find_spec("numpy"), "numpy isn't there")
 class Columns(unittest.TestCase):
