@@ -11,3 +11,8 @@ pub adds_five : (a b c d e f p q r s t : List ℕ) → b ≡ a ++ p → c ≡ b 
     → f ≡ a ++ (p ++ (q ++ (r ++ (s ++ t))))
 adds_five a b c d e f p q r s t g h i j k =
     adds_three a b c f p q (r ++ (s ++ t)) g h (adds_three c d e f r s t i j k)
+
+pub adds_seven : (a b c d e f g h p q r s t u v : List ℕ) → b ≡ a ++ p → c ≡ b ++ q → d ≡ c ++ r → e ≡ d ++ s
+    → f ≡ e ++ t → g ≡ f ++ u → h ≡ g ++ v → h ≡ a ++ (p ++ (q ++ (r ++ (s ++ (t ++ (u ++ v))))))
+adds_seven a b c d e f g h p q r s t u v i j k l m n o =
+    adds_three a b c h p q (r ++ (s ++ (t ++ (u ++ v)))) i j (adds_five c d e f g h r s t u v k l m n o)

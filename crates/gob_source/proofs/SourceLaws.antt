@@ -1,10 +1,18 @@
 -- What names a type, by what is known of it.
 use Rattle.std.proofs.Common.{◌≡◌, ◌∙◌, ◌+◌, ◌<◌, ℕ, zero, suc, List, [], ◌∷◌, ◌++◌, length, get_or, take, drop, sym}
-use Rattle.std.proofs.Common.{append_assoc, arith, Some, None, true, false, ap, refl, codes, if◌then◌else◌}
+use Rattle.std.proofs.Common.{append_assoc, arith, Bool, Option, Some, None, true, false, ap, refl, codes}
+use Rattle.std.proofs.Common.{◌==◌, if◌then◌else◌}
 use Rattle.std.proofs.lemmas.List.{at_drop_more, take_more}
 use Rattle.gob_types.specs.declared.id.TypeId.{TypeId}
+use Rattle.gob_types.specs.declared.kind.Kind.{Kind}
+use Rattle.gob_types.specs.declared.kind.Kind.TheVariants as kind
+use Rattle.gob_types.specs.declared.kind.Marshal.{Marshal}
 use Rattle.gob_types.specs.declared.kind.Shape.{Shape}
 use Rattle.gob_types.specs.Table.{Table, shape_of}
+use Rattle.gob_source.specs.Library.{package_of}
+use Rattle.gob_source.specs.Program.{init_text}
+use Rattle.gob_source.specs.declared.library.Package.{Package}
+use Rattle.gob_source.specs.Source.{decoder_text, encoder_text, methods_text, opaque_methods}
 use Rattle.gob_source.specs.Source.{basic_text, named_text, shape_text, type_text, defined_text, parts_text}
 use Rattle.gob_source.specs.Source.{pointer_text, key_text, is_among, has_parts, used_name}
 
@@ -76,3 +84,15 @@ appended_more one text step xs i x now new all at within left adds =
     ∙ ap (λ (l : List _). (now ++ one seen x) ++ text l rest) more
     ∙ append_assoc now (one seen x) (text (seen ++ x ∷ []) rest)
     ∙ ap (λ (l : List ℕ). now ++ l) (sym opened) ∙ left
+
+-- the methods of a type that is of no package
+pub methods_of : (name own : List ℕ) (k : Kind) (m : Marshal) (p : Option Package) → k ≡ kind.Opaque m
+    → p ≡ package_of name m → p ≡ None → methods_text name own k ≡ encoder_text m own ++ decoder_text m own
+methods_of name own k m p e of none =
+    ap (methods_text name own) e ∙ ap (λ (o : Option Package). opaque_methods o m own) (sym of ∙ none)
+
+pub init_filled : (calls : List ℕ) (b : Bool) → b ≡ (length calls == 0) → b ≡ false
+    → init_text calls ≡ codes "\n// The names under which interfaces hold values.\nfunc init() {\n" ++
+    (calls ++ codes "}\n")
+init_filled [] b e f = let both : true ≡ false = sym e ∙ f in cc
+init_filled (c ∷ cs) b e f = refl

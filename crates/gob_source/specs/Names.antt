@@ -36,8 +36,8 @@ is_identifier name = nat_le (length name) 255 && (is_utf8 name && is_identifier_
 abbrev pub name_width : List ℕ → ℕ
 name_width name = if is_utf8 name then length (chars name) else length name
 
--- Go's keywords; the names of Go's own that this source uses, of types, packages and values; those of the values of its
--- methods; and those that no type of a program may have
+-- Go's keywords; the names of Go's own that this source uses, of types, packages, values and functions; those of the
+-- values of its methods; those that no type of a program may have; and those of the functions of a program
 abbrev pub reserved : List (List ℕ)
 reserved =
     codes "break" ∷ codes "case" ∷ codes "chan" ∷ codes "const" ∷ codes "continue" ∷ codes "default" ∷ codes "defer" ∷
@@ -46,7 +46,10 @@ reserved =
     codes "select" ∷ codes "struct" ∷ codes "switch" ∷ codes "type" ∷ codes "var" ∷
     codes "bool" ∷ codes "int" ∷ codes "uint" ∷ codes "float64" ∷ codes "byte" ∷ codes "string" ∷ codes "complex128" ∷
     codes "error" ∷ codes "nil" ∷ codes "big" ∷ codes "netip" ∷ codes "time" ∷ codes "url" ∷
-    codes "value" ∷ codes "data" ∷ codes "_" ∷ codes "init" ∷ codes "main" ∷ []
+    codes "value" ∷ codes "data" ∷ codes "_" ∷ codes "init" ∷ codes "main" ∷
+    codes "bufio" ∷ codes "gob" ∷ codes "json" ∷ codes "fmt" ∷ codes "io" ∷ codes "log" ∷ codes "os" ∷
+    codes "reflect" ∷ codes "int64" ∷ codes "uint64" ∷ codes "copy" ∷ codes "len" ∷ codes "new" ∷
+    codes "newValue" ∷ codes "nextType" ∷ codes "readNumber" ∷ codes "typeID" ∷ []
 
 abbrev pub is_reserved : List ℕ → Bool
 is_reserved name = list_any (λ word. bytes_eq word name) reserved

@@ -4,7 +4,7 @@ use Rattle.std.specs.Prelude.{ℕ, zero, suc, ◌-◌, List, [], ◌∷◌, ◌+
 use Rattle.std.specs.Prelude.{◌&&◌, ◌||◌, not, nat_le, if◌then◌else◌, codes, Option, Some, None}
 use Rattle.std.specs.Fmt.{decimal}
 use Rattle.std.specs.Str.{bytes_eq}
-use Rattle.std.specs.List.{list_all, list_any}
+use Rattle.std.specs.List.{flat_map, list_all, list_any}
 use Rattle.gob_types.specs.declared.id.TypeId.{TypeId}
 use Rattle.gob_types.specs.declared.kind.Field.{Field}
 use Rattle.gob_types.specs.declared.kind.Kind.{Kind}
@@ -17,6 +17,7 @@ use Rattle.gob_source.specs.declared.library.Package.{Package}
 use Rattle.gob_source.specs.declared.library.Package.TheVariants as packages
 use Rattle.gob_source.specs.Library.{is_of_package, library_name, package_of, package_path, shape_package}
 use Rattle.gob_source.specs.Names.{escaped, is_identifier, is_reserved, name_width, own_name}
+use Rattle.gob_source.specs.Registered.{Naming, is_go_name, names_of, names_text}
 
 -- ---- pointers
 
@@ -234,20 +235,36 @@ abbrev pub methods_text : (name own : List ℕ) → Kind → List ℕ
 methods_text name own (kind.Opaque m) = opaque_methods (package_of name m) m own
 methods_text name own _ = []
 
--- behind an empty line, a comment with the type's id, and its declaration
-abbrev pub declaration_text : Table → List TypeId → TypeId → Shape → List ℕ
-declaration_text T ts t s =
-    codes "\n// type " ++ (decimal t.0 ++ (encoded_text s.kind ++ (codes "\ntype " ++ (own_name T ts t s.name ++
-    (codes " " ++ (kind_text T ts t s.name s.kind ++ codes "\n"))))))
+-- behind an empty line, a comment with the type's id and the names under which it is registered, and its declaration
+abbrev pub declaration_text : Table → List TypeId → List Naming → TypeId → Shape → List ℕ
+declaration_text T ts ps t s =
+    codes "\n// type " ++ (decimal t.0 ++ (encoded_text s.kind ++ (names_text (names_of t ps) ++ (codes "\ntype " ++
+    (own_name T ts t s.name ++ (codes " " ++ (kind_text T ts t s.name s.kind ++ codes "\n")))))))
 
 -- that, and its methods
-abbrev pub definition_text : Table → List TypeId → TypeId → Option Shape → List ℕ
-definition_text T ts t None = []
-definition_text T ts t (Some s) = declaration_text T ts t s ++ methods_text s.name (own_name T ts t s.name) s.kind
+abbrev pub definition_text : Table → List TypeId → List Naming → TypeId → Option Shape → List ℕ
+definition_text T ts ps t None = []
+definition_text T ts ps t (Some s) =
+    declaration_text T ts ps t s ++ methods_text s.name (own_name T ts t s.name) s.kind
 
-abbrev pub definitions_text : Table → (all rest : List TypeId) → List ℕ
-definitions_text T ts [] = []
-definitions_text T ts (u ∷ us) = definition_text T ts u (shape_of T u) ++ definitions_text T ts us
+abbrev pub definitions_text : Table → List TypeId → List Naming → (rest : List TypeId) → List ℕ
+definitions_text T ts ps [] = []
+definitions_text T ts ps (u ∷ us) = definition_text T ts ps u (shape_of T u) ++ definitions_text T ts ps us
+
+-- ---- basic types that have names
+
+abbrev pub basic_naming_text : Option (List ℕ) → (name : List ℕ) → List ℕ
+basic_naming_text None name = []
+basic_naming_text (Some basic) name =
+    if is_go_name name then []
+    else codes "\n// " ++ (basic ++ (codes " is registered as " ++ (escaped name ++ codes "\n")))
+
+-- a name of a basic type, which no definition declares, in a comment, unless it is Go's own
+abbrev pub basic_naming : Naming → List ℕ
+basic_naming p = basic_naming_text (basic_text p.0.0) p.1
+
+abbrev pub basic_namings : List Naming → List ℕ
+basic_namings ps = flat_map basic_naming ps
 
 -- ---- imports
 
@@ -275,6 +292,11 @@ imports_text T ts =
     (import_text T ts packages.Url ++ (import_text T ts packages.Time ++ codes ")\n"))))
     else []
 
--- a file of the definitions of these types, in order
+-- a file of the definitions of these types, in order, with the names under which they are registered
+abbrev pub named_source : Table → List TypeId → List Naming → List ℕ
+named_source T ts ps =
+    codes "package types\n" ++ (imports_text T ts ++ (definitions_text T ts ps ts ++ basic_namings ps))
+
+-- and without names
 abbrev pub go_source : Table → List TypeId → List ℕ
-go_source T ts = codes "package types\n" ++ (imports_text T ts ++ definitions_text T ts ts)
+go_source T ts = named_source T ts []

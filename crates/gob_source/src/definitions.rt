@@ -4,14 +4,18 @@ ghost use Rattle.std.specs.Prelude.{◌≡◌, IfOk};
 ghost use Rattle.gob_types.specs.Table.{shape_of};
 ghost use Rattle.gob_source.specs.Adds.{Adds};
 ghost use Rattle.gob_source.specs.Names.{own_name};
-ghost use Rattle.gob_source.specs.Source.{declaration_text, decoder_name, decoder_text, definition_text, encoded_text};
-ghost use Rattle.gob_source.specs.Source.{encoder_name, encoder_text, go_source, kind_text, marshal_text, methods_text};
-ghost use Rattle.gob_source.specs.Source.{opaque_text};
+ghost use Rattle.gob_source.specs.Registered.{namings};
+ghost use Rattle.gob_source.specs.Source.{declaration_text, decoder_name, decoder_text, definition_text};
+ghost use Rattle.gob_source.specs.Source.{definitions_text, encoded_text, encoder_name, encoder_text, go_source};
+ghost use Rattle.gob_source.specs.Source.{kind_text, marshal_text, methods_text, named_source, opaque_text};
 
+use crate::by_type::{NamesByType, push_names};
 use crate::declared::Declared;
 use crate::fields::push_fields;
 use crate::library::{Package, package_of, push_imports, push_library_name};
 use crate::names::push_own;
+use crate::registered::Registered;
+use crate::registrations::push_basic_namings;
 use crate::text::{push_number, push_text};
 use crate::types::push_parts;
 use gob_types::{Kind, Marshal, Shape, Shapes, TypeId};
@@ -20,7 +24,26 @@ use std::alloc::{AllocError, Global};
 /// A file of Go source that declares these types of the table, in order: Go's decoder takes into them what the stream
 /// has. The name of each is that which the stream gave it, where Go lets it have that. A type that isn't among them is
 /// `struct{}` where another holds it. A type that encodes itself is that of Go's library which has its name, else a
-/// string of its bytes.
+/// string of its bytes. The names under which types are registered stand beside them, in comments.
+pub fn named_source_of<S: Shapes>(
+    alloc: Global,
+    shapes: &S,
+    ids: &[TypeId],
+    registered: &[Registered],
+) -> Result<Vec<u8>, AllocError>
+    ensures { IfOk result (λ text. text.items ≡ named_source (S.table shapes.now) ids.now (namings registered.now)) }
+{
+    let mut out = Vec::new(alloc);
+    let types = Declared::new(alloc, shapes, ids)?;
+    let names = NamesByType::new(alloc, registered)?;
+    push_text(b"package types\n", &mut out)?;
+    push_imports(shapes, ids, &mut out)?;
+    push_definitions(&types, &names, &mut out)?;
+    push_basic_namings(registered, &mut out)?;
+    Ok(out)
+}
+
+/// The types as [`named_source_of`] declares them, with no name beside them.
 pub fn source_of<S: Shapes>(
     alloc: Global,
     shapes: &S,
@@ -28,47 +51,60 @@ pub fn source_of<S: Shapes>(
 ) -> Result<Vec<u8>, AllocError>
     ensures { IfOk result (λ text. text.items ≡ go_source (S.table shapes.now) ids.now) }
 {
-    let mut out = Vec::new(alloc);
-    push_text(b"package types\n", &mut out)?;
-    push_imports(shapes, ids, &mut out)?;
-    let types = Declared::new(alloc, shapes, ids)?;
-    for id in ids {
-        push_definition(&types, *id, &mut out)?;
+    named_source_of(alloc, shapes, ids, &[])
+}
+
+/// Appends the definitions of the types.
+pub(crate) fn push_definitions<S: Shapes>(
+    types: &Declared<'_, S>,
+    names: &NamesByType<'_>,
+    out: &mut Vec<u8>,
+) -> Result<(), AllocError>
+    ensures { Adds result out.old.items out.new.items
+        (definitions_text (S.table types.now.shapes.now) types.now.ids.now (namings names.now.all.now)
+        types.now.ids.now) }
+{
+    for id in types.ids {
+        push_definition(types, names, *id, out)?;
     }
-    Ok(out)
+    Ok(())
 }
 
 // Appends the definition of a type.
 fn push_definition<S: Shapes>(
     types: &Declared<'_, S>,
+    names: &NamesByType<'_>,
     of: TypeId,
     out: &mut Vec<u8>,
 ) -> Result<(), AllocError>
     ensures { Adds result out.old.items out.new.items
-        (definition_text (S.table types.now.shapes.now) types.now.ids.now of
+        (definition_text (S.table types.now.shapes.now) types.now.ids.now (namings names.now.all.now) of
         (shape_of (S.table types.now.shapes.now) of)) }
 {
     let Some(shape) = types.shapes.shape_of(of) else {
         return Ok(());
     };
-    push_declaration(types, of, shape, out)?;
+    push_declaration(types, names, of, shape, out)?;
     push_methods(types, of, shape.name.as_bytes(), &shape.kind, out)
 }
 
-// Appends a comment with the type's id, and its declaration.
+// Appends a comment with the type's id and its registered names, and its declaration.
 fn push_declaration<S: Shapes>(
     types: &Declared<'_, S>,
+    names: &NamesByType<'_>,
     of: TypeId,
     shape: &Shape,
     out: &mut Vec<u8>,
 ) -> Result<(), AllocError>
     ensures { Adds result out.old.items out.new.items
-        (declaration_text (S.table types.now.shapes.now) types.now.ids.now of shape.now) }
+        (declaration_text (S.table types.now.shapes.now) types.now.ids.now (namings names.now.all.now) of
+        shape.now) }
 {
     let name = shape.name.as_bytes();
     push_text(b"\n// type ", out)?;
     push_number(of.0, out)?;
     push_encoded(&shape.kind, out)?;
+    push_names(names, of, out)?;
     push_text(b"\ntype ", out)?;
     push_own(types, of, name, out)?;
     push_text(b" ", out)?;

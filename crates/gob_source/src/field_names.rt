@@ -46,8 +46,8 @@ impl<'a> FieldNames<'a> {
         Ok(can_declare(name, first))
     }
 
-    // Adds a name, and says whether it is new.
-    fn add(&mut self, name: &'a [u8]) -> Result<bool, AllocError>
+    /// Adds a name, and says whether it is new.
+    pub(crate) fn add(&mut self, name: &'a [u8]) -> Result<bool, AllocError>
         ensures { IfOk result (λ new. (new ≡ not (has_name name.now self.old))
             × (self.new ≡ with_name self.old name.now)) }
     {

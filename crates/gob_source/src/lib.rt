@@ -19,13 +19,19 @@
 //! ```
 #![tactic(auto)]
 
+mod by_type;
 mod declared;
 mod definitions;
 mod field_names;
 mod fields;
 mod library;
 mod names;
+mod program;
+mod registered;
+mod registrations;
 mod text;
 mod types;
 
-pub use definitions::source_of;
+pub use definitions::{named_source_of, source_of};
+pub use program::program_of;
+pub use registered::{Registered, RegisteredNames};

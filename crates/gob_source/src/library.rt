@@ -104,8 +104,8 @@ pub(crate) fn push_imports<S: Shapes>(
     push_text(b")\n", out)
 }
 
-// Appends the line of a package, where one of the types is its.
-fn push_import<S: Shapes>(
+/// Appends the line of a package, where one of the types is its.
+pub(crate) fn push_import<S: Shapes>(
     shapes: &S,
     ids: &[TypeId],
     owner: Package,

@@ -18,9 +18,9 @@ use ucd_category::{GeneralCategory, GeneralCategoryGroup};
 // stand behind the longest name.
 const LONGEST: usize = 255;
 
-// Go's keywords; the names of Go's own that this source uses, of types, packages and values; those of the values of its
-// methods; and those that no type of a program may have.
-const RESERVED: [&[u8]; 43] = [
+// Go's keywords; the names of Go's own that this source uses, of types, packages, values and functions; those of the
+// values of its methods; those that no type of a program may have; and those of the functions of a program.
+const RESERVED: [&[u8]; 60] = [
     b"break",
     b"case",
     b"chan",
@@ -64,6 +64,23 @@ const RESERVED: [&[u8]; 43] = [
     b"_",
     b"init",
     b"main",
+    b"bufio",
+    b"gob",
+    b"json",
+    b"fmt",
+    b"io",
+    b"log",
+    b"os",
+    b"reflect",
+    b"int64",
+    b"uint64",
+    b"copy",
+    b"len",
+    b"new",
+    b"newValue",
+    b"nextType",
+    b"readNumber",
+    b"typeID",
 ];
 
 /// Whether Go takes the name as an identifier: letters and digits of Unicode, and underlines, no digit first.

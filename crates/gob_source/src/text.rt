@@ -2,6 +2,7 @@
 
 ghost use Rattle.std.specs.Prelude.{◌≡◌, ◌<◌, replicate};
 ghost use Rattle.std.specs.Fmt.{decimal};
+ghost use Rattle.std.specs.List.{flat_map};
 ghost use Rattle.gob_source.specs.Adds.{Adds};
 ghost use Rattle.gob_source.specs.Names.{digit, escaped, escaped_byte, is_printed};
 
@@ -42,8 +43,8 @@ pub(crate) fn push_escaped(bytes: &[u8], out: &mut Vec<u8>) -> Result<(), AllocE
     Ok(())
 }
 
-// Appends a byte: as it is where it is printed in one column, else by its two digits.
-fn push_byte(byte: u8, out: &mut Vec<u8>) -> Result<(), AllocError>
+/// Appends a byte: as it is where it is printed in one column, else by its two digits.
+pub(crate) fn push_byte(byte: u8, out: &mut Vec<u8>) -> Result<(), AllocError>
     ensures { Adds result out.old.items out.new.items (escaped_byte byte) }
 {
     if is_printed(byte) {
@@ -70,4 +71,14 @@ fn digit(number: u8) -> u8
     } else {
         87 + number
     }
+}
+
+/// Appends lines.
+pub(crate) fn push_lines(lines: &[&[u8]], out: &mut Vec<u8>) -> Result<(), AllocError>
+    ensures { Adds result out.old.items out.new.items (flat_map (λ line. line.now) lines.now) }
+{
+    for line in lines {
+        push_text(*line, out)?;
+    }
+    Ok(())
 }

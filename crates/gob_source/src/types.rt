@@ -1,9 +1,10 @@
 //! Types by their names or their parts.
 
 ghost use Rattle.std.specs.Prelude.{◌≡◌};
+ghost use Rattle.std.specs.Option.{option_copied};
 ghost use Rattle.gob_types.specs.Table.{shape_of};
 ghost use Rattle.gob_source.specs.Adds.{Adds};
-ghost use Rattle.gob_source.specs.Source.{are_basic_keys, defined_text, has_parts, is_basic_key};
+ghost use Rattle.gob_source.specs.Source.{are_basic_keys, basic_text, defined_text, has_parts, is_basic_key};
 ghost use Rattle.gob_source.specs.Source.{is_holder, is_key, is_key_kind};
 ghost use Rattle.gob_source.specs.Source.{key_text, parts_text, pointer_text, type_text, used_name};
 
@@ -27,17 +28,28 @@ pub(crate) fn push_type<S: Shapes>(
     ensures { Adds result out.old.items out.new.items
         (type_text levels (S.table types.now.shapes.now) types.now.ids.now of id) }
 {
-    match id.0 {
-        1 => push_text(b"bool", out),
-        2 => push_text(b"int", out),
-        3 => push_text(b"uint", out),
-        4 => push_text(b"float64", out),
-        5 => push_text(b"[]byte", out),
-        6 => push_text(b"string", out),
-        7 => push_text(b"complex128", out),
-        8 => push_text(b"interface{}", out),
-        _ => push_defined(types, of, id, levels, out),
+    match basic_name(id) {
+        Some(name) => push_text(name, out),
+        None => push_defined(types, of, id, levels, out),
     }
+}
+
+/// The name of a basic type.
+pub(crate) fn basic_name(id: TypeId) -> Option<&'static [u8]>
+    ensures { option_copied result ≡ basic_text id.0 }
+{
+    let name: &'static [u8] = match id.0 {
+        1 => b"bool",
+        2 => b"int",
+        3 => b"uint",
+        4 => b"float64",
+        5 => b"[]byte",
+        6 => b"string",
+        7 => b"complex128",
+        8 => b"interface{}",
+        _ => return None,
+    };
+    Some(name)
 }
 
 // Appends a type that isn't basic.
