@@ -10,5 +10,5 @@ pub mod CheckLaws
 pub mod TallyLaws
 pub mod TidyStays
 pub mod RewriteLaws
-pub mod RewriteRuns
+mod TidiedLaws
 pub mod ReaderRuns

@@ -113,6 +113,29 @@ follows {L = L} {T = T} {o = o} {i = i} (and_then {b = b} q f r) e =
     nothing_more no_more e = (refl, refl)
     nothing_more (and_then q f r) e = absurd (cc e)
 
+-- the last item of a stream, and those before it
+pub record LastItem (L : Bounds) (items : List StreamItem) (i : StreamItem) (b : List ℕ) (V : Table) : Type 0 where
+  pub prefix : List ℕ
+  pub bytes : List ℕ
+  pub table : Table
+  pub first : Stream base_table L items prefix table
+  pub counted : IsItem base_table L table (length prefix) i bytes V
+  pub whole : b ≡ prefix ++ bytes
+
+pub last_item : {L : Bounds} {V : Table} {i : StreamItem} {b : List ℕ} (items : List StreamItem)
+    → Stream base_table L (items ++ i ∷ []) b V → LastItem L items i b V
+last_item {L = L} {V = V} {i = i} items p =
+    let s = split items (i ∷ []) p in
+    let f = follows s.later refl in
+    record {
+      prefix = s.prefix;
+      bytes = f.bytes;
+      table = s.table;
+      first = s.first;
+      counted = subst (λ (n : ℕ). IsItem base_table L s.table n i f.bytes V) (omega arith) f.counted;
+      whole = s.whole ∙ ap (λ (l : List ℕ). s.prefix ++ l) f.whole;
+    }
+
 -- no byte gives no item
 pub nothing_given : (L : Bounds) → GivesAllBut L base_table [] []
 nothing_given L = record {

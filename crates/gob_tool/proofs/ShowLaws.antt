@@ -1,5 +1,5 @@
 -- Texts that are lines of items are the lines of the items.
-use Rattle.std.proofs.Common.{◌≡◌, ℕ, List, [], ◌∷◌, ◌++◌, Option, Result, Ok, Err, ◌∙◌, ap, sym, subst, refl}
+use Rattle.std.proofs.Common.{◌≡◌, ℕ, List, [], ◌∷◌, ◌++◌, Option, Result, ◌∙◌, ap, sym, subst, refl}
 use Rattle.std.proofs.Common.{append-nil, append_assoc, arith, min, ◌≤◌}
 use Rattle.std.specs.Io.KnownBytes.{Appends}
 use Rattle.gob_types.specs.Base.{base_table}
@@ -22,12 +22,13 @@ use Rattle.gob_stream.specs.declared.reader_of.ReaderOf.{ReaderOf}
 use Rattle.gob_stream.proofs.PublicLaws.{one_table, views_meant, whole_item}
 use Rattle.gob_tool.specs.Line.{line, lines}
 use Rattle.gob_tool.specs.Machine.Lines.{IsLine, is_line_of_value}
+use Rattle.gob_tool.specs.Answering.{AppendsPrefix}
 use Rattle.gob_tool.specs.Showing.{OfLines, ShowAnswers}
 use Rattle.gob_tool.specs.Texts.{HaveTexts, no_texts, texts_then, from_item, from_value, OfTexts, TextsAnswersIn}
 use Rattle.gob_tool.specs.Texts.{IsLineAhead, IsNextWhole, IsWholeText}
 use Rattle.gob_tool.specs.declared.fault.ToolFault.{ToolFault}
-use Rattle.gob_tool.specs.declared.fault.ToolFault.TheVariants as fault
 use Rattle.gob_tool.proofs.LinesStay.{first_items, lines_stay}
+use Rattle.gob_tool.proofs.TextLaws.{runs_begun}
 
 lines_append : (T : Table) (items others : List StreamItem) → lines T (items ++ others) ≡ lines T items
     ++ lines T others
@@ -65,66 +66,17 @@ all_lines {L = L} {bytes = bytes} (texts_then {items = items} {text = text} i mo
     ∙ ap (λ l. lines b.table items ++ l) (is_line m ∙ ap (λ T. line T i) one ∙ sym (append-nil (line b.table i)))
     ∙ sym (lines_append b.table items (i ∷ []))
 
-of_lines : {L : Bounds} {bytes : List ℕ} {items : List StreamItem} {P : List ℕ → Type 0}
-    → OfTexts strict IsLine L bytes P items → (b : BeginsWithStream base_table L bytes items)
-    → OfLines P b.table items
-of_lines {P = P} o b = subst P (all_lines o.texts b) o.holds
+of_lines : {L : Bounds} {bytes : List ℕ} {P : List ℕ → Type 0} (items : List StreamItem)
+    (b : BeginsWithStream base_table L bytes items) → OfTexts strict IsLine L bytes P items → OfLines P b.table items
+of_lines {P = P} items b o = subst P (all_lines o.texts b) o.holds
 
 pub texts_are_lines : (L : Bounds) (bytes : List ℕ) (now old new : Option (List ℕ))
     (r : Result (Unit {0}) ToolFault) → TextsAnswersIn strict IsLine L bytes now old new r
     → ShowAnswers L bytes now old new r
-texts_are_lines L bytes now old new (Ok u) e = record {
-  items = e.items;
-  table = e.table;
-  stream = e.stream;
-  end = e.end;
-  holds = of_lines e.holds
-      (record { prefix = bytes; rest = []; table = e.table; stream = e.stream; whole = sym (append-nil bytes) });
-}
-texts_are_lines L bytes now old new (Err (fault.Refused R)) e =
-    record { items = e.items; outcome = e.outcome; holds = of_lines e.holds e.outcome.gives.begins }
-texts_are_lines L bytes now old new (Err fault.Read) e =
-    let b = e.holds.given.begins in
-    record {
-      bytes = e.bytes;
-      taken = e.taken;
-      holds = record {
-        items = e.holds.items;
-        given = e.holds.given;
-        holds = of_lines e.holds.holds (record {
-          prefix = b.prefix;
-          rest = b.rest ++ e.taken.left;
-          table = b.table;
-          stream = b.stream;
-          whole = e.taken.whole ∙ ap (λ l. l ++ e.taken.left) b.whole ∙ append_assoc b.prefix b.rest e.taken.left;
-        });
-      };
-    }
-texts_are_lines L bytes now old new (Err fault.Write) e =
-    record { items = e.items; begins = e.begins; holds = of_lines e.holds e.begins }
-texts_are_lines L bytes now old new (Err fault.Memory) e =
-    let g = e.holds.given in
-    let b = g.gives.gives.begins in
-    record {
-      bytes = e.bytes;
-      taken = e.taken;
-      holds = record {
-        items = e.holds.items;
-        table = e.holds.table;
-        given = g;
-        holds = subst (λ T. OfLines (Appends old new) T e.holds.items) g.gives.table (of_lines e.holds.holds (record {
-          prefix = b.prefix;
-          rest = (b.rest ++ g.rest) ++ e.taken.left;
-          table = b.table;
-          stream = b.stream;
-          whole = e.taken.whole ∙ ap (λ l. l ++ e.taken.left) (g.whole ∙ ap (λ l. l ++ g.rest) b.whole
-              ∙ append_assoc b.prefix b.rest g.rest) ∙ append_assoc b.prefix (b.rest ++ g.rest) e.taken.left;
-        }));
-      };
-    }
-texts_are_lines L bytes now old new (Err (fault.Wanted R)) e = absurd e
-texts_are_lines L bytes now old new (Err fault.NoWantedType) e = absurd e
-texts_are_lines L bytes now old new (Err (fault.Clash path reason)) e = absurd e
+texts_are_lines L bytes now old new r h =
+    runs_begun strict L bytes now (λ T items. OfTexts strict IsLine L bytes (Appends old new) items)
+    (OfLines (Appends old new)) (λ T items. OfTexts strict IsLine L bytes (AppendsPrefix old new) items)
+    (OfLines (AppendsPrefix old new)) r h (λ T items b o. of_lines items b o) (λ T items b o. of_lines items b o)
 
 -- ---- the line of an item that waits as a whole
 -- an item of a value that is no deeper is that item where deeper ones are allowed too

@@ -107,6 +107,68 @@ module _ {Told : Type 0} (G : Grammar Told) where
         { items = e.holds.items; table = e.holds.table; given = e.holds.given; holds = f _ _ e.holds.holds };
   }
 
+  -- what the stream that the bytes begin with tells, and the types behind it
+  pub runs_begun : (L : Bounds) (bytes : List ℕ) (now : Option (List ℕ)) (P Q C D : Table → List Told → Type 0)
+      (r : Result (Unit {0}) ToolFault) → RunAnswersIn G L bytes now P C r
+      → ((T : Table) (items : List Told) (b : BeginsIn G L bytes items) → P T items → Q b.table items)
+      → ((T : Table) (items : List Told) (b : BeginsIn G L bytes items) → C T items → D b.table items)
+      → RunAnswersIn G L bytes now Q D r
+  runs_begun L bytes now P Q C D (Ok u) e f g = record {
+    items = e.items;
+    table = e.table;
+    stream = e.stream;
+    end = e.end;
+    holds = f e.table e.items (record {
+      prefix = bytes;
+      rest = [];
+      table = e.table;
+      stream = e.stream;
+      whole = sym (append-nil bytes);
+    }) e.holds;
+  }
+  runs_begun L bytes now P Q C D (Err (fault.Refused R)) e f g =
+      record { items = e.items; outcome = e.outcome; holds = f _ _ e.outcome.gives.begins e.holds }
+  runs_begun L bytes now P Q C D (Err fault.Read) e f g =
+      let b = e.holds.given.begins in
+      let all : BeginsIn G L bytes e.holds.items = record {
+        prefix = b.prefix;
+        rest = b.rest ++ e.taken.left;
+        table = b.table;
+        stream = b.stream;
+        whole = e.taken.whole ∙ ap (λ l. l ++ e.taken.left) b.whole ∙ append_assoc b.prefix b.rest e.taken.left;
+      } in
+      record {
+        bytes = e.bytes;
+        taken = e.taken;
+        holds = record { items = e.holds.items; given = e.holds.given; holds = f _ _ all e.holds.holds };
+      }
+  runs_begun L bytes now P Q C D (Err fault.Write) e f g =
+      record { items = e.items; begins = e.begins; holds = g _ _ e.begins e.holds }
+  runs_begun L bytes now P Q C D (Err fault.Memory) e f g =
+      let h = e.holds.given in
+      let b = h.gives.gives.begins in
+      let all : BeginsIn G L bytes e.holds.items = record {
+        prefix = b.prefix;
+        rest = (b.rest ++ h.rest) ++ e.taken.left;
+        table = b.table;
+        stream = b.stream;
+        whole = e.taken.whole ∙ ap (λ l. l ++ e.taken.left) (h.whole ∙ ap (λ l. l ++ h.rest) b.whole
+            ∙ append_assoc b.prefix b.rest h.rest) ∙ append_assoc b.prefix (b.rest ++ h.rest) e.taken.left;
+      } in
+      record {
+        bytes = e.bytes;
+        taken = e.taken;
+        holds = record {
+          items = e.holds.items;
+          table = e.holds.table;
+          given = h;
+          holds = subst (λ T. Q T e.holds.items) h.gives.table (f _ _ all e.holds.holds);
+        };
+      }
+  runs_begun L bytes now P Q C D (Err (fault.Wanted R)) e f g = absurd e
+  runs_begun L bytes now P Q C D (Err fault.NoWantedType) e f g = absurd e
+  runs_begun L bytes now P Q C D (Err (fault.Clash path reason)) e f g = absurd e
+
   -- ---- texts that are others too, of items that stand there
   module _ (Is By : Table → Told → List ℕ → Type 0) (by : (L : Bounds) (bytes text : List ℕ) (items : List Told)
       (i : Told) (b : BeginsIn G L bytes (items ++ i ∷ [])) → By b.table i text → Is b.table i text) where

@@ -1,35 +1,36 @@
 -- The tidy form of what a stream says stays the same when the table grows, and can be written where it stood.
-use Rattle.std.proofs.Common.{◌≡◌, ℕ, zero, suc, ◌+◌, ◌≤◌, inl, inr, List, ◌∷◌, ◌++◌, length, Option}
-use Rattle.std.proofs.Common.{arith, refl, subst, length-append}
+use Rattle.std.proofs.Common.{◌≡◌, ℕ, ℤ, negsuc, zero, suc, ◌+◌, ◌≤◌, inl, inr, List, ◌++◌, length, Option}
+use Rattle.std.proofs.Common.{arith, ap, sym, subst, ◌∙◌, append_assoc, length-append}
 use Rattle.std.proofs.lemmas.Bool.{cases_lt}
+use Rattle.gob_num.specs.Signed.{IsSigned}
 use Rattle.gob_num.specs.Unsigned.{IsUnsigned, short, long}
-use Rattle.gob_num.proofs.PublicLaws.{big_endian_below, unsigned_spelled, unsigned_fits, unsigned_length}
+use Rattle.gob_num.proofs.PublicLaws.{big_endian_below, signed_unique, unsigned_length}
 use Rattle.gob_types.specs.declared.id.TypeId.{TypeId}
 use Rattle.gob_types.specs.declared.kind.Field.{Field}
 use Rattle.gob_types.specs.declared.kind.Kind.{Kind}
 use Rattle.gob_types.specs.declared.kind.Shape.{Shape}
 use Rattle.gob_types.specs.Base.{base_table, wire_type}
 use Rattle.gob_types.specs.Table.{Table}
-use Rattle.gob_types.proofs.PublicLaws.{Keeps}
-use Rattle.gob_value.specs.Fits.{Fits}
+use Rattle.gob_types.proofs.PublicLaws.{Keeps, ready_on}
 use Rattle.gob_value.specs.Spelling as spelling
 use Rattle.gob_value.specs.Spelling.{Spells, SpellsAs, SpellsEach, SpellsPairs, SpellsFields}
 use Rattle.gob_value.specs.Tidy.{Tidies, of_type, TidiesAs, of_basic, of_opaque, of_slice, of_array, of_map, of_struct}
 use Rattle.gob_value.specs.Tidy.{TidiesEach, no_element, element, TidiesPairs, no_entry, entry, TidiesFields, no_more}
 use Rattle.gob_value.specs.Tidy.{dropped, kept}
-use Rattle.gob_value.specs.Top.{SpellsTop, at_once, tagged}
+use Rattle.gob_value.specs.Top.{IsStruct, SpellsTop, at_once, tagged}
 use Rattle.gob_value.specs.Tree.{Tree, Trees, Pairs, Fields, depth, trees_depth, pairs_depth, fields_depth}
 use Rattle.gob_value.proofs.PublicLaws.{said_stays, described_alike}
 use Rattle.gob_value.proofs.PublicLaws.{spelled_no_longer}
 use Rattle.gob_value.proofs.PublicLaws.{spells_back}
 use Rattle.gob_value.proofs.PublicLaws.{tidy_form, one_tidy, no_deeper as tidy_no_deeper}
 use Rattle.gob_stream.specs.Body.{Body, definition, value}
-use Rattle.gob_stream.specs.Bounds.{Bounds, deepest, no_deeper}
-use Rattle.gob_stream.specs.Item.{StreamItem}
+use Rattle.gob_stream.specs.Bounds.{Bounds}
+use Rattle.gob_stream.specs.Item.{StreamItem, defines, puts}
 use Rattle.gob_stream.specs.Stream.{IsItem, counted}
 use Rattle.gob_stream.proofs.PublicLaws.{FieldsAll, IsFlat, PartsAll, ShapeAll, field_all, wire_ready}
 use Rattle.gob_tool.specs.Rewriting.{content, content_type, with_content}
-use Rattle.gob_tool.specs.Machine.Rewritten.{bounds_for}
+use Rattle.gob_tool.specs.Machine.Rewritten.{IsNumbered, IsTidyItem, SpellsItem, spells_definition, spells_value}
+use Rattle.gob_tool.proofs.LinesStay.{body_keeps}
 
 mutual
   pub tidies_on : {T U : Table} {t : TypeId} {v w : Tree} → Keeps T U → Tidies T t v w → Tidies U t v w
@@ -125,7 +126,7 @@ wire_flat = (
 )
 
 -- a description is no deeper than 5
-description_depth : {T : Table} {v : Tree} {b : List ℕ} → Keeps base_table T → Spells T wire_type v b → depth v ≤ 5
+pub description_depth : {T : Table} {v : Tree} {b : List ℕ} → Keeps base_table T → Spells T wire_type v b → depth v ≤ 5
 description_depth s p = flat 5 wire_flat (spells_back s wire_ready p)
 
 -- ---- the item of the tidy form
@@ -140,61 +141,75 @@ no_longer_number (long {digits = ds} r) (long {digits = es} q) l =
       | inr most ↦ omega (arith, most)
     ]
 
--- the item of a body that is no longer stands no further on
-pub record CountedShort (L : Bounds) (T : Table) (offset : ℕ) (i : StreamItem) (V : Table) (most : ℕ) : Type 0 where
-  pub bytes : List ℕ
-  pub counted : IsItem base_table L T offset i bytes V
-  pub no_longer : length bytes ≤ most
-
-counted_short : {T V : Table} {i : StreamItem} (L M : Bounds) (offset low : ℕ) (c d e : List ℕ) → M.item ≡ L.item
-    → M.stream ≡ L.stream → IsUnsigned (length d) c → length d ≤ L.item → offset + length (c ++ d) ≤ L.stream
-    → low ≤ offset → length e ≤ length d → Body base_table M T i e V
-    → CountedShort M T low i V (length (c ++ d))
-counted_short L M offset low c d e item stream u l s before less body =
-    let fits = unsigned_fits u in
-    let z = unsigned_spelled (length e) (omega arith) in
-    let count = no_longer_number z.spelled u less in
-    record {
-      bytes = z.bytes ++ e;
-      counted = counted z.spelled (omega arith) (omega (arith, length-append z.bytes e, length-append c d)) body;
-      no_longer = omega (arith, length-append z.bytes e, length-append c d);
-    }
+-- it stands where it does, or before
+stands_there : {L : Bounds} {T V : Table} {i : StreamItem} {c b text : List ℕ} {number : ℤ} (offset low : ℕ)
+    (d : List ℕ) → IsUnsigned (length d) c → length d ≤ L.item → offset + length (c ++ d) ≤ L.stream → low ≤ offset
+    → (h : IsNumbered number b text) → length (h.before.name ++ b) ≤ length d
+    → Body base_table L T i (h.before.name ++ b) V
+    → IsItem base_table L T low i text V × (length text ≤ length (c ++ d))
+stands_there {L = L} {T = T} {V = V} {i = i} {c = c} {b = b} offset low d u l s before h less body =
+    let count = no_longer_number h.before.counts u less in
+    let whole = h.whole ∙ ap (λ (z : List ℕ). z ++ b) h.before.whole
+    ∙ append_assoc h.before.count h.before.name b in
+    let size = length-append h.before.count (h.before.name ++ b) in (
+      subst (λ (z : List ℕ). IsItem base_table L T low i z V) (sym whole)
+          (counted h.before.counts (omega arith) (omega (arith, size, length-append c d)) body),
+      omega (arith, ap length whole, size, length-append c d),
+    )
 
 -- the tidy form of a value at the top
-record TopForm (T : Table) (t : TypeId) (w : Tree) (most : ℕ) : Type 0 where
-  bytes : List ℕ
-  spelled : SpellsTop T t w bytes
-  no_longer : length bytes ≤ most
+top_no_longer : {T : Table} {t : TypeId} {v w : Tree} {b c : List ℕ} → SpellsTop T t v b → SpellsTop T t w c
+    → Tidies T t v w → length c ≤ length b
+top_no_longer (at_once e s q) (at_once e' s' q') p = spelled_no_longer p q q'
+top_no_longer (tagged e s q) (tagged e' s' q') p = let l = spelled_no_longer p q q' in omega (arith, l)
+top_no_longer (at_once {s = r} e s q) (tagged {s = r'} e' s' q') p =
+    let same : r ≡ r' = cc in absurd (s' (subst (λ (x : Shape). IsStruct x.kind) same s))
+top_no_longer (tagged {s = r} e s q) (at_once {s = r'} e' s' q') p =
+    let same : r' ≡ r = cc in absurd (s (subst (λ (x : Shape). IsStruct x.kind) same s'))
 
-top_form : {T : Table} {t : TypeId} {v w : Tree} {b : List ℕ} → SpellsTop T t v b → Tidies T t v w → Fits T t w
-    → TopForm T t w (length b)
-top_form (at_once e s q) p f = record
-    { bytes = f.bytes; spelled = at_once e s f.spelled; no_longer = spelled_no_longer p q f.spelled }
-top_form (tagged e s q) p f =
-    let l = spelled_no_longer p q f.spelled in
-    record { bytes = 0 ∷ f.bytes; spelled = tagged e s f.spelled; no_longer = omega (arith, l) }
+-- an item's tidy form can stand where the item does, or before, and is no longer
+pub record FormStands (L : Bounds) (T V : Table) (low : ℕ) (i : StreamItem) (text bytes : List ℕ) : Type 0 where
+  pub form : Tree
+  pub tidies : Tidies V (content_type i) (content i) form
+  pub counted : IsItem base_table L T low (with_content i form) text V
+  pub no_longer : length text ≤ length bytes
 
--- an item's tidy form can stand where the item does, or before
-pub form_counted : (L : Bounds) {T V : Table} {i : StreamItem} {offset : ℕ} {bytes : List ℕ} (low : ℕ) (form : Tree)
-    → IsItem base_table (no_deeper deepest L) T offset i bytes V → Keeps base_table T
-    → Tidies T (content_type i) (content i) form → Fits T (content_type i) form → low ≤ offset
-    → CountedShort (bounds_for L i) T low (with_content i form) V (length bytes)
-form_counted L {offset = offset} low form (counted {c = c} u l s (value {v = v} {a = a} {b = b} may deep n k)) base p f
-    before =
-    let top = top_form k p f in
-    let less = tidy_no_deeper p in
-    counted_short (no_deeper deepest L) L offset low c (a ++ b) (a ++ top.bytes) refl refl u l s before
-    (omega (arith, top.no_longer, length-append a b, length-append a top.bytes))
-    (value may (omega (arith, deep, less)) n top.spelled)
-form_counted L {T = T} {offset = offset} low form
-    (counted {c = c} u l s (definition {id = id} {v = v} {a = a} {b = b} may deep describes e n k)) base p f before =
-    let less = tidy_no_deeper p in
-    let shallow = description_depth base k in
-    let there = spells_back base wire_ready k in
-    let alike = described_alike (said_stays there (tidies_back base there p)) describes in
-    let short = spelled_no_longer p k f.spelled in
-    counted_short (no_deeper deepest L) (bounds_for L (StreamItem.defines id form)) offset low c (a ++ b) (a ++ f.bytes)
-    refl refl u l s before
-    (omega (arith, short, length-append a b, length-append a f.bytes))
-    (definition (record { own = may.own; new = may.new; room = may.room }) (omega (arith, deep, less, shallow)) alike e
-    n f.spelled)
+pub form_stands : {L : Bounds} {T V : Table} {i : StreamItem} {offset : ℕ} {bytes text : List ℕ} (low : ℕ)
+    → Keeps base_table T → IsItem base_table L T offset i bytes V → IsTidyItem V i text → low ≤ offset
+    → FormStands L T V low i text bytes
+form_stands {L = L} {T = T} {offset = offset} {text = text} low base
+    (counted {c = c} u l s (value {t = t} {v = v} {a = a} {b = b} may deep n k)) tidy before =
+    by tidy.form tidy.tidies tidy.spelled
+  where
+    by : (form : Tree) → Tidies T t v form → SpellsItem T (puts t form) text
+        → FormStands L T T low (puts t v) text (c ++ (a ++ b))
+    by form p (spells_value {b = top} spells h) =
+        let name = signed_unique h.before.names n in
+        let less = tidy_no_deeper p in
+        let short = top_no_longer k spells p in
+        let there = stands_there offset low (a ++ b) u l s before h
+        (omega (arith, ap length name, short, length-append a b, length-append h.before.name top))
+        (value may (omega (arith, deep, less)) h.before.names spells) in
+        record { form = form; tidies = p; counted = there.0; no_longer = there.1 }
+form_stands {L = L} {T = T} {V = V} {offset = offset} {text = text} low base
+    (counted {c = c} u l s (definition {id = id} {n = k} {v = v} {a = a} {b = b} may deep describes e n spelled)) tidy
+    before = by tidy.form tidy.tidies tidy.spelled
+  where
+    keeps : Keeps T V
+    keeps = body_keeps (definition may deep describes e n spelled)
+
+    by : (form : Tree) → Tidies V wire_type v form → SpellsItem V (defines id form) text
+        → FormStands L T V low (defines id v) text (c ++ (a ++ b))
+    by form p (spells_definition {n = m} {b = content} e' spells h) =
+        let number : m ≡ k = omega arith in
+        let name = signed_unique (subst (λ x. IsSigned (negsuc x) h.before.name) number h.before.names) n in
+        let here = spells_back keeps (ready_on base wire_ready) spells in
+        let tidied = tidies_back keeps spelled p in
+        let based = spells_back base wire_ready spelled in
+        let alike = described_alike (said_stays based (tidies_back base based tidied)) describes in
+        let less = tidy_no_deeper tidied in
+        let short = spelled_no_longer tidied spelled here in
+        let there = stands_there offset low (a ++ b) u l s before h
+        (omega (arith, ap length name, short, length-append a b, length-append h.before.name content))
+        (definition may (omega (arith, deep, less)) alike e' h.before.names here) in
+        record { form = form; tidies = p; counted = there.0; no_longer = there.1 }

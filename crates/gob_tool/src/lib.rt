@@ -22,7 +22,6 @@ mod show;
 mod take;
 mod texts;
 mod tidied;
-mod untidy;
 mod wanted;
 
 pub use check::{run_check, run_check_in};

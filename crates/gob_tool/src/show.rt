@@ -71,9 +71,13 @@ impl<B: Builder<Out = Value>> ItemTexts<Session<B>> for Lines {
 
     fn send_whole<W: Write>(
         &self,
+        _alloc: Global,
         reader: &StreamReader<B>,
         output: &mut Output<W>,
     ) -> Option<Sent> {
+        if reader.waiting() <= MOST_GATHERED {
+            return None;
+        }
         let depth = line_depth(reader);
         let item = whole_item(reader, depth, MOST_GATHERED)?;
         let sent = send_item(reader.table(), item.id, item.body, depth, output);

@@ -18,7 +18,6 @@ use std::alloc::Global;
 use std::io::{Read, Write};
 
 /// So many bytes of texts go out before more are made: as many as the program's buffer has, past which they then go.
-/// The text of an item that has more bytes is sent while it is made, where that can be done.
 pub const MOST_GATHERED: usize = 65536;
 
 /// What makes the texts of the items that a session of the type `S` reads.
@@ -62,10 +61,14 @@ pub trait ItemTexts<S: Steps> {
         ensures { IfOk result (λ found. MatchOption found (text.new.items ≡ [])
             (λ used. IsWholeText S.stepping (of_value self.now) reader.now used text.new.items)) };
 
-    /// Sends the text of such an item while it is made, where it has more than [`MOST_GATHERED`] bytes and that can be
-    /// done without memory. None says nothing of what waits, and nothing was sent: so where each text is made before it
-    /// goes out.
-    fn send_whole<W: Write>(&self, reader: &ReaderOf<S>, output: &mut Output<W>) -> Option<Sent>
+    /// Sends the text of such an item, where it is so large that it had better not be made first. None says nothing of
+    /// what waits, and nothing was sent: so where each text is made before it goes out, and where no memory was had.
+    fn send_whole<W: Write>(
+        &self,
+        alloc: Global,
+        reader: &ReaderOf<S>,
+        output: &mut Output<W>,
+    ) -> Option<Sent>
         ensures { SendsWhole S.stepping (of_value self.now) reader.now (failed_writes output.old)
             (failed_writes output.new) (W.contents (writer_of output.old)) (W.contents (writer_of output.new))
             result }
@@ -152,7 +155,7 @@ fn write_next<S: Steps, W: Write, M: ItemTexts<S>>(
     ensures limits { S.stepping.limits (session_of reader.new) ≡ S.stepping.limits (session_of reader.old) }
     ensures writes { CountsOnlyWrites (failed_writes output.old) (failed_writes output.new) result }
 {
-    if send_large(reader, texts, output)? {
+    if send_large(alloc, reader, texts, output)? {
         return Ok(());
     }
     write_gathered(alloc, reader, texts, gathered, room, output)
@@ -161,6 +164,7 @@ fn write_next<S: Steps, W: Write, M: ItemTexts<S>>(
 /// Writes the text of the large item of a value that waits as a whole, if there is one whose text can be sent, and goes
 /// past it. False where there is none; nothing has changed then.
 fn send_large<S: Steps, W: Write, M: ItemTexts<S>>(
+    alloc: Global,
     reader: &mut ReaderOf<S>,
     texts: &M,
     output: &mut Output<W>,
@@ -174,10 +178,7 @@ fn send_large<S: Steps, W: Write, M: ItemTexts<S>>(
     ensures fault { IfErr result (λ fault. fault ≡ WriteFault.Write) }
     ensures counted { CountsFaults (failed_writes output.old) (failed_writes output.new) result }
 {
-    if reader.waiting() <= MOST_GATHERED {
-        return Ok(false);
-    }
-    let Some(Sent { used, sent }) = texts.send_whole(reader, output) else {
+    let Some(Sent { used, sent }) = texts.send_whole(alloc, reader, output) else {
         return Ok(false);
     };
     reader.pass(used);

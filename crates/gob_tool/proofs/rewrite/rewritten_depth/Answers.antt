@@ -1,6 +1,6 @@
 use Rattle.std.proofs.Common.{◌∙◌, ap, min}
 use Rattle.gob_stream.specs.Bounds.{Bounds, deepest}
-use Rattle.gob_tool.proofs.untidy.rewritten_depth.Goals as goal
+use Rattle.gob_tool.proofs.rewrite.rewritten_depth.Goals as goal
 
 pub returns : goal.returns
 returns c =
