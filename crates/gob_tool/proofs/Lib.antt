@@ -12,3 +12,4 @@ pub mod TidyStays
 pub mod RewriteLaws
 mod TidiedLaws
 pub mod ReaderRuns
+pub mod Profile

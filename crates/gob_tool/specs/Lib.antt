@@ -10,3 +10,11 @@ pub mod Running
 pub mod Sending
 pub mod Texts
 pub mod Machine
+pub mod CheckingGo
+pub mod HoistedLines
+pub mod LineGo
+pub mod RewritingGo
+pub mod RunningGo
+pub mod ShowingGo
+pub mod StrictForms
+pub mod TextsGo

@@ -6,3 +6,5 @@ pub mod Counting
 pub mod Tallying
 pub mod Rewritten
 pub mod Taken
+pub mod FormsGo
+pub mod LinesGo

@@ -1,4 +1,4 @@
-//! The runs over streams of Go's encoder, by the public calls of `gob_go_tool`.
+//! The runs over streams of Go's encoder, by the public calls of `gob_tool`.
 
 mod checks;
 mod faults;

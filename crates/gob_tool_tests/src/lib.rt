@@ -1,4 +1,4 @@
-//! Tests of what the commands do, by the public calls of `gob_tool` and `gob_go_tool`. What the program shows of a
+//! Tests of what the commands do, by the public calls of `gob_tool`. What the program shows of a
 //! stream is in `interop/rows`; here is what no stream shows: devices that fail, other limits, lines without a stream.
 #![tactic(auto)]
 

@@ -24,8 +24,8 @@ use Rattle.gob_go.specs.declared.item.GoItem.TheVariants as item
 use Rattle.gob_go.specs.Calls.Reader.{GoReader}
 use Rattle.gob_go_plain.specs.Filled.{SaysFilled}
 use Rattle.gob_go_plain.proofs.PublicLaws.{says_unfilled}
-use Rattle.gob_go_tool.specs.Texts.{IsWholeText}
-use Rattle.gob_go_tool.proofs.TextLaws.{whole_text}
+use Rattle.gob_tool.specs.TextsGo.{IsWholeText}
+use Rattle.gob_tool.proofs.Profile.TextLaws.{whole_text}
 use Rattle.gob_views.specs.Machine.Tapes.{IsTapeOf}
 use Rattle.gob_words.specs.Words.{text_of}
 use Rattle.gob_views.specs.Values.{IsChosen, IsLineOf, is_shown, is_left_out, IsPlainLine, shown_json}

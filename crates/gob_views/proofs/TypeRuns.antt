@@ -32,7 +32,7 @@ use Rattle.gob_tool.specs.declared.fault.ToolFault.TheVariants as fault
 use Rattle.gob_tool.specs.Ending.{EndsRun, ends_so, flush_fails}
 use Rattle.gob_tool.specs.Showing.{AppendsPrefix}
 use Rattle.gob_tool.proofs.EndLaws.{all_kept, prefix_kept}
-use Rattle.gob_go_tool.specs.RunningGo.{BeginsGo, EndsWholeGo, IsRefusedGo}
+use Rattle.gob_tool.specs.RunningGo.{BeginsGo, EndsWholeGo, IsRefusedGo}
 use Rattle.gob_views.specs.Machine.Gathered.{GathersAll, GathersNext, GathersSo, GathersUpTo, GathersWhole, IdsGiven}
 use Rattle.gob_views.specs.Machine.Gathered.{StopsGathering}
 use Rattle.gob_views.specs.Sending.{SendsText}

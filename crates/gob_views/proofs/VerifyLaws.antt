@@ -4,7 +4,7 @@ use Rattle.std.proofs.Common.{append_assoc, codes, encode_utf8_all}
 use Rattle.std.proofs.lemmas.Str.{encodes-chars}
 use Rattle.std.specs.Str.{IsUtf8, chars}
 use Rattle.gob_stream.specs.Bounds.{Bounds}
-use Rattle.gob_go_tool.specs.CheckingGo.{CheckGoAnswers}
+use Rattle.gob_tool.specs.CheckingGo.{CheckGoAnswers}
 use Rattle.gob_tool.specs.Checking.{is_accepted, is_cut, is_stopped}
 use Rattle.gob_tool.specs.declared.fault.ToolFault.{ToolFault}
 use Rattle.gob_tool.specs.declared.fault.ToolFault.TheVariants as fault

@@ -1,8 +1,8 @@
 -- What the run of a view answers. (docs/FORMAT.md, The program: this project's own.)
 use Rattle.std.specs.Prelude.{ℕ, Bool, true, false, List, [], ◌∷◌, ◌++◌, Option, None, Some, Result, codes}
-use Rattle.gob_go_tool.specs.CheckingGo.{CheckGoAnswers}
-use Rattle.gob_go_tool.specs.RewritingGo.{RewriteGoAnswers}
-use Rattle.gob_go_tool.specs.ShowingGo.{ShowGoAnswers}
+use Rattle.gob_tool.specs.CheckingGo.{CheckGoAnswers}
+use Rattle.gob_tool.specs.RewritingGo.{RewriteGoAnswers}
+use Rattle.gob_tool.specs.ShowingGo.{ShowGoAnswers}
 use Rattle.gob_salvage.specs.Running.{SalvageAnswers}
 use Rattle.gob_salvage.specs.declared.keeping.Salvaged.{Salvaged}
 use Rattle.gob_stream.specs.Bounds.{Bounds}

@@ -12,7 +12,7 @@ use Rattle.gob_go.specs.Reading.{LeadsBehind}
 use Rattle.gob_tool.specs.declared.fault.ToolFault.{ToolFault}
 use Rattle.gob_tool.specs.declared.fault.ToolFault.TheVariants as fault
 use Rattle.gob_tool.specs.Showing.{AppendsPrefix}
-use Rattle.gob_go_tool.specs.RunningGo.{BeginsGo, EndsWholeGo, IsRefusedGo}
+use Rattle.gob_tool.specs.RunningGo.{BeginsGo, EndsWholeGo, IsRefusedGo}
 
 -- this holds of the Go source of the types that the items define, by all types where those bytes lead that were read
 pub record OfSource (L : Bounds) (bytes : List ℕ) (now : Option (List ℕ)) (P : List ℕ → Type 0)

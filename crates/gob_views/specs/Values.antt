@@ -13,7 +13,7 @@ use Rattle.gob_stream.specs.Bounds.{Bounds}
 use Rattle.gob_filled.specs.Stream.{FilledItem, defining, putting}
 use Rattle.gob_go_plain.specs.Filled.{SaysFilled, tagged_json}
 use Rattle.gob_tool.specs.declared.fault.ToolFault.{ToolFault}
-use Rattle.gob_go_tool.specs.Texts.{TextsAnswers}
+use Rattle.gob_tool.specs.TextsGo.{TextsAnswers}
 use Rattle.gob_words.specs.Words.{IsNumber, text_of}
 use Rattle.gob_views.specs.declared.value_line.ValueLines.{ValueLines}
 

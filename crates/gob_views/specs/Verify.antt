@@ -3,7 +3,7 @@ use Rattle.std.specs.Prelude.{◌≡◌, ℕ, List, [], ◌∷◌, ◌++◌, cod
 use Rattle.std.specs.Str.{chars}
 use Rattle.gob_stream.specs.Bounds.{Bounds}
 use Rattle.gob_stream.specs.RefusalText.{refusal_text}
-use Rattle.gob_go_tool.specs.CheckingGo.{IsCountedGoStream, IsNoGoStream}
+use Rattle.gob_tool.specs.CheckingGo.{IsCountedGoStream, IsNoGoStream}
 use Rattle.gob_tool.specs.declared.fault.ToolFault.{ToolFault}
 use Rattle.gob_tool.specs.declared.fault.ToolFault.TheVariants as fault
 use Rattle.gob_words.specs.Escaped.{escaped_text}

@@ -8,7 +8,7 @@ ghost use Rattle.gob_stream.specs.Calls.Ends.{failed_reads, failed_writes, reade
 ghost use Rattle.gob_filled.specs.Stream.{FilledItem};
 ghost use Rattle.gob_go.specs.Meaning.{ItemMeans};
 ghost use Rattle.gob_tool.specs.Showing.{CountsReadFaults, CountsWriteFaults, IsFlushedSince};
-ghost use Rattle.gob_go_tool.specs.Texts.{of_given, of_value, IsWholeText};
+ghost use Rattle.gob_tool.specs.TextsGo.{of_given, of_value, IsWholeText};
 ghost use Rattle.gob_views.specs.Machine.Tapes.{IsTapeOf};
 ghost use Rattle.gob_views.specs.Values.{IsPlainLine, ValuesAnswers};
 

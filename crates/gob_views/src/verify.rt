@@ -5,10 +5,9 @@ ghost use Rattle.gob_stream.specs.Bounds.{within_trees};
 ghost use Rattle.gob_stream.specs.Calls.Ends.{reader_of};
 ghost use Rattle.gob_views.specs.Verify.{IsSaid, IsToldOf, told_of};
 
-use gob_go_tool::run_check_go;
 use gob_num::Memory;
 use gob_stream::{Input, Limits, Output};
-use gob_tool::ToolFault;
+use gob_tool::{ToolFault, run_check_go};
 use gob_words::escaped;
 use std::alloc::Global;
 use std::io::Read;

@@ -22,7 +22,7 @@ use Rattle.gob_tool.specs.Showing.{AppendsPrefix}
 use Rattle.gob_tool.specs.declared.fault.ToolFault.{ToolFault}
 use Rattle.gob_tool.specs.declared.fault.ToolFault.TheVariants as fault
 use Rattle.gob_tool.proofs.EndLaws.{all_kept, prefix_kept}
-use Rattle.gob_go_tool.specs.RunningGo.{BeginsGo, EndsWholeGo, GivesLongestGo, IsRefusedGo}
+use Rattle.gob_tool.specs.RunningGo.{BeginsGo, EndsWholeGo, GivesLongestGo, IsRefusedGo}
 use Rattle.gob_why.specs.Explain.{ExplainAnswers, HasExplained, HasRefused, IsCutOff, IsRefusedText, ended_there}
 use Rattle.gob_why.specs.Explain.{in_items, in_refused, no_item}
 use Rattle.gob_why.specs.Explain.{shown_there}

@@ -30,7 +30,7 @@ use Rattle.gob_tool.specs.declared.in_memory.Tally.{Tally}
 use Rattle.gob_tool.specs.declared.fault.ToolFault.{ToolFault}
 use Rattle.gob_tool.specs.declared.fault.ToolFault.TheVariants as fault
 use Rattle.gob_tool.proofs.CheckLaws.{counted_whole}
-use Rattle.gob_go_tool.specs.CheckingGo.{IsNoGoStream, LongestGoStream}
+use Rattle.gob_tool.specs.CheckingGo.{IsNoGoStream, LongestGoStream}
 use Rattle.gob_why.specs.Machine.Keeping.{HasReadKept, KeepsAll}
 use Rattle.gob_why.specs.Machine.Reading.{HasTaken}
 use Rattle.gob_why.specs.declared.explained.Explained.{Explained}

@@ -10,7 +10,7 @@ use Rattle.gob_tool.specs.declared.fault.ToolFault.TheVariants as fault
 use Rattle.gob_tool.specs.Ending.{EndsRun, ends_so, flush_fails}
 use Rattle.gob_tool.specs.Showing.{AppendsPrefix}
 use Rattle.gob_tool.proofs.EndLaws.{all_kept, prefix_kept, sent_prefix}
-use Rattle.gob_go_tool.specs.CheckingGo.{IsCountedGoStream, IsNoGoStream}
+use Rattle.gob_tool.specs.CheckingGo.{IsCountedGoStream, IsNoGoStream}
 use Rattle.gob_why.proofs.ReadingLaws.{no_stream_under}
 use Rattle.gob_why.specs.Why.{Heads, IsHeaded, IsRefusedSo, Says, Tells, WhyAnswers, of_refused, of_whole}
 use Rattle.gob_why.specs.Why.{refusal_line}

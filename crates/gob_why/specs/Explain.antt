@@ -18,7 +18,7 @@ use Rattle.gob_go.specs.Reading.{RefusesBehind}
 use Rattle.gob_tool.specs.Showing.{AppendsPrefix}
 use Rattle.gob_tool.specs.declared.fault.ToolFault.{ToolFault}
 use Rattle.gob_tool.specs.declared.fault.ToolFault.TheVariants as fault
-use Rattle.gob_go_tool.specs.RunningGo.{BeginsGo, EndsWholeGo, GivesLongestGo, IsRefusedGo}
+use Rattle.gob_tool.specs.RunningGo.{BeginsGo, EndsWholeGo, GivesLongestGo, IsRefusedGo}
 use Rattle.gob_why.specs.declared.explained.Explained.{Explained}
 use Rattle.gob_why.specs.declared.explained.Explained.TheVariants as explained
 

@@ -11,7 +11,7 @@ use Rattle.gob_filled.specs.Stream.{FilledItem}
 use Rattle.gob_tool.specs.declared.fault.ToolFault.{ToolFault}
 use Rattle.gob_tool.specs.declared.fault.ToolFault.TheVariants as fault
 use Rattle.gob_tool.specs.Showing.{AppendsPrefix}
-use Rattle.gob_go_tool.specs.CheckingGo.{IsCountedGoStream, IsNoGoStream}
+use Rattle.gob_tool.specs.CheckingGo.{IsCountedGoStream, IsNoGoStream}
 
 -- the line that names a refusal
 abbrev pub refusal_line : Refusal → List ℕ

@@ -21,7 +21,7 @@ use std::alloc::Global;
 use std::io::{Read, Write};
 
 /// Reads a stream of Go's encoder to its end or to its refusal, and says of a whole one how many items, types and bytes
-/// it has, in the line of [`gob_go_tool::run_check_go`], and then how many values of each type; of a refused one the
+/// it has, in the line of [`gob_tool::run_check_go`], and then how many values of each type; of a refused one the
 /// line of its refusal, and then in words where and why it is refused, what is behind it and what to do. It ends with a
 /// flush. Ok exactly at the end of a whole stream. Where a read fails or memory is wanting, nothing is written; at
 /// `ToolFault::Write` a prefix may be. What it takes in memory grows with the types and the largest item alone. No

@@ -1,8 +1,7 @@
 //! Runs over devices, and how they end.
 
-use gob_go_tool::{run_check_go, run_rewrite_go, run_show_go};
 use gob_stream::{Input, Limits, Output};
-use gob_tool::ToolFault;
+use gob_tool::{ToolFault, run_check_go, run_rewrite_go, run_show_go};
 use std::alloc::Global;
 use std::io::{Read, Write};
 

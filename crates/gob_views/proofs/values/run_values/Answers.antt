@@ -1,6 +1,6 @@
 use Rattle.gob_stream.specs.Bounds.{within_trees}
 use Rattle.gob_stream.specs.Calls.Ends.{reader_of, writer_of}
-use Rattle.gob_go_tool.proofs.TextLaws.{texts_of}
+use Rattle.gob_tool.proofs.Profile.TextLaws.{texts_of}
 use Rattle.gob_views.specs.Values.{IsPlainLine}
 use Rattle.gob_views.proofs.values.run_values.Goals as goal
 

@@ -1,6 +1,6 @@
 -- The line has what the check wrote, or why it wrote nothing.
 use Rattle.std.proofs.Common.{◌≡◌, ◌∙◌, ℕ, List, [], Some, ap, subst}
-use Rattle.gob_go_tool.specs.CheckingGo.{CheckGoAnswers}
+use Rattle.gob_tool.specs.CheckingGo.{CheckGoAnswers}
 use Rattle.gob_stream.specs.Bounds.{within_trees}
 use Rattle.gob_stream.specs.Calls.Ends.{reader_of, writer_of}
 use Rattle.gob_views.specs.Verify.{IsSaid, told_of}

@@ -11,7 +11,7 @@ use Rattle.gob_tool.specs.Machine.Counting.{EndsCountingIn}
 use Rattle.gob_tool.specs.declared.in_memory.Tally.{Tally}
 use Rattle.gob_tool.proofs.CheckLaws.{limits_as}
 use Rattle.gob_tool.proofs.EndLaws.{at_error}
-use Rattle.gob_go_tool.specs.CheckingGo.{IsNoGoStream}
+use Rattle.gob_tool.specs.CheckingGo.{IsNoGoStream}
 use Rattle.gob_why.proofs.ReadingLaws.{bytes_within, end_counts, end_stops, none_came, piece_came, piece_stops}
 use Rattle.gob_why.proofs.ReadingLaws.{piece_taken, read_failed, taken_none}
 use Rattle.gob_why.proofs.reading.read_all.Goals as goal

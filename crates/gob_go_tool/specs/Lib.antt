@@ -1,9 +1,0 @@
-pub mod CheckingGo
-pub mod HoistedLines
-pub mod LineGo
-pub mod Machine
-pub mod RewritingGo
-pub mod RunningGo
-pub mod ShowingGo
-pub mod StrictForms
-pub mod Texts
