@@ -20,6 +20,7 @@ use Rattle.gob_tape.specs.Flat.{Flat}
 use Rattle.gob_tape.specs.Meaning.{Means}
 use Rattle.gob_plain.specs.declared.style.Style.{Style}
 use Rattle.gob_plain.specs.declared.fillers.Filler.{Filler}
+use Rattle.gob_plain.specs.OpaqueText.{content_in}
 use Rattle.gob_plain.specs.Filled.{SaysIn, SaysInWith, shown}
 use Rattle.gob_plain.specs.Plain.{all_null}
 use Rattle.gob_plain.specs.Fillers.{FillerSays, SaysFiller, SaysMaybeNamed, SaysNamed, IsFiller, AreFillers, HasJson}
@@ -181,7 +182,7 @@ filled_said {tagged = tagged} {style = style} {T = T} {t = t} {value = value} {g
       j.0,
       says_filled spells n.says
           (says_as_much (λ k i. FillerSays (slice_get all (0 + k)) i) (λ k i. i ≡ get_or n.said k json.null)
-          style.raw T t (shown style T t v) j.0
+          (content_in style) T t (shown style T t v) j.0
           (λ k l i p. n.each k i (subst (λ m. FillerSays (slice_get all m) i) (omega arith) p)) j.1),
       j.2,
       j.3,
@@ -208,7 +209,7 @@ say_nulls (n ∷ ns) = says_null (say_nulls ns)
 pub unfilled_says : (tagged : Bool) (style : Style) (T : Table) (t : TypeId) (v : Tree) (j : Json)
     → SaysFilled tagged style T t (spelled.filled v no_filling) j → SaysIn style T t v j
 unfilled_says tagged style T t v j (says_filled {said = said} spells n s) =
-    says_as_much (λ k i. i ≡ get_or said k json.null) all_null style.raw T t (shown style T t v) j
+    says_as_much (λ k i. i ≡ get_or said k json.null) all_null (content_in style) T t (shown style T t v) j
     (λ k l i p. p ∙ nulls_said n k) s
 
 pub says_unfilled : (tagged : Bool) (style : Style) (T : Table) (t : TypeId) (v : Tree) (b : List ℕ) (j : Json)
@@ -216,5 +217,6 @@ pub says_unfilled : (tagged : Bool) (style : Style) (T : Table) (t : TypeId) (v 
 says_unfilled tagged style T t v b j spells s =
     let n = say_nulls {tagged = tagged} {style = style} {T = T} {t = t} {b = b} (nil_parts 0 v) in
     says_filled spells n
-    (says_as_much all_null (λ k i. i ≡ get_or (nulls (nil_parts 0 v)) k json.null) style.raw T t (shown style T t v) j
+    (says_as_much all_null (λ k i. i ≡ get_or (nulls (nil_parts 0 v)) k json.null) (content_in style) T t (shown
+    style T t v) j
     (λ k l i p. p ∙ sym (nulls_said n k)) s)

@@ -31,11 +31,11 @@ pub fn filled_text(
     id: TypeId,
     value: &Filled,
     table: &Table,
-    style: Style,
+    style: Style<'_>,
     tagged: bool,
 ) -> Result<String, Memory>
     ensures said { IfOk result (λ text. (w : spelled.Filled) → IsFilled (types table.now) id value.now w
-        → (j : Json) × SaysFilled tagged style (types table.now) id w j
+        → (j : Json) × SaysFilled tagged style.entry (types table.now) id w j
         × (string_bytes text ≡ print (json_tokens j)) × (tokens (string_bytes text) ≡ json_tokens j)) }
     ensures json { IfOk result (λ text. (j : Json) × (tokens (string_bytes text) ≡ json_tokens j)) }
 {
@@ -63,10 +63,10 @@ fn fillers_of<'a>(
     alloc: Global,
     value: &'a Filled,
     table: &Table,
-    style: Style,
+    style: Style<'_>,
     tagged: bool,
 ) -> Result<Vec<Filler<'a>>, Memory>
-    ensures { IfOk result (λ fillers. FillersSay tagged style (types table.now)
+    ensures { IfOk result (λ fillers. FillersSay tagged style.entry (types table.now)
         (out-Filled value.now).fillings.items fillers.items) }
 {
     let mut fillers = Vec::with_capacity(alloc, value.fillings.len())?;
@@ -83,10 +83,10 @@ fn filler_of<'a>(
     alloc: Global,
     filling: &'a Filling,
     table: &Table,
-    style: Style,
+    style: Style<'_>,
     tagged: bool,
 ) -> Result<Filler<'a>, Memory>
-    ensures { IfOk result (λ filler. FillerFits tagged style (types table.now) filling.now filler) }
+    ensures { IfOk result (λ filler. FillerFits tagged style.entry (types table.now) filling.now filler) }
 {
     let text = filled_text(alloc, filling.id, &filling.value, table, style, tagged)?;
     let name = tag_of(tagged, &filling.name);

@@ -48,10 +48,11 @@ a whole number in an interface | 15 10 00 08 2a 62 69 67 2e 49 6e 74 ff 8b 05 01
 "#;
 
 // The style in which the column has the values.
-fn style_of(column: usize) -> Style {
+fn style_of(column: usize) -> Style<'static> {
     Style {
         zeros: column == 4,
         raw: false,
+        taken: &[],
     }
 }
 

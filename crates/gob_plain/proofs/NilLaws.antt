@@ -16,6 +16,7 @@ use Rattle.gob_value.specs.Tree.{Tree, Trees, no_tree, tree, Pairs, no_pair, pai
 use Rattle.gob_value.specs.Tree as Value
 use Rattle.gob_json.specs.Json.{element_type, key_type, struct_fields, field_type}
 use Rattle.gob_plain.specs.declared.style.Style.{Style}
+use Rattle.gob_plain.specs.OpaqueText.{Takes}
 use Rattle.gob_plain.specs.Plain.{IsMapOf, gives_names, nils, nils_of_each, nils_of_members, nils_of_pairs}
 use Rattle.gob_plain.specs.Plain.{nils_of_fields, behind, SaysWith, SayEachWith, SayMembersWith, SayPairsWith}
 use Rattle.gob_plain.specs.Plain.{SayFieldsWith}
@@ -46,90 +47,90 @@ map_as_much M N P P' Q Q' true a b j f g h s = (s.0, s.1, g f s.0 s.2)
 map_as_much M N P P' Q Q' false a b j f g h s = (s.0, s.1, h f s.0 s.2)
 
 mutual
-  pub says_as_much : (M N : ℕ → Json → Type 0) (raw : Bool) (T : Table) (t : TypeId) (v : Tree) (j : Json)
-      → SaysAsMuch (nils T t v) M N → SaysWith M raw T t v j → SaysWith N raw T t v j
-  says_as_much M N raw T t (Value.bool x) j f s = s
-  says_as_much M N raw T t (Value.int i) j f s = s
-  says_as_much M N raw T t (Value.uint n) j f s = s
-  says_as_much M N raw T t (Value.float p) j f s = s
-  says_as_much M N raw T t (Value.complex p q) j f s = s
-  says_as_much M N raw T t (Value.bytes b) j f s = s
-  says_as_much M N raw T t (Value.text b) j f s = s
-  says_as_much M N raw T t (Value.opaque b) j f s = s
-  says_as_much M N raw T t Value.nil j f s = f 0 (omega arith) j s
-  says_as_much M N raw T t (Value.many vs) j f s =
-      (s.0, s.1, each_as_much M N raw T (element_type (shape_of T t)) vs s.0 f s.2)
-  says_as_much M N raw T t (Value.pairs ps) j f s =
+  pub says_as_much : (M N : ℕ → Json → Type 0) (how : Takes) (T : Table) (t : TypeId) (v : Tree) (j : Json)
+      → SaysAsMuch (nils T t v) M N → SaysWith M how T t v j → SaysWith N how T t v j
+  says_as_much M N how T t (Value.bool x) j f s = s
+  says_as_much M N how T t (Value.int i) j f s = s
+  says_as_much M N how T t (Value.uint n) j f s = s
+  says_as_much M N how T t (Value.float p) j f s = s
+  says_as_much M N how T t (Value.complex p q) j f s = s
+  says_as_much M N how T t (Value.bytes b) j f s = s
+  says_as_much M N how T t (Value.text b) j f s = s
+  says_as_much M N how T t (Value.opaque b) j f s = s
+  says_as_much M N how T t Value.nil j f s = f 0 (omega arith) j s
+  says_as_much M N how T t (Value.many vs) j f s =
+      (s.0, s.1, each_as_much M N how T (element_type (shape_of T t)) vs s.0 f s.2)
+  says_as_much M N how T t (Value.pairs ps) j f s =
       map_as_much M N
-      (λ ms. SayMembersWith M raw T (element_type (shape_of T t)) ps ms)
-      (λ ms. SayMembersWith N raw T (element_type (shape_of T t)) ps ms)
-      (λ js. SayPairsWith M raw T (key_type (shape_of T t)) (element_type (shape_of T t)) ps js)
-      (λ js. SayPairsWith N raw T (key_type (shape_of T t)) (element_type (shape_of T t)) ps js)
+      (λ ms. SayMembersWith M how T (element_type (shape_of T t)) ps ms)
+      (λ ms. SayMembersWith N how T (element_type (shape_of T t)) ps ms)
+      (λ js. SayPairsWith M how T (key_type (shape_of T t)) (element_type (shape_of T t)) ps js)
+      (λ js. SayPairsWith N how T (key_type (shape_of T t)) (element_type (shape_of T t)) ps js)
       (gives_names (key_type (shape_of T t)))
       (nils_of_members T (element_type (shape_of T t)) ps)
       (nils_of_pairs T (key_type (shape_of T t)) (element_type (shape_of T t)) ps) j f
-      (λ g ms. members_as_much M N raw T (element_type (shape_of T t)) ps ms g)
-      (λ g js. pairs_as_much M N raw T (key_type (shape_of T t)) (element_type (shape_of T t)) ps js g) s
-  says_as_much M N raw T t (Value.fields fs) j f s =
-      (s.0, s.1, fields_as_much M N raw T (struct_fields (shape_of T t)) fs s.0 f s.2)
+      (λ g ms. members_as_much M N how T (element_type (shape_of T t)) ps ms g)
+      (λ g js. pairs_as_much M N how T (key_type (shape_of T t)) (element_type (shape_of T t)) ps js g) s
+  says_as_much M N how T t (Value.fields fs) j f s =
+      (s.0, s.1, fields_as_much M N how T (struct_fields (shape_of T t)) fs s.0 f s.2)
 
-  pub each_as_much : (M N : ℕ → Json → Type 0) (raw : Bool) (T : Table) (e : TypeId) (vs : Trees) (js : Items)
-      → SaysAsMuch (nils_of_each T e vs) M N → SayEachWith M raw T e vs js → SayEachWith N raw T e vs js
-  each_as_much M N raw T e no_tree json.no_items f s = tt
-  each_as_much M N raw T e no_tree (json.item j js) f s = absurd s
-  each_as_much M N raw T e (tree v vs) json.no_items f s = absurd s
-  each_as_much M N raw T e (tree v vs) (json.item j js) f s = (
-    says_as_much M N raw T e v j (of_first M N (nils T e v) (nils_of_each T e vs) f) s.0,
-    each_as_much (behind (nils T e v) M) (behind (nils T e v) N) raw T e vs js
+  pub each_as_much : (M N : ℕ → Json → Type 0) (how : Takes) (T : Table) (e : TypeId) (vs : Trees) (js : Items)
+      → SaysAsMuch (nils_of_each T e vs) M N → SayEachWith M how T e vs js → SayEachWith N how T e vs js
+  each_as_much M N how T e no_tree json.no_items f s = tt
+  each_as_much M N how T e no_tree (json.item j js) f s = absurd s
+  each_as_much M N how T e (tree v vs) json.no_items f s = absurd s
+  each_as_much M N how T e (tree v vs) (json.item j js) f s = (
+    says_as_much M N how T e v j (of_first M N (nils T e v) (nils_of_each T e vs) f) s.0,
+    each_as_much (behind (nils T e v) M) (behind (nils T e v) N) how T e vs js
         (of_rest M N (nils T e v) (nils_of_each T e vs) f) s.1,
   )
 
-  pub members_as_much : (M N : ℕ → Json → Type 0) (raw : Bool) (T : Table) (e : TypeId) (ps : Pairs) (ms : Members)
-      → SaysAsMuch (nils_of_members T e ps) M N → SayMembersWith M raw T e ps ms → SayMembersWith N raw T e ps ms
-  members_as_much M N raw T e no_pair json.no_members f s = tt
-  members_as_much M N raw T e no_pair (json.member name j ms) f s = absurd s
-  members_as_much M N raw T e (pair x v ps) json.no_members f s = absurd s
-  members_as_much M N raw T e (pair x v ps) (json.member name j ms) f s = (
+  pub members_as_much : (M N : ℕ → Json → Type 0) (how : Takes) (T : Table) (e : TypeId) (ps : Pairs) (ms : Members)
+      → SaysAsMuch (nils_of_members T e ps) M N → SayMembersWith M how T e ps ms → SayMembersWith N how T e ps ms
+  members_as_much M N how T e no_pair json.no_members f s = tt
+  members_as_much M N how T e no_pair (json.member name j ms) f s = absurd s
+  members_as_much M N how T e (pair x v ps) json.no_members f s = absurd s
+  members_as_much M N how T e (pair x v ps) (json.member name j ms) f s = (
     s.0,
-    says_as_much M N raw T e v j (of_first M N (nils T e v) (nils_of_members T e ps) f) s.1,
-    members_as_much (behind (nils T e v) M) (behind (nils T e v) N) raw T e ps ms
+    says_as_much M N how T e v j (of_first M N (nils T e v) (nils_of_members T e ps) f) s.1,
+    members_as_much (behind (nils T e v) M) (behind (nils T e v) N) how T e ps ms
         (of_rest M N (nils T e v) (nils_of_members T e ps) f) s.2,
   )
 
-  pub pairs_as_much : (M N : ℕ → Json → Type 0) (raw : Bool) (T : Table) (k e : TypeId) (ps : Pairs) (js : Items)
-      → SaysAsMuch (nils_of_pairs T k e ps) M N → SayPairsWith M raw T k e ps js → SayPairsWith N raw T k e ps js
-  pairs_as_much M N raw T k e no_pair json.no_items f s = tt
-  pairs_as_much M N raw T k e no_pair (json.item j js) f s = absurd s
-  pairs_as_much M N raw T k e (pair x v ps) json.no_items f s = absurd s
-  pairs_as_much M N raw T k e (pair x v ps) (json.item j js) f s =
+  pub pairs_as_much : (M N : ℕ → Json → Type 0) (how : Takes) (T : Table) (k e : TypeId) (ps : Pairs) (js : Items)
+      → SaysAsMuch (nils_of_pairs T k e ps) M N → SayPairsWith M how T k e ps js → SayPairsWith N how T k e ps js
+  pairs_as_much M N how T k e no_pair json.no_items f s = tt
+  pairs_as_much M N how T k e no_pair (json.item j js) f s = absurd s
+  pairs_as_much M N how T k e (pair x v ps) json.no_items f s = absurd s
+  pairs_as_much M N how T k e (pair x v ps) (json.item j js) f s =
       let others : SaysAsMuch (nils T e v + nils_of_pairs T k e ps) (behind (nils T k x) M) (behind (nils T k x) N) =
       of_rest M N (nils T k x) (nils T e v + nils_of_pairs T k e ps) f in (
         (
           s.0.0,
           s.0.1,
           s.0.2,
-          says_as_much M N raw T k x s.0.0 (of_first M N (nils T k x) (nils T e v + nils_of_pairs T k e ps) f) s.0.3,
-          says_as_much (behind (nils T k x) M) (behind (nils T k x) N) raw T e v s.0.1
+          says_as_much M N how T k x s.0.0 (of_first M N (nils T k x) (nils T e v + nils_of_pairs T k e ps) f) s.0.3,
+          says_as_much (behind (nils T k x) M) (behind (nils T k x) N) how T e v s.0.1
               (of_first (behind (nils T k x) M) (behind (nils T k x) N) (nils T e v) (nils_of_pairs T k e ps) others)
               s.0.4,
         ),
-        pairs_as_much (behind (nils T e v) (behind (nils T k x) M)) (behind (nils T e v) (behind (nils T k x) N)) raw T
+        pairs_as_much (behind (nils T e v) (behind (nils T k x) M)) (behind (nils T e v) (behind (nils T k x) N)) how T
             k e ps js
             (of_rest (behind (nils T k x) M) (behind (nils T k x) N) (nils T e v) (nils_of_pairs T k e ps) others) s.1,
       )
 
-  pub fields_as_much : (M N : ℕ → Json → Type 0) (raw : Bool) (T : Table) (types : List Field) (fs : Fields)
+  pub fields_as_much : (M N : ℕ → Json → Type 0) (how : Takes) (T : Table) (types : List Field) (fs : Fields)
       (ms : Members)
-      → SaysAsMuch (nils_of_fields T types fs) M N → SayFieldsWith M raw T types fs ms
-      → SayFieldsWith N raw T types fs ms
-  fields_as_much M N raw T types no_field json.no_members f s = tt
-  fields_as_much M N raw T types no_field (json.member name j ms) f s = absurd s
-  fields_as_much M N raw T types (field n v fs) json.no_members f s = absurd s
-  fields_as_much M N raw T types (field n v fs) (json.member name j ms) f s =
+      → SaysAsMuch (nils_of_fields T types fs) M N → SayFieldsWith M how T types fs ms
+      → SayFieldsWith N how T types fs ms
+  fields_as_much M N how T types no_field json.no_members f s = tt
+  fields_as_much M N how T types no_field (json.member name j ms) f s = absurd s
+  fields_as_much M N how T types (field n v fs) json.no_members f s = absurd s
+  fields_as_much M N how T types (field n v fs) (json.member name j ms) f s =
       let t = field_type (slice_get types n) in (
         s.0,
-        says_as_much M N raw T t v j (of_first M N (nils T t v) (nils_of_fields T types fs) f) s.1,
-        fields_as_much (behind (nils T t v) M) (behind (nils T t v) N) raw T types fs ms
+        says_as_much M N how T t v j (of_first M N (nils T t v) (nils_of_fields T types fs) f) s.1,
+        fields_as_much (behind (nils T t v) M) (behind (nils T t v) N) how T types fs ms
             (of_rest M N (nils T t v) (nils_of_fields T types fs) f) s.2,
       )
 
@@ -174,17 +175,17 @@ zeros_none_counted T types f (suc n) fs =
     ∙ zeros_none_counted T types (f + 1) n fs
 
 -- so what is said of a zero and of the fields behind it
-pub zero_with : (N : ℕ → Json → Type 0) (raw : Bool) (T : Table) (types : List Field) (f : ℕ) (z : Tree) (gs : Fields)
+pub zero_with : (N : ℕ → Json → Type 0) (how : Takes) (T : Table) (types : List Field) (f : ℕ) (z : Tree) (gs : Fields)
     (j : Json) (ms : Members) (M : ℕ → Json → Type 0)
     → zero_at T (slice_get types f) ≡ Some z
-    → SaysWith M raw T (field_type (slice_get types f)) z j → SayFieldsWith N raw T types gs ms
-    → SaysWith N raw T (field_type (slice_get types f)) z j
-    × SayFieldsWith (behind (nils T (field_type (slice_get types f)) z) N) raw T types gs ms
-zero_with N raw T types f z gs j ms M e s h =
+    → SaysWith M how T (field_type (slice_get types f)) z j → SayFieldsWith N how T types gs ms
+    → SaysWith N how T (field_type (slice_get types f)) z j
+    × SayFieldsWith (behind (nils T (field_type (slice_get types f)) z) N) how T types gs ms
+zero_with N how T types f z gs j ms M e s h =
     let t = field_type (slice_get types f) in
     let none : nils T t z ≡ 0 = zero_none T t (slice_get types f) z e in (
-      says_as_much M N raw T t z j (λ k l. absurd (none_below k l none)) s,
-      fields_as_much N (behind (nils T t z) N) raw T types gs ms
+      says_as_much M N how T t z j (λ k l. absurd (none_below k l none)) s,
+      fields_as_much N (behind (nils T t z) N) how T types gs ms
           (λ k l i p. subst (λ n. N n i) (omega (arith, none)) p) h,
     )
   where

@@ -31,7 +31,7 @@ use Rattle.gob_plain.specs.Filled.{shown, shown_all, shown_pairs, shown_fields, 
 use Rattle.gob_plain.specs.Filled.{nils_of_members_in, nils_of_pairs_in, nils_of_fields_in, SaysInWith, SaysElementsIn}
 use Rattle.gob_plain.specs.Filled.{SaysMembersIn, SaysPairsIn, SaysStructIn}
 use Rattle.gob_plain.specs.AbsentFields.{AbsentTokens}
-use Rattle.gob_plain.specs.OpaqueText.{SaysOpaque}
+use Rattle.gob_plain.specs.OpaqueText.{SaysOpaque, Takes, content_in}
 use Rattle.gob_plain.specs.Leaf.{SaysLeaf}
 use Rattle.gob_plain.specs.WritesPlain.{WritesSome, AreTokensOf, WritesPlain, WritesNilsOf, AreBehind, Shows}
 use Rattle.gob_plain.proofs.NilLaws.{says_as_much, each_as_much, members_as_much, pairs_as_much, fields_as_much}
@@ -110,7 +110,8 @@ elements_on {style = style} {T = T} {e = e} {others = others} {part = part} {nil
               (λ xs ys p h. (
                 json.item p.0 h.0,
                 element_in from style T e v vs p.0 h.0 p.1
-                    (each_as_much to (behind (nils_in style T e v) from) style.raw T e (shown_all style T e vs) h.0
+                    (each_as_much to (behind (nils_in style T e v) from) (content_in style) T e (shown_all style T
+                    e vs) h.0
                     (λ k b j. passed k j) h.1),
                 both_same p.2 h.2,
               ));
@@ -205,14 +206,15 @@ fields_on {style = style} {T = T} {types = types} {from = from} {next = next} {o
         let same = next_shown style T types f next fs small is.0 in record {
           rest = fs;
           gives = g;
-          left = subst (λ (gs : Fields). IsLeft old new (MembersTokens (λ ms. SayFieldsWith to style.raw T types gs
+          left = subst (λ (gs : Fields). IsLeft old new (MembersTokens (λ ms. SayFieldsWith to (content_in style) T
+              types gs
               ms)) All)
               (sym same)
               (left_on {Next = MembersTokens (FieldsIn to style T types (f + 1) fs)} q
               (some_then {R = AbsentThen say style T types from f x} is.1 is.2 (λ xs ys p q. (xs, ys, p, q, refl)))
               (λ xs ys p h.
               let all = absent_then say style T types from f x fs p.3.0 h.0 p.0 p.2 p.3.1
-              (fields_as_much to (behind (nils_in style T t x) say) style.raw T types
+              (fields_as_much to (behind (nils_in style T t x) say) (content_in style) T types
               (shown_fields style T types (f + 1) fs) h.0 (λ k b j. is.3 k j) h.1) in (
                 all.0,
                 all.1,
@@ -370,7 +372,8 @@ module _ {E : Type 0} {u : Unit {0}} {style : Style} {T : Table} {k e : TypeId} 
             h.0,
             (
               p.1,
-              members_as_much to (behind (nils_in style T e v) from) style.raw T e (shown_pairs style T k e ps) h.0
+              members_as_much to (behind (nils_in style T e v) from) (content_in style) T e (shown_pairs style T k
+                  e ps) h.0
                   (λ k b j. passed k j) h.1,
             ),
             both_same p.2 h.2,
@@ -506,9 +509,10 @@ module _ {E : Type 0} {u : Unit {0}} {style : Style} {T : Table} {k e : TypeId} 
               h.0,
               refl,
               p.1,
-              says_as_much to (behind keys from) style.raw T e (shown style T e v) h.0 (λ k b j. passed k j) h.2.0,
+              says_as_much to (behind keys from) (content_in style) T e (shown style T e v) h.0 (λ k b j. passed k
+                  j) h.2.0,
             )
-                (pairs_as_much (behind elements to) (behind elements (behind keys from)) style.raw T k e
+                (pairs_as_much (behind elements to) (behind elements (behind keys from)) (content_in style) T k e
                 (shown_pairs style T k e ps) h.1 (λ k b j. passed (elements + k) j) h.2.1),
             both_same p.2 h.3
                 ∙ ap (λ (l : List Token). Token.begin_array ∷ l)
@@ -538,7 +542,8 @@ module _ {E : Type 0} {u : Unit {0}} {style : Style} {T : Table} {k e : TypeId} 
             h.0,
             (
               p.1,
-              pairs_as_much to (behind (nils_in style T e v) from) style.raw T k e (shown_pairs style T k e ps) h.0
+              pairs_as_much to (behind (nils_in style T e v) from) (content_in style) T k e (shown_pairs style T k
+                  e ps) h.0
                   (λ k b j. passed k j) h.1,
             ),
             both_same p.2 h.2,
@@ -617,22 +622,22 @@ pairs_passed {others = others} {nils = nils} first from (element_next v ps g q l
 
 -- ---- parts without parts
 
-leaf_is : (N : ℕ → Json → Type 0) (raw : Bool) (T : Table) (t : TypeId) (v : Tree) → (kind_of v ≢ kind.Many)
+leaf_is : (N : ℕ → Json → Type 0) (how : Takes) (T : Table) (t : TypeId) (v : Tree) → (kind_of v ≢ kind.Many)
     → (kind_of v ≢ kind.Pairs) → (kind_of v ≢ kind.Fields) → (kind_of v ≢ kind.Opaque) → (kind_of v ≢ kind.Nil)
-    → (j : Json) → SaysLeaf (kind_of v) (numbers_of v).0 (numbers_of v).1 (bytes_of v) j → SaysWith N raw T t v j
-leaf_is N raw T t (Value.float x) m p f o n j h = h
-leaf_is N raw T t (Value.complex x y) m p f o n j h = h
-leaf_is N raw T t (Value.opaque b) m p f o n j h = absurd (o refl)
-leaf_is N raw T t (Value.many vs) m p f o n j h = absurd (m refl)
-leaf_is N raw T t (Value.pairs ps) m p f o n j h = absurd (p refl)
-leaf_is N raw T t (Value.fields fs) m p f o n j h = absurd (f refl)
-leaf_is N raw T t (Value.bool x) m p f o n j h = h ∙ ap outline (leaf_seen T t
+    → (j : Json) → SaysLeaf (kind_of v) (numbers_of v).0 (numbers_of v).1 (bytes_of v) j → SaysWith N how T t v j
+leaf_is N how T t (Value.float x) m p f o n j h = h
+leaf_is N how T t (Value.complex x y) m p f o n j h = h
+leaf_is N how T t (Value.opaque b) m p f o n j h = absurd (o refl)
+leaf_is N how T t (Value.many vs) m p f o n j h = absurd (m refl)
+leaf_is N how T t (Value.pairs ps) m p f o n j h = absurd (p refl)
+leaf_is N how T t (Value.fields fs) m p f o n j h = absurd (f refl)
+leaf_is N how T t (Value.bool x) m p f o n j h = h ∙ ap outline (leaf_seen T t
     (Value.bool x) _ _ _ refl refl refl m p f)
-leaf_is N raw T t (Value.int i) m p f o n j h = h ∙ ap outline (leaf_seen T t (Value.int i) _ _ _ refl refl refl m p f)
-leaf_is N raw T t (Value.uint x) m p f o n j h = h
-leaf_is N raw T t (Value.bytes b) m p f o n j h = h
-leaf_is N raw T t (Value.text b) m p f o n j h = h
-leaf_is N raw T t Value.nil m p f o n j h = absurd (n refl)
+leaf_is N how T t (Value.int i) m p f o n j h = h ∙ ap outline (leaf_seen T t (Value.int i) _ _ _ refl refl refl m p f)
+leaf_is N how T t (Value.uint x) m p f o n j h = h
+leaf_is N how T t (Value.bytes b) m p f o n j h = h
+leaf_is N how T t (Value.text b) m p f o n j h = h
+leaf_is N how T t Value.nil m p f o n j h = absurd (n refl)
 
 -- what a view shows of a part without parts
 pub leaf_says : (N : ℕ → Json → Type 0) (style : Style) (T : Table) (t : TypeId) (v : Tree) (k : ValueKind) (n : ℕ × ℕ)
@@ -642,7 +647,8 @@ pub leaf_says : (N : ℕ → Json → Type 0) (style : Style) (T : Table) (t : T
     → (j : Json) → SaysLeaf k n.0 n.1 s j → SaysInWith N style T t v j
 leaf_says N style T t v k n s e q r m p f o z j h =
     leaf_in N style T t v j (λ g. m (e ∙ g)) (λ g. p (e ∙ g)) (λ g. f (e ∙ g))
-    (leaf_is N style.raw T t v (λ g. m (e ∙ g)) (λ g. p (e ∙ g)) (λ g. f (e ∙ g)) (λ g. o (e ∙ g)) (λ g. z (e ∙ g)) j
+    (leaf_is N (content_in style) T t v (λ g. m (e ∙ g)) (λ g. p (e ∙ g)) (λ g. f (e ∙ g)) (λ g. o (e ∙ g)) (λ g. z
+    (e ∙ g)) j
     (subst (λ b. SaysLeaf (kind_of v) (numbers_of v).0 (numbers_of v).1 b j) r
     (subst (λ n. SaysLeaf (kind_of v) n.0 n.1 s j) q
     (subst (λ k. SaysLeaf k n.0 n.1 s j) e h))))
@@ -680,10 +686,10 @@ nil_passed from to style T t v k b = subst (λ n. AreBehind n from to) (sym (nil
 -- an opaque value
 pub opaque_says : (N : ℕ → Json → Type 0) (style : Style) (T : Table) (t : TypeId) (v : Tree) (b : List ℕ) (j : Json)
     → kind.Opaque ≡ kind_of v
-    → b ≡ bytes_of v → SaysOpaque style.raw (shape_of T t) b j → SaysInWith N style T t v j
+    → b ≡ bytes_of v → SaysOpaque (content_in style) t (shape_of T t) b j → SaysInWith N style T t v j
 opaque_says N style T t (Value.opaque x) b j k e s =
     leaf_in N style T t (Value.opaque x) j (λ f. cc) (λ f. cc) (λ f. cc)
-    (subst (λ (b : List ℕ). SaysOpaque style.raw (shape_of T t) b j) e s)
+    (subst (λ (b : List ℕ). SaysOpaque (content_in style) t (shape_of T t) b j) e s)
 opaque_says N style T t (Value.bool x) b j k e s = cc
 opaque_says N style T t (Value.int i) b j k e s = cc
 opaque_says N style T t (Value.uint n) b j k e s = cc

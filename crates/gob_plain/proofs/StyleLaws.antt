@@ -17,6 +17,7 @@ use Rattle.gob_tape.specs.declared.kind.ValueKind.TheVariants as kind
 use Rattle.gob_tape.specs.Seeing.{kind_of}
 use Rattle.gob_json.specs.Json.{element_type, key_type, struct_fields, field_name, field_type}
 use Rattle.gob_plain.specs.declared.style.Style.{Style}
+use Rattle.gob_plain.specs.OpaqueText.{Takes, content_in}
 use Rattle.gob_plain.specs.Plain.{nils, nils_of_each, nils_of_members, nils_of_pairs, nils_of_fields}
 use Rattle.gob_plain.specs.Plain.{all_null, behind, SaysWith, SayEachWith, SayMembersWith, SayPairsWith}
 use Rattle.gob_plain.specs.Plain.{SayFieldsWith, SayFields, SaysBoth, name_text, key_text}
@@ -30,16 +31,16 @@ use Rattle.gob_plain.proofs.NilLaws.{zero_with}
 -- ---- parts in a style
 
 abbrev pub EachIn : (ℕ → Json → Type 0) → Style → Table → TypeId → Trees → Items → Type 0
-EachIn N style T e vs js = SayEachWith N style.raw T e (shown_all style T e vs) js
+EachIn N style T e vs js = SayEachWith N (content_in style) T e (shown_all style T e vs) js
 
 abbrev pub MembersIn : (ℕ → Json → Type 0) → Style → Table → TypeId → TypeId → Pairs → Members → Type 0
-MembersIn N style T k e ps ms = SayMembersWith N style.raw T e (shown_pairs style T k e ps) ms
+MembersIn N style T k e ps ms = SayMembersWith N (content_in style) T e (shown_pairs style T k e ps) ms
 
 abbrev pub PairsIn : (ℕ → Json → Type 0) → Style → Table → TypeId → TypeId → Pairs → Items → Type 0
-PairsIn N style T k e ps js = SayPairsWith N style.raw T k e (shown_pairs style T k e ps) js
+PairsIn N style T k e ps js = SayPairsWith N (content_in style) T k e (shown_pairs style T k e ps) js
 
 abbrev pub FieldsIn : (ℕ → Json → Type 0) → Style → Table → List Field → ℕ → Fields → Members → Type 0
-FieldsIn N style T types from fs ms = SayFieldsWith N style.raw T types (shown_fields style T types from fs) ms
+FieldsIn N style T types from fs ms = SayFieldsWith N (content_in style) T types (shown_fields style T types from fs) ms
 
 -- ---- elements
 
@@ -47,7 +48,7 @@ pub no_element_in : (N : ℕ → Json → Type 0) (style : Style) (T : Table) (e
     → EachIn N style T e no_tree json.no_items
 no_element_in N style T e = by style.zeros
   where
-    by : (z : Bool) → SayEachWith N style.raw T e (if z then all_filled T e no_tree else no_tree) json.no_items
+    by : (z : Bool) → SayEachWith N (content_in style) T e (if z then all_filled T e no_tree else no_tree) json.no_items
     by true = tt
     by false = tt
 
@@ -57,10 +58,10 @@ pub element_in : (N : ℕ → Json → Type 0) (style : Style) (T : Table) (e : 
     → EachIn N style T e (tree v vs) (json.item j js)
 element_in N style T e v vs j js = by style.zeros
   where
-    by : (z : Bool) → SaysWith N style.raw T e (if z then filled T e v else v) j
-        → SayEachWith (behind (nils T e (if z then filled T e v else v)) N) style.raw T e
+    by : (z : Bool) → SaysWith N (content_in style) T e (if z then filled T e v else v) j
+        → SayEachWith (behind (nils T e (if z then filled T e v else v)) N) (content_in style) T e
         (if z then all_filled T e vs else vs) js
-        → SayEachWith N style.raw T e (if z then all_filled T e (tree v vs) else tree v vs) (json.item j js)
+        → SayEachWith N (content_in style) T e (if z then all_filled T e (tree v vs) else tree v vs) (json.item j js)
     by true p q = (p, q)
     by false p q = (p, q)
 
@@ -84,7 +85,8 @@ pub no_member_in : (N : ℕ → Json → Type 0) (style : Style) (T : Table) (k 
     → MembersIn N style T k e no_pair json.no_members
 no_member_in N style T k e = by style.zeros
   where
-    by : (z : Bool) → SayMembersWith N style.raw T e (if z then pairs_filled T k e no_pair else no_pair) json.no_members
+    by : (z : Bool) → SayMembersWith N (content_in style) T e (if z then pairs_filled T k e no_pair else no_pair)
+        json.no_members
     by true = tt
     by false = tt
 
@@ -94,10 +96,10 @@ pub member_in : (N : ℕ → Json → Type 0) (style : Style) (T : Table) (k e :
     → MembersIn N style T k e (pair x v ps) (json.member (key_text x) j ms)
 member_in N style T k e x v ps j ms = by style.zeros
   where
-    by : (z : Bool) → SaysWith N style.raw T e (if z then filled T e v else v) j
-        → SayMembersWith (behind (nils T e (if z then filled T e v else v)) N) style.raw T e
+    by : (z : Bool) → SaysWith N (content_in style) T e (if z then filled T e v else v) j
+        → SayMembersWith (behind (nils T e (if z then filled T e v else v)) N) (content_in style) T e
         (if z then pairs_filled T k e ps else ps) ms
-        → SayMembersWith N style.raw T e (if z then pairs_filled T k e (pair x v ps) else pair x v ps)
+        → SayMembersWith N (content_in style) T e (if z then pairs_filled T k e (pair x v ps) else pair x v ps)
         (json.member (key_text x) j ms)
     by true p q = (key_filled T k x, p, q)
     by false p q = (refl, p, q)
@@ -106,7 +108,8 @@ pub no_entry_in : (N : ℕ → Json → Type 0) (style : Style) (T : Table) (k e
     → PairsIn N style T k e no_pair json.no_items
 no_entry_in N style T k e = by style.zeros
   where
-    by : (z : Bool) → SayPairsWith N style.raw T k e (if z then pairs_filled T k e no_pair else no_pair) json.no_items
+    by : (z : Bool) → SayPairsWith N (content_in style) T k e (if z then pairs_filled T k e no_pair else no_pair)
+        json.no_items
     by true = tt
     by false = tt
 
@@ -117,13 +120,14 @@ pub entry_in : (N : ℕ → Json → Type 0) (style : Style) (T : Table) (k e : 
     → PairsIn N style T k e (pair x v ps) (json.item j js)
 entry_in N style T k e x v ps j js = by style.zeros
   where
-    by : (z : Bool) → SaysBoth (λ a. SaysWith N style.raw T k (if z then filled T k x else x) a)
-        (λ b. SaysWith (behind (nils T k (if z then filled T k x else x)) N) style.raw T e
+    by : (z : Bool) → SaysBoth (λ a. SaysWith N (content_in style) T k (if z then filled T k x else x) a)
+        (λ b. SaysWith (behind (nils T k (if z then filled T k x else x)) N) (content_in style) T e
         (if z then filled T e v else v) b) j
         → SayPairsWith (behind (nils T e (if z then filled T e v else v))
-        (behind (nils T k (if z then filled T k x else x)) N)) style.raw T k e
+        (behind (nils T k (if z then filled T k x else x)) N)) (content_in style) T k e
         (if z then pairs_filled T k e ps else ps) js
-        → SayPairsWith N style.raw T k e (if z then pairs_filled T k e (pair x v ps) else pair x v ps) (json.item j js)
+        → SayPairsWith N (content_in style) T k e (if z then pairs_filled T k e (pair x v ps) else pair x v ps)
+        (json.item j js)
     by true p q = (p, q)
     by false p q = (p, q)
 
@@ -154,40 +158,40 @@ before_tokens (json.member name j zs) ms =
     ∙ sym (append_assoc (json_tokens j) (open_tokens zs) (members_tokens ms)))
 
 -- members that say zeros, and behind them members that say fields
-put_before_said : (N : ℕ → Json → Type 0) (raw : Bool) (T : Table) (types : List Field) (f : ℕ) (gs hs : Fields)
+put_before_said : (N : ℕ → Json → Type 0) (how : Takes) (T : Table) (types : List Field) (f : ℕ) (gs hs : Fields)
     (ms : Members) (o : Option Tree)
     → zero_at T (slice_get types f) ≡ o
-    → ((zs : Members) → SayFields raw T types gs zs → SayFieldsWith N raw T types hs (members_before zs ms))
-    → (zs : Members) → SayFields raw T types (put_before f o gs) zs
-    → SayFieldsWith N raw T types (put_before f o hs) (members_before zs ms)
-put_before_said N raw T types f gs hs ms None e rest zs s = rest zs s
-put_before_said N raw T types f gs hs ms (Some z) e rest json.no_members s = absurd s
-put_before_said N raw T types f gs hs ms (Some z) e rest (json.member name j zs) s =
-    let both = zero_with N raw T types f z hs j (members_before zs ms) all_null e s.1 (rest zs s.2) in
+    → ((zs : Members) → SayFields how T types gs zs → SayFieldsWith N how T types hs (members_before zs ms))
+    → (zs : Members) → SayFields how T types (put_before f o gs) zs
+    → SayFieldsWith N how T types (put_before f o hs) (members_before zs ms)
+put_before_said N how T types f gs hs ms None e rest zs s = rest zs s
+put_before_said N how T types f gs hs ms (Some z) e rest json.no_members s = absurd s
+put_before_said N how T types f gs hs ms (Some z) e rest (json.member name j zs) s =
+    let both = zero_with N how T types f z hs j (members_before zs ms) all_null e s.1 (rest zs s.2) in
     (s.0, both.0, both.1)
 
-zeros_before_said : (N : ℕ → Json → Type 0) (raw : Bool) (T : Table) (types : List Field) (f n : ℕ) (fs : Fields)
-    (ms : Members) → SayFieldsWith N raw T types fs ms → (zs : Members)
-    → SayFields raw T types (zeros_before T types f n no_field) zs
-    → SayFieldsWith N raw T types (zeros_before T types f n fs) (members_before zs ms)
-zeros_before_said N raw T types f zero fs ms h json.no_members s = h
-zeros_before_said N raw T types f zero fs ms h (json.member name j zs) s = absurd s
-zeros_before_said N raw T types f (suc n) fs ms h zs s =
-    put_before_said N raw T types f (zeros_before T types (f + 1) n no_field) (zeros_before T types (f + 1) n fs) ms
-    (zero_at T (slice_get types f)) refl (zeros_before_said N raw T types (f + 1) n fs ms h) zs s
+zeros_before_said : (N : ℕ → Json → Type 0) (how : Takes) (T : Table) (types : List Field) (f n : ℕ) (fs : Fields)
+    (ms : Members) → SayFieldsWith N how T types fs ms → (zs : Members)
+    → SayFields how T types (zeros_before T types f n no_field) zs
+    → SayFieldsWith N how T types (zeros_before T types f n fs) (members_before zs ms)
+zeros_before_said N how T types f zero fs ms h json.no_members s = h
+zeros_before_said N how T types f zero fs ms h (json.member name j zs) s = absurd s
+zeros_before_said N how T types f (suc n) fs ms h zs s =
+    put_before_said N how T types f (zeros_before T types (f + 1) n no_field) (zeros_before T types (f + 1) n fs) ms
+    (zero_at T (slice_get types f)) refl (zeros_before_said N how T types (f + 1) n fs ms h) zs s
 
 -- tokens that say zeros before fields that nobody fills say them before others
-zeros_behind : (N : ℕ → Json → Type 0) (raw : Bool) (T : Table) (types : List Field) (f n : ℕ) (fs : Fields)
+zeros_behind : (N : ℕ → Json → Type 0) (how : Takes) (T : Table) (types : List Field) (f n : ℕ) (fs : Fields)
     (ms : Members) (ts : List Token)
-    → SaysBefore T types (λ gs. zeros_before T types f n gs) ts → SayFieldsWith N raw T types fs ms
-    → (all : Members) × SayFieldsWith N raw T types (zeros_before T types f n fs) all
+    → SaysBefore T types (λ gs. zeros_before T types f n gs) ts → SayFieldsWith N how T types fs ms
+    → (all : Members) × SayFieldsWith N how T types (zeros_before T types f n fs) all
     × (ts ++ members_tokens ms ≡ members_tokens all)
-zeros_behind N raw T types f n fs ms ts a h =
-    let zs = a raw no_field json.no_members tt in
+zeros_behind N how T types f n fs ms ts a h =
+    let zs = a how no_field json.no_members tt in
     let is : ts ≡ open_tokens zs.0 =
     append_cancel_right ts (open_tokens zs.0) (Token.end_object ∷ []) (zs.2 ∙ open_closed zs.0) in (
       members_before zs.0 ms,
-      zeros_before_said N raw T types f n fs ms h zs.0 zs.1,
+      zeros_before_said N how T types f n fs ms h zs.0 zs.1,
       ap (λ (l : List Token). l ++ members_tokens ms) is ∙ sym (before_tokens zs.0 ms),
     )
 
@@ -202,18 +206,19 @@ absent_then N style T types from f v fs j ms ts = by style.zeros
   where
     by : (z : Bool)
         → SaysBefore T types (λ gs. if z then zeros_before T types from (between types from f) gs else gs) ts
-        → SaysWith N style.raw T (field_type (slice_get types f))
+        → SaysWith N (content_in style) T (field_type (slice_get types f))
         (if z then filled T (field_type (slice_get types f)) v else v) j
         → SayFieldsWith (behind (nils T (field_type (slice_get types f))
-        (if z then filled T (field_type (slice_get types f)) v else v)) N) style.raw T types
+        (if z then filled T (field_type (slice_get types f)) v else v)) N) (content_in style) T types
         (if z then fields_filled T types (f + 1) fs else fs) ms
         → (all : Members)
-        × SayFieldsWith N style.raw T types (if z then fields_filled T types from (field f v fs) else field f v fs) all
+        × SayFieldsWith N (content_in style) T types (if z then fields_filled T types from (field f v fs) else
+        field f v fs) all
         × (ts ++ members_tokens (json.member (name_text (field_name (slice_get types f))) j ms) ≡ members_tokens all)
-    by true a p q = zeros_behind N style.raw T types from (between types from f)
+    by true a p q = zeros_behind N (content_in style) T types from (between types from f)
         (field f (filled T (field_type (slice_get types f)) v) (fields_filled T types (f + 1) fs))
         (json.member (name_text (field_name (slice_get types f))) j ms) ts a (refl, p, q)
-    by false a p q = zeros_behind N style.raw T types from 0 (field f v fs)
+    by false a p q = zeros_behind N (content_in style) T types from 0 (field f v fs)
         (json.member (name_text (field_name (slice_get types f))) j ms) ts a (refl, p, q)
 
 -- tokens of the absent fields at the end
@@ -226,12 +231,13 @@ absent_last N style T types from ts = by style.zeros
     by : (z : Bool)
         → SaysBefore T types (λ gs. if z then zeros_before T types from (between types from (length types)) gs else gs)
         ts
-        → (all : Members) × SayFieldsWith N style.raw T types
+        → (all : Members) × SayFieldsWith N (content_in style) T types
         (if z then fields_filled T types from no_field else no_field) all
         × (ts ++ members_tokens json.no_members ≡ members_tokens all)
-    by true a = zeros_behind N style.raw T types from (between types from (length types)) no_field json.no_members ts a
+    by true a = zeros_behind N (content_in style) T types from (between types from (length types)) no_field
+        json.no_members ts a
         tt
-    by false a = zeros_behind N style.raw T types from 0 no_field json.no_members ts a tt
+    by false a = zeros_behind N (content_in style) T types from 0 no_field json.no_members ts a tt
 
 -- from numbers behind the last field on there are no zeros
 past_end : (T : Table) (types : List Field) (a b : ℕ) (fs : Fields) → length types ≤ a → length types ≤ b
@@ -333,20 +339,21 @@ nil_nils style T t v e = by style.zeros
 -- a value without parts has no zeros in it
 pub leaf_in : (N : ℕ → Json → Type 0) (style : Style) (T : Table) (t : TypeId) (v : Tree) (j : Json)
     → (kind_of v ≢ kind.Many)
-    → (kind_of v ≢ kind.Pairs) → (kind_of v ≢ kind.Fields) → SaysWith N style.raw T t v j → SaysInWith N style T t v j
+    → (kind_of v ≢ kind.Pairs) → (kind_of v ≢ kind.Fields) → SaysWith N (content_in style) T t v j
+    → SaysInWith N style T t v j
 leaf_in N style T t v j m p f s = by style.zeros
   where
-    by : (z : Bool) → SaysWith N style.raw T t (if z then filled T t v else v) j
-    by true = subst (λ (v : Tree). SaysWith N style.raw T t v j) (sym (filled_leaf T t v m p f)) s
+    by : (z : Bool) → SaysWith N (content_in style) T t (if z then filled T t v else v) j
+    by true = subst (λ (v : Tree). SaysWith N (content_in style) T t v j) (sym (filled_leaf T t v m p f)) s
     by false = s
 
 pub many_in : (N : ℕ → Json → Type 0) (style : Style) (T : Table) (t : TypeId) (vs : Trees) (j : Json)
     → SaysElementsIn N style T (element_type (shape_of T t)) vs j → SaysInWith N style T t (Value.many vs) j
 many_in N style T t vs j = by style.zeros
   where
-    by : (z : Bool) → SaysElementsWith N style.raw T (element_type (shape_of T t))
+    by : (z : Bool) → SaysElementsWith N (content_in style) T (element_type (shape_of T t))
         (if z then all_filled T (element_type (shape_of T t)) vs else vs) j
-        → SaysWith N style.raw T t (if z then filled T t (Value.many vs) else Value.many vs) j
+        → SaysWith N (content_in style) T t (if z then filled T t (Value.many vs) else Value.many vs) j
     by true s = s
     by false s = s
 
@@ -357,10 +364,11 @@ pub map_in : (N : ℕ → Json → Type 0) (style : Style) (T : Table) (t : Type
     → SaysInWith N style T t (Value.pairs ps) j
 map_in N style T t ps j = by style.zeros
   where
-    by : (z : Bool) → SaysMapWith N (gives_names (key_type (shape_of T t))) style.raw T (key_type (shape_of T t))
+    by : (z : Bool) → SaysMapWith N (gives_names (key_type (shape_of T t))) (content_in style) T (key_type
+        (shape_of T t))
         (element_type (shape_of T t))
         (if z then pairs_filled T (key_type (shape_of T t)) (element_type (shape_of T t)) ps else ps) j
-        → SaysWith N style.raw T t (if z then filled T t (Value.pairs ps) else Value.pairs ps) j
+        → SaysWith N (content_in style) T t (if z then filled T t (Value.pairs ps) else Value.pairs ps) j
     by true s = s
     by false s = s
 
@@ -368,9 +376,9 @@ pub struct_in : (N : ℕ → Json → Type 0) (style : Style) (T : Table) (t : T
     → SaysStructIn N style T (struct_fields (shape_of T t)) fs j → SaysInWith N style T t (Value.fields fs) j
 struct_in N style T t fs j = by style.zeros
   where
-    by : (z : Bool) → SaysStructWith N style.raw T (struct_fields (shape_of T t))
+    by : (z : Bool) → SaysStructWith N (content_in style) T (struct_fields (shape_of T t))
         (if z then fields_filled T (struct_fields (shape_of T t)) 0 fs else fs) j
-        → SaysWith N style.raw T t (if z then filled T t (Value.fields fs) else Value.fields fs) j
+        → SaysWith N (content_in style) T t (if z then filled T t (Value.fields fs) else Value.fields fs) j
     by true s = s
     by false s = s
 
@@ -416,9 +424,10 @@ pub element_out : (N : ℕ → Json → Type 0) (style : Style) (T : Table) (e :
     × EachIn (behind (nils_in style T e v) N) style T e vs js
 element_out N style T e v vs j js = by style.zeros
   where
-    by : (z : Bool) → SayEachWith N style.raw T e (if z then all_filled T e (tree v vs) else tree v vs) (json.item j js)
-        → SaysWith N style.raw T e (if z then filled T e v else v) j
-        × SayEachWith (behind (nils T e (if z then filled T e v else v)) N) style.raw T e
+    by : (z : Bool) → SayEachWith N (content_in style) T e (if z then all_filled T e (tree v vs) else tree v vs)
+        (json.item j js)
+        → SaysWith N (content_in style) T e (if z then filled T e v else v) j
+        × SayEachWith (behind (nils T e (if z then filled T e v else v)) N) (content_in style) T e
         (if z then all_filled T e vs else vs) js
     by true s = s
     by false s = s
@@ -427,7 +436,7 @@ pub element_missing : (N : ℕ → Json → Type 0) (style : Style) (T : Table) 
     → EachIn N style T e (tree v vs) json.no_items → ⊥
 element_missing N style T e v vs = by style.zeros
   where
-    by : (z : Bool) → SayEachWith N style.raw T e (if z then all_filled T e
+    by : (z : Bool) → SayEachWith N (content_in style) T e (if z then all_filled T e
         (tree v vs) else tree v vs) json.no_items → ⊥
     by true s = s
     by false s = s
@@ -436,7 +445,8 @@ pub item_too_many : (N : ℕ → Json → Type 0) (style : Style) (T : Table) (e
     → EachIn N style T e no_tree (json.item j js) → ⊥
 item_too_many N style T e j js = by style.zeros
   where
-    by : (z : Bool) → SayEachWith N style.raw T e (if z then all_filled T e no_tree else no_tree) (json.item j js) → ⊥
+    by : (z : Bool) → SayEachWith N (content_in style) T e (if z then all_filled T e no_tree else no_tree)
+        (json.item j js) → ⊥
     by true s = s
     by false s = s
 
@@ -447,10 +457,11 @@ pub member_out : (N : ℕ → Json → Type 0) (style : Style) (T : Table) (k e 
     × MembersIn (behind (nils_in style T e v) N) style T k e ps ms
 member_out N style T k e x v ps name j ms = by style.zeros
   where
-    by : (z : Bool) → SayMembersWith N style.raw T e (if z then pairs_filled T k e (pair x v ps) else pair x v ps)
+    by : (z : Bool) → SayMembersWith N (content_in style) T e (if z then pairs_filled T k e (pair x v ps) else pair
+        x v ps)
         (json.member name j ms)
-        → (name ≡ key_text x) × SaysWith N style.raw T e (if z then filled T e v else v) j
-        × SayMembersWith (behind (nils T e (if z then filled T e v else v)) N) style.raw T e
+        → (name ≡ key_text x) × SaysWith N (content_in style) T e (if z then filled T e v else v) j
+        × SayMembersWith (behind (nils T e (if z then filled T e v else v)) N) (content_in style) T e
         (if z then pairs_filled T k e ps else ps) ms
     by true s = (s.0 ∙ sym (key_filled T k x), s.1, s.2)
     by false s = s
@@ -459,7 +470,8 @@ pub member_missing : (N : ℕ → Json → Type 0) (style : Style) (T : Table) (
     → MembersIn N style T k e (pair x v ps) json.no_members → ⊥
 member_missing N style T k e x v ps = by style.zeros
   where
-    by : (z : Bool) → SayMembersWith N style.raw T e (if z then pairs_filled T k e (pair x v ps) else pair x v ps)
+    by : (z : Bool) → SayMembersWith N (content_in style) T e (if z then pairs_filled T k e (pair x v ps) else pair
+        x v ps)
         json.no_members → ⊥
     by true s = s
     by false s = s
@@ -469,7 +481,7 @@ pub member_too_many : (N : ℕ → Json → Type 0) (style : Style) (T : Table) 
     → MembersIn N style T k e no_pair (json.member name j ms) → ⊥
 member_too_many N style T k e name j ms = by style.zeros
   where
-    by : (z : Bool) → SayMembersWith N style.raw T e (if z then pairs_filled T k e no_pair else no_pair)
+    by : (z : Bool) → SayMembersWith N (content_in style) T e (if z then pairs_filled T k e no_pair else no_pair)
         (json.member name j ms) → ⊥
     by true s = s
     by false s = s
@@ -481,13 +493,14 @@ pub entry_out : (N : ℕ → Json → Type 0) (style : Style) (T : Table) (k e :
     × PairsIn (behind (nils_in style T e v) (behind (nils_in style T k x) N)) style T k e ps js
 entry_out N style T k e x v ps j js = by style.zeros
   where
-    by : (z : Bool) → SayPairsWith N style.raw T k e (if z then pairs_filled T k e (pair x v ps) else pair x v ps)
+    by : (z : Bool) → SayPairsWith N (content_in style) T k e (if z then pairs_filled T k e (pair x v ps) else pair
+        x v ps)
         (json.item j js)
-        → SaysBoth (λ a. SaysWith N style.raw T k (if z then filled T k x else x) a)
-        (λ b. SaysWith (behind (nils T k (if z then filled T k x else x)) N) style.raw T e
+        → SaysBoth (λ a. SaysWith N (content_in style) T k (if z then filled T k x else x) a)
+        (λ b. SaysWith (behind (nils T k (if z then filled T k x else x)) N) (content_in style) T e
         (if z then filled T e v else v) b) j
         × SayPairsWith (behind (nils T e (if z then filled T e v else v))
-        (behind (nils T k (if z then filled T k x else x)) N)) style.raw T k e
+        (behind (nils T k (if z then filled T k x else x)) N)) (content_in style) T k e
         (if z then pairs_filled T k e ps else ps) js
     by true s = s
     by false s = s
@@ -496,7 +509,8 @@ pub entry_missing : (N : ℕ → Json → Type 0) (style : Style) (T : Table) (k
     → PairsIn N style T k e (pair x v ps) json.no_items → ⊥
 entry_missing N style T k e x v ps = by style.zeros
   where
-    by : (z : Bool) → SayPairsWith N style.raw T k e (if z then pairs_filled T k e (pair x v ps) else pair x v ps)
+    by : (z : Bool) → SayPairsWith N (content_in style) T k e (if z then pairs_filled T k e (pair x v ps) else pair
+        x v ps)
         json.no_items → ⊥
     by true s = s
     by false s = s
@@ -505,7 +519,7 @@ pub entry_too_many : (N : ℕ → Json → Type 0) (style : Style) (T : Table) (
     → PairsIn N style T k e no_pair (json.item j js) → ⊥
 entry_too_many N style T k e j js = by style.zeros
   where
-    by : (z : Bool) → SayPairsWith N style.raw T k e (if z then pairs_filled T k e no_pair else no_pair)
+    by : (z : Bool) → SayPairsWith N (content_in style) T k e (if z then pairs_filled T k e no_pair else no_pair)
         (json.item j js) → ⊥
     by true s = s
     by false s = s
@@ -515,8 +529,8 @@ pub many_out : (N : ℕ → Json → Type 0) (style : Style) (T : Table) (t : Ty
     → SaysElementsIn N style T (element_type (shape_of T t)) vs j
 many_out N style T t vs j = by style.zeros
   where
-    by : (z : Bool) → SaysWith N style.raw T t (if z then filled T t (Value.many vs) else Value.many vs) j
-        → SaysElementsWith N style.raw T (element_type (shape_of T t))
+    by : (z : Bool) → SaysWith N (content_in style) T t (if z then filled T t (Value.many vs) else Value.many vs) j
+        → SaysElementsWith N (content_in style) T (element_type (shape_of T t))
         (if z then all_filled T (element_type (shape_of T t)) vs else vs) j
     by true s = s
     by false s = s
@@ -528,8 +542,8 @@ pub map_out : (N : ℕ → Json → Type 0) (style : Style) (T : Table) (t : Typ
     ps j
 map_out N style T t ps j = by style.zeros
   where
-    by : (z : Bool) → SaysWith N style.raw T t (if z then filled T t (Value.pairs ps) else Value.pairs ps) j
-        → SaysMapWith N (gives_names (key_type (shape_of T t))) style.raw T (key_type (shape_of T t))
+    by : (z : Bool) → SaysWith N (content_in style) T t (if z then filled T t (Value.pairs ps) else Value.pairs ps) j
+        → SaysMapWith N (gives_names (key_type (shape_of T t))) (content_in style) T (key_type (shape_of T t))
         (element_type (shape_of T t))
         (if z then pairs_filled T (key_type (shape_of T t)) (element_type (shape_of T t)) ps else ps) j
     by true s = s
@@ -539,8 +553,8 @@ pub struct_out : (N : ℕ → Json → Type 0) (style : Style) (T : Table) (t : 
     → SaysInWith N style T t (Value.fields fs) j → SaysStructIn N style T (struct_fields (shape_of T t)) fs j
 struct_out N style T t fs j = by style.zeros
   where
-    by : (z : Bool) → SaysWith N style.raw T t (if z then filled T t (Value.fields fs) else Value.fields fs) j
-        → SaysStructWith N style.raw T (struct_fields (shape_of T t))
+    by : (z : Bool) → SaysWith N (content_in style) T t (if z then filled T t (Value.fields fs) else Value.fields fs) j
+        → SaysStructWith N (content_in style) T (struct_fields (shape_of T t))
         (if z then fields_filled T (struct_fields (shape_of T t)) 0 fs else fs) j
     by true s = s
     by false s = s

@@ -1,5 +1,5 @@
 -- What is written of absent fields: their zeros, before the members of the fields that follow.
-use Rattle.std.specs.Prelude.{◌≡◌, ℕ, List, [], ◌++◌, Bool, Option, Some, None, if◌then◌else◌}
+use Rattle.std.specs.Prelude.{◌≡◌, ℕ, List, [], ◌++◌, Option, Some, None, if◌then◌else◌}
 use Rattle.json.specs.Json.{Json, Members}
 use Rattle.json.specs.Json as json
 use Rattle.json.specs.Token.{Token}
@@ -16,6 +16,7 @@ use Rattle.gob_tape.specs.Seeing.{kind_of}
 use Rattle.gob_plain.specs.declared.style.Style.{Style}
 use Rattle.gob_plain.specs.Filled.{zero_by, zero_at, zeros_before, between}
 use Rattle.gob_plain.specs.Leaf.{SaysLeaf}
+use Rattle.gob_plain.specs.OpaqueText.{Takes}
 use Rattle.gob_plain.specs.Plain.{SayFields}
 
 -- the kind that a tape shows of a zero
@@ -39,8 +40,8 @@ SaysZero k j = SaysLeaf k 0 0 [] j
 
 -- before tokens that say these fields, the tokens say them behind those of absent fields
 abbrev pub SaysBefore : Table → List Field → (Fields → Fields) → List Token → Type 0
-SaysBefore T types more ts = (raw : Bool) (fs : Fields) (ms : Members) → SayFields raw T types fs ms
-    → (all : Members) × SayFields raw T types (more fs) all × (ts ++ members_tokens ms ≡ members_tokens all)
+SaysBefore T types more ts = (how : Takes) (fs : Fields) (ms : Members) → SayFields how T types fs ms
+    → (all : Members) × SayFields how T types (more fs) all × (ts ++ members_tokens ms ≡ members_tokens all)
 
 -- the zeros of the n fields from this number on
 abbrev pub ZeroTokens : Table → List Field → (from n : ℕ) → List Token → Type 0

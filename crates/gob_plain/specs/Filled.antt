@@ -14,6 +14,7 @@ use Rattle.gob_value.specs.Tree.{Tree, Trees, no_tree, tree, Pairs, no_pair, pai
 use Rattle.gob_value.specs.Tree as Value
 use Rattle.gob_json.specs.Json.{element_type, key_type, struct_fields, field_type}
 use Rattle.gob_plain.specs.declared.style.Style.{Style}
+use Rattle.gob_plain.specs.OpaqueText.{content_in}
 use Rattle.gob_plain.specs.Plain.{all_null, nils, nils_of_each, nils_of_members, nils_of_pairs, nils_of_fields}
 use Rattle.gob_plain.specs.Plain.{SaysWith, SaysElementsWith, SaysMembersWith, SaysPairsWith, SaysMapWith}
 use Rattle.gob_plain.specs.Plain.{SaysStructWith}
@@ -113,7 +114,7 @@ nils_of_fields_in style T types from fs = nils_of_fields T types (shown_fields s
 
 -- the JSON says the value, whose nils say this, in this style
 abbrev pub SaysInWith : (ℕ → Json → Type 0) → Style → Table → TypeId → Tree → Json → Type 0
-SaysInWith N style T t v j = SaysWith N style.raw T t (shown style T t v) j
+SaysInWith N style T t v j = SaysWith N (content_in style) T t (shown style T t v) j
 
 -- the same with null for each nil
 abbrev pub SaysIn : Style → Table → TypeId → Tree → Json → Type 0
@@ -121,16 +122,16 @@ SaysIn style T t v j = SaysInWith all_null style T t v j
 
 -- what is said of the parts of a value in this style
 abbrev pub SaysElementsIn : (ℕ → Json → Type 0) → Style → Table → TypeId → Trees → Json → Type 0
-SaysElementsIn N style T e vs j = SaysElementsWith N style.raw T e (shown_all style T e vs) j
+SaysElementsIn N style T e vs j = SaysElementsWith N (content_in style) T e (shown_all style T e vs) j
 
 abbrev pub SaysMembersIn : (ℕ → Json → Type 0) → Style → Table → TypeId → TypeId → Pairs → Json → Type 0
-SaysMembersIn N style T k e ps j = SaysMembersWith N style.raw T e (shown_pairs style T k e ps) j
+SaysMembersIn N style T k e ps j = SaysMembersWith N (content_in style) T e (shown_pairs style T k e ps) j
 
 abbrev pub SaysPairsIn : (ℕ → Json → Type 0) → Style → Table → TypeId → TypeId → Pairs → Json → Type 0
-SaysPairsIn N style T k e ps j = SaysPairsWith N style.raw T k e (shown_pairs style T k e ps) j
+SaysPairsIn N style T k e ps j = SaysPairsWith N (content_in style) T k e (shown_pairs style T k e ps) j
 
 abbrev pub SaysMapIn : (ℕ → Json → Type 0) → Bool → Style → Table → TypeId → TypeId → Pairs → Json → Type 0
-SaysMapIn N named style T k e ps j = SaysMapWith N named style.raw T k e (shown_pairs style T k e ps) j
+SaysMapIn N named style T k e ps j = SaysMapWith N named (content_in style) T k e (shown_pairs style T k e ps) j
 
 abbrev pub SaysStructIn : (ℕ → Json → Type 0) → Style → Table → List Field → Fields → Json → Type 0
-SaysStructIn N style T types fs j = SaysStructWith N style.raw T types (shown_fields style T types 0 fs) j
+SaysStructIn N style T types fs j = SaysStructWith N (content_in style) T types (shown_fields style T types 0 fs) j

@@ -18,7 +18,7 @@ use Rattle.gob_types.specs.declared.kind.Field.{Field}
 use Rattle.gob_types.specs.Table.{Table, shape_of}
 use Rattle.gob_value.specs.Tree.{Tree, Trees, no_tree, tree, Pairs, no_pair, pair, Fields, no_field, field}
 use Rattle.gob_value.specs.Tree as Value
-use Rattle.gob_plain.specs.OpaqueText.{SaysBytes, SaysOpaque}
+use Rattle.gob_plain.specs.OpaqueText.{SaysBytes, SaysOpaque, Takes}
 use Rattle.gob_json.specs.Json.{value_json, element_type, key_type, struct_fields, field_name, field_type}
 
 -- ---- floats
@@ -111,84 +111,85 @@ IsMapOf true P Q j = IsObjectOf P j
 IsMapOf false P Q j = IsArrayOf Q j
 
 abbrev mutual
-  -- the JSON says the value as one of this type, whose nils say this; raw, with each opaque value as bytes
-  pub SaysWith : (ℕ → Json → Type 0) → Bool → Table → TypeId → Tree → Json → Type 0
-  SaysWith N raw T t (Value.float p) j = SaysPattern p j
-  SaysWith N raw T t (Value.complex p q) j = SaysBoth (SaysPattern p) (SaysPattern q) j
-  SaysWith N raw T t (Value.bytes b) j = SaysBytes b j
-  SaysWith N raw T t (Value.opaque b) j = SaysOpaque raw (shape_of T t) b j
-  SaysWith N raw T t Value.nil j = N 0 j
-  SaysWith N raw T t (Value.many vs) j = IsArrayOf (λ js. SayEachWith N raw T (element_type (shape_of T t)) vs js) j
-  SaysWith N raw T t (Value.pairs ps) j =
+  -- the JSON says the value as one of this type, whose nils say this, and opaque values what they are taken
+  -- for
+  pub SaysWith : (ℕ → Json → Type 0) → Takes → Table → TypeId → Tree → Json → Type 0
+  SaysWith N how T t (Value.float p) j = SaysPattern p j
+  SaysWith N how T t (Value.complex p q) j = SaysBoth (SaysPattern p) (SaysPattern q) j
+  SaysWith N how T t (Value.bytes b) j = SaysBytes b j
+  SaysWith N how T t (Value.opaque b) j = SaysOpaque how t (shape_of T t) b j
+  SaysWith N how T t Value.nil j = N 0 j
+  SaysWith N how T t (Value.many vs) j = IsArrayOf (λ js. SayEachWith N how T (element_type (shape_of T t)) vs js) j
+  SaysWith N how T t (Value.pairs ps) j =
       IsMapOf (gives_names (key_type (shape_of T t)))
-      (λ ms. SayMembersWith N raw T (element_type (shape_of T t)) ps ms)
-      (λ js. SayPairsWith N raw T (key_type (shape_of T t)) (element_type (shape_of T t)) ps js) j
-  SaysWith N raw T t (Value.fields fs) j =
-      IsObjectOf (λ ms. SayFieldsWith N raw T (struct_fields (shape_of T t)) fs ms) j
+      (λ ms. SayMembersWith N how T (element_type (shape_of T t)) ps ms)
+      (λ js. SayPairsWith N how T (key_type (shape_of T t)) (element_type (shape_of T t)) ps js) j
+  SaysWith N how T t (Value.fields fs) j =
+      IsObjectOf (λ ms. SayFieldsWith N how T (struct_fields (shape_of T t)) fs ms) j
   -- all other values stand as they do in the lines of a stream
-  SaysWith N raw T t v j = j ≡ outline (value_json T t v)
+  SaysWith N how T t v j = j ≡ outline (value_json T t v)
 
   -- each element, in order
-  pub SayEachWith : (ℕ → Json → Type 0) → Bool → Table → TypeId → Trees → Items → Type 0
-  SayEachWith N raw T e no_tree json.no_items = ⊤
-  SayEachWith N raw T e (tree v vs) (json.item j js) =
-      SaysWith N raw T e v j × SayEachWith (behind (nils T e v) N) raw T e vs js
-  SayEachWith N raw T e _ _ = ⊥
+  pub SayEachWith : (ℕ → Json → Type 0) → Takes → Table → TypeId → Trees → Items → Type 0
+  SayEachWith N how T e no_tree json.no_items = ⊤
+  SayEachWith N how T e (tree v vs) (json.item j js) =
+      SaysWith N how T e v j × SayEachWith (behind (nils T e v) N) how T e vs js
+  SayEachWith N how T e _ _ = ⊥
 
   -- a member for each entry, named by its key, in order; a repeated key is kept
-  pub SayMembersWith : (ℕ → Json → Type 0) → Bool → Table → TypeId → Pairs → Members → Type 0
-  SayMembersWith N raw T e no_pair json.no_members = ⊤
-  SayMembersWith N raw T e (pair x v ps) (json.member name j ms) = (name ≡ key_text x) × SaysWith N raw T e v j
-      × SayMembersWith (behind (nils T e v) N) raw T e ps ms
-  SayMembersWith N raw T e _ _ = ⊥
+  pub SayMembersWith : (ℕ → Json → Type 0) → Takes → Table → TypeId → Pairs → Members → Type 0
+  SayMembersWith N how T e no_pair json.no_members = ⊤
+  SayMembersWith N how T e (pair x v ps) (json.member name j ms) = (name ≡ key_text x) × SaysWith N how T e v j
+      × SayMembersWith (behind (nils T e v) N) how T e ps ms
+  SayMembersWith N how T e _ _ = ⊥
 
   -- [key,element] for each entry, in order
-  pub SayPairsWith : (ℕ → Json → Type 0) → Bool → Table → TypeId → TypeId → Pairs → Items → Type 0
-  SayPairsWith N raw T k e no_pair json.no_items = ⊤
-  SayPairsWith N raw T k e (pair x v ps) (json.item j js) =
-      SaysBoth (λ a. SaysWith N raw T k x a) (λ b. SaysWith (behind (nils T k x) N) raw T e v b) j
-      × SayPairsWith (behind (nils T e v) (behind (nils T k x) N)) raw T k e ps js
-  SayPairsWith N raw T k e _ _ = ⊥
+  pub SayPairsWith : (ℕ → Json → Type 0) → Takes → Table → TypeId → TypeId → Pairs → Items → Type 0
+  SayPairsWith N how T k e no_pair json.no_items = ⊤
+  SayPairsWith N how T k e (pair x v ps) (json.item j js) =
+      SaysBoth (λ a. SaysWith N how T k x a) (λ b. SaysWith (behind (nils T k x) N) how T e v b) j
+      × SayPairsWith (behind (nils T e v) (behind (nils T k x) N)) how T k e ps js
+  SayPairsWith N how T k e _ _ = ⊥
 
   -- a member for each field that is present, in order
-  pub SayFieldsWith : (ℕ → Json → Type 0) → Bool → Table → List Field → Fields → Members → Type 0
-  SayFieldsWith N raw T types no_field json.no_members = ⊤
-  SayFieldsWith N raw T types (field f v fs) (json.member name j ms) =
+  pub SayFieldsWith : (ℕ → Json → Type 0) → Takes → Table → List Field → Fields → Members → Type 0
+  SayFieldsWith N how T types no_field json.no_members = ⊤
+  SayFieldsWith N how T types (field f v fs) (json.member name j ms) =
       (name ≡ name_text (field_name (slice_get types f)))
-      × SaysWith N raw T (field_type (slice_get types f)) v j
-      × SayFieldsWith (behind (nils T (field_type (slice_get types f)) v) N) raw T types fs ms
-  SayFieldsWith N raw T types _ _ = ⊥
+      × SaysWith N how T (field_type (slice_get types f)) v j
+      × SayFieldsWith (behind (nils T (field_type (slice_get types f)) v) N) how T types fs ms
+  SayFieldsWith N how T types _ _ = ⊥
 
 -- the JSON says the value as one of this type, and null for each nil
-abbrev pub Says : Bool → Table → TypeId → Tree → Json → Type 0
-Says raw T t v j = SaysWith all_null raw T t v j
+abbrev pub Says : Takes → Table → TypeId → Tree → Json → Type 0
+Says how T t v j = SaysWith all_null how T t v j
 
-abbrev pub SayEach : Bool → Table → TypeId → Trees → Items → Type 0
-SayEach raw T e vs js = SayEachWith all_null raw T e vs js
+abbrev pub SayEach : Takes → Table → TypeId → Trees → Items → Type 0
+SayEach how T e vs js = SayEachWith all_null how T e vs js
 
-abbrev pub SayMembers : Bool → Table → TypeId → Pairs → Members → Type 0
-SayMembers raw T e ps ms = SayMembersWith all_null raw T e ps ms
+abbrev pub SayMembers : Takes → Table → TypeId → Pairs → Members → Type 0
+SayMembers how T e ps ms = SayMembersWith all_null how T e ps ms
 
-abbrev pub SayPairs : Bool → Table → TypeId → TypeId → Pairs → Items → Type 0
-SayPairs raw T k e ps js = SayPairsWith all_null raw T k e ps js
+abbrev pub SayPairs : Takes → Table → TypeId → TypeId → Pairs → Items → Type 0
+SayPairs how T k e ps js = SayPairsWith all_null how T k e ps js
 
-abbrev pub SayFields : Bool → Table → List Field → Fields → Members → Type 0
-SayFields raw T types fs ms = SayFieldsWith all_null raw T types fs ms
+abbrev pub SayFields : Takes → Table → List Field → Fields → Members → Type 0
+SayFields how T types fs ms = SayFieldsWith all_null how T types fs ms
 
 -- ---- the same by the parts of a value
 
-abbrev pub SaysElementsWith : (ℕ → Json → Type 0) → Bool → Table → TypeId → Trees → Json → Type 0
-SaysElementsWith N raw T e vs j = IsArrayOf (λ js. SayEachWith N raw T e vs js) j
+abbrev pub SaysElementsWith : (ℕ → Json → Type 0) → Takes → Table → TypeId → Trees → Json → Type 0
+SaysElementsWith N how T e vs j = IsArrayOf (λ js. SayEachWith N how T e vs js) j
 
-abbrev pub SaysMembersWith : (ℕ → Json → Type 0) → Bool → Table → TypeId → Pairs → Json → Type 0
-SaysMembersWith N raw T e ps j = IsObjectOf (λ ms. SayMembersWith N raw T e ps ms) j
+abbrev pub SaysMembersWith : (ℕ → Json → Type 0) → Takes → Table → TypeId → Pairs → Json → Type 0
+SaysMembersWith N how T e ps j = IsObjectOf (λ ms. SayMembersWith N how T e ps ms) j
 
-abbrev pub SaysPairsWith : (ℕ → Json → Type 0) → Bool → Table → TypeId → TypeId → Pairs → Json → Type 0
-SaysPairsWith N raw T k e ps j = IsArrayOf (λ js. SayPairsWith N raw T k e ps js) j
+abbrev pub SaysPairsWith : (ℕ → Json → Type 0) → Takes → Table → TypeId → TypeId → Pairs → Json → Type 0
+SaysPairsWith N how T k e ps j = IsArrayOf (λ js. SayPairsWith N how T k e ps js) j
 
-abbrev pub SaysMapWith : (ℕ → Json → Type 0) → Bool → Bool → Table → TypeId → TypeId → Pairs → Json → Type 0
-SaysMapWith N named raw T k e ps j =
-    IsMapOf named (λ ms. SayMembersWith N raw T e ps ms) (λ js. SayPairsWith N raw T k e ps js) j
+abbrev pub SaysMapWith : (ℕ → Json → Type 0) → Bool → Takes → Table → TypeId → TypeId → Pairs → Json → Type 0
+SaysMapWith N named how T k e ps j =
+    IsMapOf named (λ ms. SayMembersWith N how T e ps ms) (λ js. SayPairsWith N how T k e ps js) j
 
-abbrev pub SaysStructWith : (ℕ → Json → Type 0) → Bool → Table → List Field → Fields → Json → Type 0
-SaysStructWith N raw T types fs j = IsObjectOf (λ ms. SayFieldsWith N raw T types fs ms) j
+abbrev pub SaysStructWith : (ℕ → Json → Type 0) → Takes → Table → List Field → Fields → Json → Type 0
+SaysStructWith N how T types fs j = IsObjectOf (λ ms. SayFieldsWith N how T types fs ms) j

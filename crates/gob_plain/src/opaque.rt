@@ -4,21 +4,25 @@ ghost use Rattle.std.specs.Prelude.{◌≡◌, if◌then◌else◌};
 ghost use Rattle.std.specs.Option.{option_copied};
 ghost use Rattle.gob_plain.specs.BigInt.{SaysInt};
 ghost use Rattle.gob_plain.specs.OpaqueText.{SaysOpaque, SaysBytes, SaysText, content_of, content_by, content_as};
+ghost use Rattle.gob_plain.specs.OpaqueText.{content_in, taken_as};
 ghost use Rattle.gob_plain.specs.TimeText.{SaysTimeOr};
 ghost use Rattle.gob_plain.specs.WritesPlain.{WritesPlain};
 
 use crate::big::write_int;
+use crate::float::write_big_float;
 use crate::known::{address_port_text, address_text, prefix_text, uuid_text, write_known};
 use crate::leaf::write_bytes;
+use crate::rat::write_rat;
+use crate::style::{Style, Taken};
 use crate::time::{time_of, write_moment};
-use gob_types::{Kind, Marshal, Shape};
+use gob_types::{Kind, Marshal, Shape, TypeId};
 use json::Writer;
 use std::alloc::{AllocError, Global};
 use std::str;
 
 /// What the bytes of an opaque value are taken for.
-#[derive(Clone, Copy)]
-pub(crate) enum Content {
+#[derive(Clone, Copy, Debug, PartialEq, Eq)]
+pub enum Content {
     /// Bytes of which nothing is known.
     Bytes,
     /// A text, where the bytes are UTF-8.
@@ -27,6 +31,10 @@ pub(crate) enum Content {
     Time,
     /// A whole number of any size, where the bytes have the layout of Go's.
     Int,
+    /// A float of any precision, where the bytes have the layout of Go's.
+    Float,
+    /// A fraction of such numbers, where the bytes have the layout of Go's.
+    Rat,
     /// A time or a whole number, where the bytes have the layout of one.
     TimeOrInt,
     /// A UUID, where there are 16 bytes.
@@ -39,21 +47,25 @@ pub(crate) enum Content {
     Prefix,
 }
 
-/// Writes an opaque value, whose type has this shape, as what its bytes are taken for.
+/// Writes an opaque value as what its bytes are taken for, by its type, which has this shape.
 pub(crate) fn write_opaque(
     alloc: Global,
+    id: TypeId,
     shape: Option<&Shape>,
     bytes: &[u8],
-    raw: bool,
+    style: Style<'_>,
     out: &mut Writer,
 ) -> Result<(), AllocError>
-    ensures { WritesPlain result out.old out.new (SaysOpaque raw (option_copied shape.entry) bytes.now) }
+    ensures { WritesPlain result out.old out.new
+        (SaysOpaque (content_in style.entry) id (option_copied shape.entry) bytes.now) }
 {
-    match content_of(shape, raw) {
+    match content_in(style, id, shape) {
         Content::Bytes => write_bytes(alloc, bytes, out),
         Content::Text => write_text(alloc, bytes, out),
         Content::Time => write_time(alloc, bytes, out),
         Content::Int => write_int(alloc, bytes, out),
+        Content::Float => write_big_float(alloc, bytes, out),
+        Content::Rat => write_rat(alloc, bytes, out),
         Content::TimeOrInt => write_time_or_int(alloc, bytes, out),
         Content::Uuid => write_known(alloc, uuid_text(alloc, bytes)?, bytes, out),
         Content::Address => write_known(alloc, address_text(alloc, bytes)?, bytes, out),
@@ -62,7 +74,30 @@ pub(crate) fn write_opaque(
     }
 }
 
-// What the values of a type of this shape are taken for: with `raw` always bytes.
+// What the values of the type are taken for, which has this shape: what was said of it, else what is guessed.
+fn content_in(style: Style<'_>, id: TypeId, shape: Option<&Shape>) -> Content
+    ensures { result ≡ content_in style.entry id (option_copied shape.entry) }
+{
+    match taken_as(style.taken, id) {
+        Some(content) => content,
+        None => content_of(shape, style.raw),
+    }
+}
+
+// What was said that the values of the type are.
+fn taken_as(taken: &[Taken], id: TypeId) -> Option<Content>
+    ensures { result ≡ taken_as taken.now id }
+{
+    let mut content = None;
+    for said in taken {
+        if said.id == id {
+            content = Some(said.content);
+        }
+    }
+    content
+}
+
+// What the values of a type of this shape are guessed to be: with `raw` always bytes.
 fn content_of(shape: Option<&Shape>, raw: bool) -> Content
     ensures { result ≡ content_of raw (option_copied shape.entry) }
 {
@@ -89,9 +124,7 @@ fn content_as(marshal: Marshal, name: &[u8]) -> Content
     match marshal {
         Marshal::Text => Content::Text,
         Marshal::Binary => content_in_binary(name),
-        Marshal::Gob if name == b"Int".as_slice() => Content::Int,
-        Marshal::Gob if name == b"Time".as_slice() => Content::Time,
-        Marshal::Gob => content_if(name.is_empty(), Content::TimeOrInt),
+        Marshal::Gob => content_in_gob(name),
     }
 }
 
@@ -109,6 +142,23 @@ fn content_in_binary(name: &[u8]) -> Content
         Content::AddressPort
     } else {
         content_if(name == b"Prefix".as_slice(), Content::Prefix)
+    }
+}
+
+// What the values of a type of this name are taken for, which encodes itself for a gob.
+fn content_in_gob(name: &[u8]) -> Content
+    ensures { result ≡ content_as Marshal.Gob name.now }
+{
+    if name == b"Int".as_slice() {
+        Content::Int
+    } else if name == b"Time".as_slice() {
+        Content::Time
+    } else if name == b"Float".as_slice() {
+        Content::Float
+    } else if name == b"Rat".as_slice() {
+        Content::Rat
+    } else {
+        content_if(name.is_empty(), Content::TimeOrInt)
     }
 }
 

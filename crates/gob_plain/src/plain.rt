@@ -31,10 +31,10 @@ pub fn write_plain(
     id: TypeId,
     tape: &Tape,
     table: &Table,
-    style: Style,
+    style: Style<'_>,
     out: &mut Writer,
 ) -> Result<(), AllocError>
-    ensures { WritesPlainOf result out.old out.new (Means tape.now) (SaysIn style (types table.now) id) }
+    ensures { WritesPlainOf result out.old out.new (Means tape.now) (SaysIn style.entry (types table.now) id) }
 {
     write_plain_with(alloc, id, tape, table, style, &mut Nulls, out)
 }
@@ -46,13 +46,13 @@ pub fn write_plain_with<N: Nils>(
     id: TypeId,
     tape: &Tape,
     table: &Table,
-    style: Style,
+    style: Style<'_>,
     nils: &mut N,
     out: &mut Writer,
 ) -> Result<(), AllocError>
     requires { N.fit nils.old }
     ensures said { WritesNilsOf result out.old out.new (N.says nils.old) (N.says nils.new) (Means tape.now)
-        (nils_in style (types table.now) id) (SaysInWith (N.says nils.old) style (types table.now) id) }
+        (nils_in style.entry (types table.now) id) (SaysInWith (N.says nils.old) style.entry (types table.now) id) }
     ensures fit { N.fit nils.new }
 {
     write_part(alloc, tape.root(), id, table, style, nils, out)
@@ -90,13 +90,13 @@ fn write_part<S: Shapes, N: Nils>(
     part: View<'_>,
     id: TypeId,
     table: &S,
-    style: Style,
+    style: Style<'_>,
     nils: &mut N,
     out: &mut Writer,
 ) -> Result<(), AllocError>
     requires { N.fit nils.old }
     ensures said { WritesNilsOf result out.old out.new (N.says nils.old) (N.says nils.new) (Shows part.entry)
-        (nils_in style (S.table table.now) id) (SaysInWith (N.says nils.old) style (S.table table.now) id) }
+        (nils_in style.entry (S.table table.now) id) (SaysInWith (N.says nils.old) style.entry (S.table table.now) id) }
     ensures fit { N.fit nils.new }
 {
     let parts = part.children();
@@ -129,7 +129,9 @@ fn write_part<S: Shapes, N: Nils>(
             nils,
             out,
         ),
-        ValueKind::Opaque => write_opaque(alloc, table.shape_of(id), part.bytes(), style.raw, out),
+        ValueKind::Opaque => {
+            write_opaque(alloc, id, table.shape_of(id), part.bytes(), style, out)
+        },
         kind => {
             let (first, second) = part.numbers();
             write_leaf(alloc, kind, first, second, part.bytes(), out)
@@ -144,14 +146,14 @@ fn write_elements<S: Shapes, N: Nils>(
     parts: Children<'_>,
     id: TypeId,
     table: &S,
-    style: Style,
+    style: Style<'_>,
     nils: &mut N,
     out: &mut Writer,
 ) -> Result<(), AllocError>
     requires { N.fit nils.old }
     ensures said { WritesNilsOf result out.old out.new (N.says nils.old) (N.says nils.new)
-        (λ vs. Gives parts.entry (elements vs)) (nils_of_each_in style (S.table table.now) id)
-        (SaysElementsIn (N.says nils.old) style (S.table table.now) id) }
+        (λ vs. Gives parts.entry (elements vs)) (nils_of_each_in style.entry (S.table table.now) id)
+        (SaysElementsIn (N.says nils.old) style.entry (S.table table.now) id) }
     ensures fit { N.fit nils.new }
 {
     out.begin_array()?;
@@ -168,15 +170,15 @@ fn write_map<S: Shapes, N: Nils>(
     parts: Children<'_>,
     types: EntryTypes,
     table: &S,
-    style: Style,
+    style: Style<'_>,
     nils: &mut N,
     out: &mut Writer,
 ) -> Result<(), AllocError>
     requires { N.fit nils.old }
     ensures said { WritesNilsOf result out.old out.new (N.says nils.old) (N.says nils.new)
         (λ ps. Gives parts.entry (alternating ps))
-        (nils_of_map_in (gives_names types.key) style (S.table table.now) types.key types.element)
-        (SaysMapIn (N.says nils.old) (gives_names types.key) style (S.table table.now) types.key types.element) }
+        (nils_of_map_in (gives_names types.key) style.entry (S.table table.now) types.key types.element)
+        (SaysMapIn (N.says nils.old) (gives_names types.key) style.entry (S.table table.now) types.key types.element) }
     ensures fit { N.fit nils.new }
 {
     if gives_names(types.key) {
@@ -193,15 +195,15 @@ fn write_members<S: Shapes, N: Nils>(
     parts: Children<'_>,
     types: EntryTypes,
     table: &S,
-    style: Style,
+    style: Style<'_>,
     nils: &mut N,
     out: &mut Writer,
 ) -> Result<(), AllocError>
     requires { N.fit nils.old }
     ensures said { WritesNilsOf result out.old out.new (N.says nils.old) (N.says nils.new)
         (λ ps. Gives parts.entry (alternating ps))
-        (nils_of_members_in style (S.table table.now) types.key types.element)
-        (SaysMembersIn (N.says nils.old) style (S.table table.now) types.key types.element) }
+        (nils_of_members_in style.entry (S.table table.now) types.key types.element)
+        (SaysMembersIn (N.says nils.old) style.entry (S.table table.now) types.key types.element) }
     ensures fit { N.fit nils.new }
 {
     out.begin_object()?;
@@ -224,15 +226,15 @@ fn write_pairs<S: Shapes, N: Nils>(
     parts: Children<'_>,
     types: EntryTypes,
     table: &S,
-    style: Style,
+    style: Style<'_>,
     nils: &mut N,
     out: &mut Writer,
 ) -> Result<(), AllocError>
     requires { N.fit nils.old }
     ensures said { WritesNilsOf result out.old out.new (N.says nils.old) (N.says nils.new)
         (λ ps. Gives parts.entry (alternating ps))
-        (nils_of_pairs_in style (S.table table.now) types.key types.element)
-        (SaysPairsIn (N.says nils.old) style (S.table table.now) types.key types.element) }
+        (nils_of_pairs_in style.entry (S.table table.now) types.key types.element)
+        (SaysPairsIn (N.says nils.old) style.entry (S.table table.now) types.key types.element) }
     ensures fit { N.fit nils.new }
 {
     out.begin_array()?;
@@ -258,14 +260,14 @@ fn write_fields<S: Shapes, N: Nils>(
     parts: Children<'_>,
     types: &[Field],
     table: &S,
-    style: Style,
+    style: Style<'_>,
     nils: &mut N,
     out: &mut Writer,
 ) -> Result<(), AllocError>
     requires { N.fit nils.old }
     ensures said { WritesNilsOf result out.old out.new (N.says nils.old) (N.says nils.new)
-        (λ fs. Gives parts.entry (present fs)) (nils_of_fields_in style (S.table table.now) types.now 0)
-        (SaysStructIn (N.says nils.old) style (S.table table.now) types.now) }
+        (λ fs. Gives parts.entry (present fs)) (nils_of_fields_in style.entry (S.table table.now) types.now 0)
+        (SaysStructIn (N.says nils.old) style.entry (S.table table.now) types.now) }
     ensures fit { N.fit nils.new }
 {
     out.begin_object()?;

@@ -22,11 +22,11 @@ pub(crate) fn write_absent<S: Shapes>(
     types: &[Field],
     absent: Range<u64>,
     table: &S,
-    style: Style,
+    style: Style<'_>,
     out: &mut Writer,
 ) -> Result<(), AllocError>
     ensures { WritesSome result out.old out.new
-        (AbsentTokens style (S.table table.now) types.now absent.start absent.end) }
+        (AbsentTokens style.entry (S.table table.now) types.now absent.start absent.end) }
 {
     if style.zeros {
         write_zeros(alloc, types, absent, table, out)

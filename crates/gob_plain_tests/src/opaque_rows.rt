@@ -1,6 +1,8 @@
-//! Streams of opaque values, and the JSON of their last values, in the usual style and raw. The bytes of times are
-//! those of Go's Time.MarshalBinary, and those of whole numbers of Go's big.Int.GobEncode, worked out by hand. The JSON
-//! of types without a name, of addresses and of UUIDs is that of Go's encoding/json, where it isn't base64.
+//! Streams of opaque values, and the JSON of their last values, in the usual style, raw, and where it is said what they
+//! are. The bytes of times are those of Go's Time.MarshalBinary, and those of whole numbers of Go's big.Int.GobEncode,
+//! worked out by hand. The JSON of types without a name, of addresses, of UUIDs and of fractions is that of Go's
+//! encoding/json, where it isn't base64, and that of floats has the digits of Go's big.Float.Text('f', 2400) without
+//! zeros at its end.
 
 /// The rows of the usual style.
 pub(crate) const OPAQUE: &str = r#"
@@ -229,6 +231,88 @@ an address of IPv4 and half a port | 14 ff 81 06 01 01 08 41 64 64 72 50 6f 72 7
 
 a UUID of 15 bytes | 10 ff 81 06 01 01 04 55 55 49 44 01 ff 82 00 00 00 13 ff 82 00 0f 00 00 00 00 00 00 00 00 00 00 00
 00 00 00 00 | "AAAAAAAAAAAAAAAAAAAA"
+
+a float of a half | 11 ff 81 05 01 01 05 46 6c 6f 61 74 01 ff 82 00 00 00 16 ff 82 00 12 01 0a 00 00 00 35 00 00 00 00
+80 00 00 00 00 00 00 00 | "0.5"
+
+a float of 1.5 | 11 ff 81 05 01 01 05 46 6c 6f 61 74 01 ff 82 00 00 00 16 ff 82 00 12 01 0a 00 00 00 35 00 00 00 01 c0
+00 00 00 00 00 00 00 | "1.5"
+
+a float of a tenth, with all its digits | 11 ff 81 05 01 01 05 46 6c 6f 61 74 01 ff 82 00 00 00 16 ff 82 00 12 01 0a
+00 00 00 35 ff ff ff fd cc cc cc cc cc cc d0 00 | "0.1000000000000000055511151231257827021181583404541015625"
+
+a negative float | 11 ff 81 05 01 01 05 46 6c 6f 61 74 01 ff 82 00 00 00 16 ff 82 00 12 01 0b 00 00 00 35 00 00 00 02
+b0 00 00 00 00 00 00 00 | "-2.75"
+
+a float of 100 | 11 ff 81 05 01 01 05 46 6c 6f 61 74 01 ff 82 00 00 00 16 ff 82 00 12 01 0a 00 00 00 35 00 00 00 07 c8
+00 00 00 00 00 00 00 | "100"
+
+a float of 0 | 11 ff 81 05 01 01 05 46 6c 6f 61 74 01 ff 82 00 00 00 0a ff 82 00 06 01 08 00 00 00 35 | "0"
+
+a float of minus 0 | 11 ff 81 05 01 01 05 46 6c 6f 61 74 01 ff 82 00 00 00 0a ff 82 00 06 01 09 00 00 00 35 | "-0"
+
+a float of infinity | 11 ff 81 05 01 01 05 46 6c 6f 61 74 01 ff 82 00 00 00 0a ff 82 00 06 01 0c 00 00 00 35 | "+Inf"
+
+a float of minus infinity | 11 ff 81 05 01 01 05 46 6c 6f 61 74 01 ff 82 00 00 00 0a ff 82 00 06 01 0d 00 00 00
+35 | "-Inf"
+
+a float of 2 to the 100 | 11 ff 81 05 01 01 05 46 6c 6f 61 74 01 ff 82 00 00 00 16 ff 82 00 12 01 0a 00 00 00 35 00 00
+00 65 80 00 00 00 00 00 00 00 | "1267650600228229401496703205376"
+
+a float of 2 to the minus 20 | 11 ff 81 05 01 01 05 46 6c 6f 61 74 01 ff 82 00 00 00 16 ff 82 00 12 01 0a 00 00 00 35
+ff ff ff ed 80 00 00 00 00 00 00 00 | "0.00000095367431640625"
+
+a float whose exponent is beyond 1100 | 11 ff 81 05 01 01 05 46 6c 6f 61 74 01 ff 82 00 00 00 16 ff 82 00 12 01 0a 00
+00 00 35 00 00 04 4e 80 00 00 00 00 00 00 00 | "AQoAAAA1AAAEToAAAAAAAAAA"
+
+toward zero | 11 ff 81 05 01 01 05 46 6c 6f 61 74 01 ff 82 00 00 00 16 ff 82 00 12 01 42 00 00 00 0a ff ff ff fd cc c0
+00 00 00 00 00 00 | "0.0999755859375"
+
+a fraction | 0f ff 81 05 01 01 03 52 61 74 01 ff 82 00 00 00 0b ff 82 00 07 02 00 00 00 01 03 04 | "3/4"
+
+a negative fraction | 0f ff 81 05 01 01 03 52 61 74 01 ff 82 00 00 00 0b ff 82 00 07 03 00 00 00 01 16 07 | "-22/7"
+
+a fraction over 1 | 0f ff 81 05 01 01 03 52 61 74 01 ff 82 00 00 00 0b ff 82 00 07 02 00 00 00 01 05 01 | "5"
+
+a fraction of 0 | 0f ff 81 05 01 01 03 52 61 74 01 ff 82 00 00 00 09 ff 82 00 05 02 00 00 00 00 | "0"
+
+a long fraction | 0f ff 81 05 01 01 03 52 61 74 01 ff 82 00 00 00 1d ff 82 00 19 02 00 00 00 0c 0a c8 07 59 b2 41 66
+f1 af 16 75 ea 25 0b 62 f3 b3 2a 8d cf | "3336669973306639970303636970/2669336002969636303"
+
+a fraction of 0 over 1 | 0f ff 81 05 01 01 03 52 61 74 01 ff 82 00 00 00 0a ff 82 00 06 02 00 00 00 00 01 | "0"
+
+a float of version 2 | 11 ff 81 05 01 01 05 46 6c 6f 61 74 01 ff 82 00 00 00 16 ff 82 00 12 02 0a 00 00 00 35 00 00 00
+00 80 00 00 00 00 00 00 00 | "AgoAAAA1AAAAAIAAAAAAAAAA"
+
+a float of a form that Go has not | 11 ff 81 05 01 01 05 46 6c 6f 61 74 01 ff 82 00 00 00 0a ff 82 00 06 01 0e 00 00
+00 35 | "AQ4AAAA1"
+
+a zero with an exponent | 11 ff 81 05 01 01 05 46 6c 6f 61 74 01 ff 82 00 00 00 0e ff 82 00 0a 01 08 00 00 00 35 00 00
+00 00 | "AQgAAAA1AAAAAA=="
+
+a float whose mantissa begins with a 0 | 11 ff 81 05 01 01 05 46 6c 6f 61 74 01 ff 82 00 00 00 16 ff 82 00 12 01 0a 00
+00 00 35 00 00 00 00 70 00 00 00 00 00 00 00 | "AQoAAAA1AAAAAHAAAAAAAAAA"
+
+a float whose mantissa ends in a word | 11 ff 81 05 01 01 05 46 6c 6f 61 74 01 ff 82 00 00 00 14 ff 82 00 10 01 0a 00
+00 00 35 00 00 00 00 80 00 00 00 00 00 | "AQoAAAA1AAAAAIAAAAAAAA=="
+
+a float of more words than bits | 11 ff 81 05 01 01 05 46 6c 6f 61 74 01 ff 82 00 00 00 1e ff 82 00 1a 01 0a 00 00 00
+35 00 00 00 00 80 00 00 00 00 00 00 00 00 00 00 00 00 00 00 00 | "AQoAAAA1AAAAAIAAAAAAAAAAAAAAAAAAAAA="
+
+a negative fraction of 0 | 0f ff 81 05 01 01 03 52 61 74 01 ff 82 00 00 00 0a ff 82 00 06 03 00 00 00 00
+01 | "AwAAAAAB"
+
+a fraction whose numerator is cut | 0f ff 81 05 01 01 03 52 61 74 01 ff 82 00 00 00 0a ff 82 00 06 02 00 00 00 02
+03 | "AgAAAAID"
+
+a fraction with a zero in front | 0f ff 81 05 01 01 03 52 61 74 01 ff 82 00 00 00 0c ff 82 00 08 02 00 00 00 02 00 03
+04 | "AgAAAAIAAwQ="
+
+a fraction over a number with a zero in front | 0f ff 81 05 01 01 03 52 61 74 01 ff 82 00 00 00 0c ff 82 00 08 02 00
+00 00 01 03 00 04 | "AgAAAAEDAAQ="
+
+a fraction of version 2 | 0f ff 81 05 01 01 03 52 61 74 01 ff 82 00 00 00 0b ff 82 00 07 04 00 00 00 01 03
+04 | "BAAAAAEDBA=="
 "#;
 
 /// The rows of the raw style.
@@ -242,4 +326,26 @@ a URL, raw | 0f ff 81 06 01 01 03 55 52 4c 01 ff 82 00 00 00 17 ff 82 00 13 68 7
 64 6f 63 2f | "aHR0cHM6Ly9nby5kZXYvZG9jLw=="
 
 a whole number, raw | 0f ff 81 05 01 01 03 49 6e 74 01 ff 82 00 00 00 06 ff 82 00 02 03 ff | "A/8="
+"#;
+
+/// A stream whose type is said to be a float.
+pub(crate) const SAID_FLOAT: &str = r#"
+said to be a float | 0a ff 81 05 01 02 ff 84 00 00 00 16 ff 82 00 12 01 0a 00 00 00 35 00 00 00 01 c0 00 00 00 00 00 00
+00 | "1.5"
+
+but of another layout | 0a ff 81 05 01 02 ff 84 00 00 00 06 ff 82 00 02 02 07 | "Agc="
+"#;
+
+/// Streams whose type is said to be a fraction.
+pub(crate) const SAID_FRACTION: &str = r#"
+said to be a fraction | 0a ff 85 05 01 02 ff 88 00 00 00 0b ff 86 00 07 02 00 00 00 01 03 04 | "AgAAAAEDBA=="
+
+and with its id | 0a ff 81 05 01 02 ff 84 00 00 00 0b ff 82 00 07 02 00 00 00 01 03 04 | "3/4"
+
+over the name of its type | 0f ff 81 05 01 01 03 49 6e 74 01 ff 82 00 00 00 0b ff 82 00 07 02 00 00 00 01 03 04 | "3/4"
+"#;
+
+/// Streams whose type is said to be bytes.
+pub(crate) const SAID_BYTES: &str = r#"
+a time that is said to be bytes | TIME 13 ff 82 00 0f 01 00 00 00 0e c2 8b e7 70 00 00 00 00 ff ff | "AQAAAA7Ci+dwAAAAAP//"
 "#;

@@ -1,14 +1,14 @@
 //! The JSON of values.
 
-use crate::opaque_rows::{OPAQUE, RAW};
+use crate::opaque_rows::{OPAQUE, RAW, SAID_BYTES, SAID_FLOAT, SAID_FRACTION};
 use crate::rows::ROWS;
 use crate::zero_rows::ZEROS;
 use gob_num::Memory;
-use gob_plain::{Style, plain_text};
+use gob_plain::{Content, Style, Taken, plain_text};
 use gob_stream::{Fault, Item, Limits, Session};
 use gob_tape::{Tape, TapeBuilder};
 use gob_test_rows::{bytes_of, part};
-use gob_types::Table;
+use gob_types::{Table, TypeId};
 use std::alloc::{AllocError, Global};
 use std::test::*;
 
@@ -17,7 +17,7 @@ fn text_of(
     alloc: Global,
     items: &[Item<Tape>],
     table: &Table,
-    style: Style,
+    style: Style<'_>,
 ) -> Result<String, AllocError> {
     match items.last() {
         Some(Item::Put { id, value }) => plain_text(alloc, *id, value, table, style),
@@ -26,7 +26,7 @@ fn text_of(
 }
 
 // The JSON of the last value of a stream in this style; nothing where the stream is refused or ends with a definition.
-fn json_of(alloc: Global, bytes: &[u8], style: Style) -> Result<String, Memory> {
+fn json_of(alloc: Global, bytes: &[u8], style: Style<'_>) -> Result<String, Memory> {
     let mut session = Session::<TapeBuilder>::new(alloc, Limits::standard())?;
     let mut items = Vec::new(alloc);
     match session.feed(alloc, bytes, &mut items) {
@@ -37,19 +37,23 @@ fn json_of(alloc: Global, bytes: &[u8], style: Style) -> Result<String, Memory> 
 }
 
 // Whether the row's last value has the row's JSON in this style.
-fn is_due(alloc: Global, row: &str, style: Style) -> Result<bool, Memory> {
+fn is_due(alloc: Global, row: &str, style: Style<'_>) -> Result<bool, Memory> {
     let bytes = bytes_of(alloc, part(row, 1))?;
     let text = json_of(alloc, &bytes, style)?;
     Ok(text.as_str() == part(row, 2))
 }
 
 // The style, with zeros or raw.
-fn style_of(zeros: bool, raw: bool) -> Style {
-    Style { zeros, raw }
+fn style_of(zeros: bool, raw: bool) -> Style<'static> {
+    Style {
+        zeros,
+        raw,
+        taken: &[],
+    }
 }
 
 // The first of the rows whose last value has another JSON in this style.
-fn wrong(alloc: Global, rows: &'static str, style: Style) -> Option<&'static str> {
+fn wrong(alloc: Global, rows: &'static str, style: Style<'_>) -> Option<&'static str> {
     for row in rows.trim().split("\n\n") {
         if is_due(alloc, row, style) != Ok(true) {
             return Some(row);
@@ -66,6 +70,34 @@ fn values_have_their_json(rt: HostRuntime) {
         (RAW, style_of(false, true)),
         (ZEROS, style_of(true, false)),
     ] {
+        let wrong = wrong(rt.alloc(), rows, style);
+        assert!(rt; wrong.is_none(), "{wrong:?}");
+    }
+}
+
+#[test]
+fn values_are_what_is_said(rt: HostRuntime) {
+    for (rows, content) in [
+        (SAID_FLOAT, Content::Float),
+        (SAID_FRACTION, Content::Rat),
+        (SAID_BYTES, Content::Bytes),
+    ] {
+        // the later of two words counts
+        let taken = [
+            Taken {
+                id: TypeId(65),
+                content: Content::Uuid,
+            },
+            Taken {
+                id: TypeId(65),
+                content,
+            },
+        ];
+        let style = Style {
+            zeros: false,
+            raw: true,
+            taken: &taken,
+        };
         let wrong = wrong(rt.alloc(), rows, style);
         assert!(rt; wrong.is_none(), "{wrong:?}");
     }

@@ -1,5 +1,6 @@
 pub mod IdLaws
 pub mod PlainLaws
+pub mod TakenLaws
 pub mod SendLaws
 pub mod VerifyLaws
 pub mod TypeRuns

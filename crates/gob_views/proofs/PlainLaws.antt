@@ -28,7 +28,8 @@ use Rattle.gob_tool.specs.TextsGo.{IsWholeText}
 use Rattle.gob_tool.proofs.Profile.TextLaws.{whole_text}
 use Rattle.gob_views.specs.Machine.Tapes.{IsTapeOf}
 use Rattle.gob_words.specs.Words.{text_of}
-use Rattle.gob_views.specs.Values.{IsChosen, IsLineOf, is_shown, is_left_out, IsPlainLine, shown_json}
+use Rattle.gob_views.specs.Values.{IsChosen, IsLineOf, is_shown, is_left_out, IsPlainLine, SaysStyled}
+use Rattle.gob_views.specs.Values.{shown_json}
 use Rattle.gob_views.specs.declared.value_line.ValueLines.{ValueLines}
 
 -- a reader that reads JSON in its text reads it in the line
@@ -72,7 +73,7 @@ definition_line lines {T = T} {id = id} {described = described} {line = line} e 
 
 pub value_line : {lines : ValueLines} {T : Table} {given : GoItem} {id : TypeId} {kept : Filled} {line : List ℕ}
     → given ≡ item.Put id kept → ((w : spelled.Filled) → IsFilled T id kept w
-    → IsLineOf lines T id (SaysFilled lines.tagged lines.style T id w) line)
+    → IsLineOf lines T id (SaysStyled lines (λ style. SaysFilled lines.tagged style T id w)) line)
     → (i : FilledItem) → ItemMeans T given i → IsPlainLine lines T i line
 value_line {lines = lines} {T = T} {id = id} {kept = kept} {line = line} e made =
     subst (λ g. (i : FilledItem) → ItemMeans T g i → IsPlainLine lines T i line) (sym e) (λ i m. by m)
@@ -87,7 +88,7 @@ pub whole_line : {lines : ValueLines} {T U : Table} {r : GoReader} {id : TypeId}
     → T ≡ types_of (session_of r) → U ≡ types_of (session_of r)
     → limit ≡ min (limits_of (session_of r)).depth greatest_depth
     → IsTapeOf T id (min limit deepest) body tape
-    → ((v : Tree) → Means tape v → IsLineOf lines U id (SaysIn lines.style U id v) line)
+    → ((v : Tree) → Means tape v → IsLineOf lines U id (SaysStyled lines (λ style. SaysIn style U id v)) line)
     → IsWholeText (IsPlainLine lines) r used line
 whole_line {lines = lines} {r = r} {id = id} {body = body} {line = line} {limit = limit} {tape = tape}
     between next same also deep t made =
@@ -95,7 +96,10 @@ whole_line {lines = lines} {r = r} {id = id} {body = body} {line = line} {limit 
     let by = subst (λ (T : Table). IsTapeOf T id (min limit deepest) body tape) same t in
     let v = by.whole.value in
     let within = by.whole.within in
-    let plain = subst (λ (T : Table). IsLineOf lines T id (SaysIn lines.style T id v) line) also (made v by.means) in
+    let plain =
+    subst (λ (T : Table). IsLineOf lines T id (SaysStyled lines (λ style. SaysIn style T id v)) line) also
+    (made v by.means) in
     whole_text (IsPlainLine lines) between next
     (record { value = v; spelled = by.whole.spelled; within = omega (arith, within, deep) })
-    (line_weaker (λ j says. says_unfilled lines.tagged lines.style S id v body j by.whole.spelled says) plain)
+    (line_weaker
+    (λ j said. (said.0, said.1, says_unfilled lines.tagged said.0 S id v body j by.whole.spelled said.2)) plain)

@@ -1,5 +1,5 @@
 -- What the run of a view answers. (docs/FORMAT.md, The program: this project's own.)
-use Rattle.std.specs.Prelude.{ℕ, Bool, true, false, List, [], ◌∷◌, ◌++◌, Option, None, Some, Result, codes}
+use Rattle.std.specs.Prelude.{◌≡◌, ℕ, Bool, true, false, List, [], ◌∷◌, ◌++◌, Option, None, Some, Result, codes}
 use Rattle.gob_tool.specs.CheckingGo.{CheckGoAnswers}
 use Rattle.gob_tool.specs.RewritingGo.{RewriteGoAnswers}
 use Rattle.gob_tool.specs.ShowingGo.{ShowGoAnswers}
@@ -14,6 +14,7 @@ use Rattle.gob_why.specs.declared.explained.Explained.TheVariants as explained
 use Rattle.gob_words.specs.declared.view.View.{View}
 use Rattle.gob_words.specs.declared.view.ViewCommand.{ViewCommand}
 use Rattle.gob_words.specs.declared.view.ViewCommand.TheVariants as command
+use Rattle.gob_words.specs.Words.{text_of}
 use Rattle.gob_views.specs.declared.value_line.ValueLines.{ValueLines}
 use Rattle.gob_views.specs.Sending.{SendsText}
 use Rattle.gob_views.specs.Types.{TypesAnswers}
@@ -24,13 +25,13 @@ abbrev pub view_limits : View → Bounds
 view_limits view = record { item = view.item; depth = view.depth; types = 10000; stream = 68719476736 }
 
 -- how values are printed, and which
-abbrev pub view_lines : View → ValueLines
-view_lines view = record {
-  style = record { zeros = view.zeros; raw = view.raw };
-  tagged = view.tagged;
-  typed = view.typed;
-  only = view.only;
-}
+pub record AreLinesOf (view : View) (lines : ValueLines) : Type 0 where
+  pub zeros : lines.zeros ≡ view.zeros
+  pub raw : lines.raw ≡ view.raw
+  pub kinds : lines.kinds.now ≡ view.kinds.items
+  pub tagged : lines.tagged ≡ view.tagged
+  pub typed : lines.typed ≡ view.typed
+  pub only : text_of lines.only ≡ text_of view.only
 
 -- which items are explained: the refused one before the one around a byte, where both are asked for
 abbrev pub explained_by : (fault : Bool) → (at : Option ℕ) → Explained
@@ -49,7 +50,7 @@ version_line = codes "gob 0.1.0" ++ 10 ∷ []
 abbrev pub CommandAnswers : ViewCommand → View → (bytes : List ℕ) → (now old new : Option (List ℕ))
     → Result (Unit {0}) ToolFault → Type 0
 CommandAnswers command.Values view bytes now old new result =
-    ValuesAnswers (view_lines view) (view_limits view) bytes now old new result
+    (lines : ValueLines) × AreLinesOf view lines × ValuesAnswers lines (view_limits view) bytes now old new result
 CommandAnswers command.Types view bytes now old new result = TypesAnswers (view_limits view) bytes now old new result
 CommandAnswers command.Why view bytes now old new result = WhyAnswers (view_limits view) bytes now old new result
 CommandAnswers command.Explain view bytes now old new result =

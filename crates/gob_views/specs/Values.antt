@@ -15,6 +15,13 @@ use Rattle.gob_go_plain.specs.Filled.{SaysFilled, tagged_json}
 use Rattle.gob_tool.specs.declared.fault.ToolFault.{ToolFault}
 use Rattle.gob_tool.specs.TextsGo.{TextsAnswers}
 use Rattle.gob_words.specs.Words.{IsNumber, text_of}
+use Rattle.gob_words.specs.declared.kinds.OpaqueKind.{OpaqueKind}
+use Rattle.gob_words.specs.declared.kinds.OpaqueKind.TheVariants as kind
+use Rattle.gob_words.specs.declared.kinds.TypeKind.{TypeKind}
+use Rattle.gob_plain.specs.declared.opaque.Content.{Content}
+use Rattle.gob_plain.specs.declared.opaque.Content.TheVariants as content
+use Rattle.gob_plain.specs.declared.style.Style.{Style}
+use Rattle.gob_plain.specs.declared.style.Taken.{Taken}
 use Rattle.gob_views.specs.declared.value_line.ValueLines.{ValueLines}
 
 -- the name of a type, where it is one
@@ -29,6 +36,38 @@ type_name T t = name_of (shape_of T t)
 abbrev pub IsChosen : Option (List ℕ) → Table → TypeId → Type 0
 IsChosen None T t = ⊤
 IsChosen (Some word) T t = (word ≡ type_name T t) ⊎ IsNumber (Some word) 0 t.0
+
+-- ---- what is said of types
+
+-- what bytes of this kind are taken for
+abbrev pub content_of : OpaqueKind → Content
+content_of kind.Time = content.Time
+content_of kind.BigInt = content.Int
+content_of kind.BigFloat = content.Float
+content_of kind.BigRat = content.Rat
+content_of kind.Uuid = content.Uuid
+content_of kind.NetipAddr = content.Address
+content_of kind.Text = content.Text
+content_of kind.Base64 = content.Bytes
+
+-- what is said of types is taken so, one behind another
+pub data AreTaken : List TypeKind → List Taken → Type 0 where
+  none_taken : AreTaken [] []
+  then_taken : {said : TypeKind} {all : List TypeKind} {taken : Taken} {others : List Taken}
+      → taken.id.0 ≡ said.id → taken.content ≡ content_of said.kind → AreTaken all others
+      → AreTaken (said ∷ all) (taken ∷ others)
+
+-- the style in which the lines show values
+pub record IsStyleOf (lines : ValueLines) (style : Style) : Type 0 where
+  pub zeros : style.zeros ≡ lines.zeros
+  pub raw : style.raw ≡ lines.raw
+  pub taken : AreTaken lines.kinds.now style.taken.now
+
+-- this is said in the style of the lines
+abbrev pub SaysStyled : ValueLines → (Style → Json → Type 0) → Json → Type 0
+SaysStyled lines Says j = (style : Style) × IsStyleOf lines style × Says style j
+
+-- ---- lines
 
 -- the JSON that is written of a value, by the name of its type where that is shown: {"NAME":value}
 abbrev pub shown_json : ValueLines → Table → TypeId → Json → Json
@@ -46,7 +85,8 @@ pub data IsLineOf (lines : ValueLines) (T : Table) (t : TypeId) (Says : Json →
 -- nothing of a definition
 abbrev pub IsPlainLine : ValueLines → Table → FilledItem → List ℕ → Type 0
 IsPlainLine lines T (defining id described) line = line ≡ []
-IsPlainLine lines T (putting t w) line = IsLineOf lines T t (SaysFilled lines.tagged lines.style T t w) line
+IsPlainLine lines T (putting t w) line =
+    IsLineOf lines T t (SaysStyled lines (λ style. SaysFilled lines.tagged style T t w)) line
 
 -- how the run ends, over an input with these bytes left and an output with the old bytes: the lines of the items went
 -- out, and nothing else, or after a failed write a prefix of them

@@ -5,13 +5,12 @@ ghost use Rattle.gob_salvage.specs.Running.{SalvageAnswers};
 ghost use Rattle.gob_stream.specs.Calls.Ends.{failed_reads, failed_writes, reader_of, writer_of};
 ghost use Rattle.gob_tool.specs.Ending.{CountsOnlyWrites};
 ghost use Rattle.gob_tool.specs.Showing.{CountsReadFaults, CountsWriteFaults, IsFlushedSince};
-ghost use Rattle.gob_views.specs.Running.{ViewAnswers, version_line, view_explained, view_limits, view_lines};
+ghost use Rattle.gob_views.specs.Running.{ViewAnswers, AreLinesOf, version_line, view_explained, view_limits};
 ghost use Rattle.gob_views.specs.Sending.{SendsText};
 
 use crate::types::run_types;
 use crate::value_line::ValueLines;
 use crate::values::run_values;
-use gob_plain::Style;
 use gob_salvage::{Salvaged, run_salvage};
 use gob_stream::{Input, Limits, Output};
 use gob_tool::{ToolFault, end_run, run_check_go, run_rewrite_go, run_show_go};
@@ -85,14 +84,13 @@ fn explained_of(view: &View<'_>) -> Explained
 }
 
 // How values are printed, and which.
-fn lines_of<'a>(view: &View<'a>) -> ValueLines<'a>
-    ensures { result ≡ view_lines view.now }
+fn lines_of<'a>(view: &'a View<'_>) -> ValueLines<'a>
+    ensures { AreLinesOf view.entry.now result }
 {
     ValueLines {
-        style: Style {
-            zeros: view.zeros,
-            raw: view.raw,
-        },
+        zeros: view.zeros,
+        raw: view.raw,
+        kinds: &view.kinds,
         tagged: view.tagged,
         typed: view.typed,
         only: view.only,

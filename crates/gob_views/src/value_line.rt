@@ -14,15 +14,16 @@ ghost use Rattle.gob_filled.specs.Filled as spelled;
 ghost use Rattle.gob_go.specs.Meaning.{IsFilled};
 ghost use Rattle.gob_go_plain.specs.Filled.{SaysFilled, tagged_json};
 ghost use Rattle.gob_words.specs.Words.{text_of};
-ghost use Rattle.gob_views.specs.Values.{IsChosen, IsLineOf, shown_json, type_name};
+ghost use Rattle.gob_views.specs.Values.{AreTaken, IsChosen, IsLineOf, IsStyleOf, SaysStyled, content_of, shown_json};
+ghost use Rattle.gob_views.specs.Values.{type_name};
 
 use gob_go::Filled;
 use gob_go_plain::filled_text;
 use gob_num::Memory;
-use gob_plain::{Filler, Fillers, Nils, Style, plain_text};
+use gob_plain::{Content, Filler, Fillers, Nils, Style, Taken, plain_text};
 use gob_tape::Tape;
 use gob_types::{Shapes, Table, TypeId};
-use gob_words::number_of;
+use gob_words::{OpaqueKind, TypeKind, number_of};
 use json::Writer;
 use json_controls::push_shown;
 use std::alloc::{AllocError, Global};
@@ -30,8 +31,14 @@ use std::alloc::{AllocError, Global};
 /// How values are printed as plain JSON, and which.
 #[derive(Clone, Copy, Debug, Default, PartialEq, Eq)]
 pub struct ValueLines<'a> {
-    /// What is shown of what Go leaves out, and of values that encode themselves.
-    pub style: Style,
+    /// Whether the fields that Go's encoder leaves out are printed too, as zeros.
+    pub zeros: bool,
+    /// Whether each value that encodes itself is printed in base64, also a time or a text that is known by its type.
+    pub raw: bool,
+    /// What is said of types whose values encode themselves, over any guess and over `raw`; of two that say something
+    /// of
+    /// one type the later counts.
+    pub kinds: &'a [TypeKind],
     /// Whether what an interface holds is shown as `{"NAME":value}`, by the name of its type.
     pub tagged: bool,
     /// Whether each value is shown so.
@@ -52,12 +59,15 @@ pub(crate) fn push_filled_line(
     requires { text.old.items ≡ [] }
     ensures { OnOk result ((w : spelled.Filled) → IsFilled (types table.now) id value.now w
         → IsLineOf lines.entry (types table.now) id
-        (SaysFilled lines.entry.tagged lines.entry.style (types table.now) id w) text.new.items) }
+        (SaysStyled lines.entry (λ style. SaysFilled lines.entry.tagged style (types table.now) id w))
+        text.new.items) }
 {
     if !is_chosen(lines.only, table, id) {
         return Ok(());
     }
-    let json = filled_text(alloc, id, value, table, lines.style, lines.tagged)?;
+    let taken = taken_of(alloc, lines.kinds)?;
+    let style = style_of(lines, &taken);
+    let json = filled_text(alloc, id, value, table, style, lines.tagged)?;
     push_line(typed_text(alloc, json, table, id, lines)?.as_str(), text)
 }
 
@@ -72,15 +82,59 @@ pub(crate) fn push_tape_line(
 ) -> Result<(), Memory>
     requires { text.old.items ≡ [] }
     ensures { OnOk result ((v : Tree) → Means tape.now v
-        → IsLineOf lines.entry (types table.now) id (SaysIn lines.entry.style (types table.now) id v) text.new.items) }
+        → IsLineOf lines.entry (types table.now) id
+        (SaysStyled lines.entry (λ style. SaysIn style (types table.now) id v)) text.new.items) }
 {
     if !is_chosen(lines.only, table, id) {
         return Ok(());
     }
     // a tape means a value
     let _depth = tape.depth();
-    let json = plain_text(alloc, id, tape, table, lines.style)?;
+    let taken = taken_of(alloc, lines.kinds)?;
+    let style = style_of(lines, &taken);
+    let json = plain_text(alloc, id, tape, table, style)?;
     push_line(typed_text(alloc, json, table, id, lines)?.as_str(), text)
+}
+
+/// What is said of types, as values are written by it.
+fn taken_of(alloc: Global, kinds: &[TypeKind]) -> Result<Vec<Taken>, AllocError>
+    ensures { IfOk result (λ taken. AreTaken kinds.now taken.items) }
+{
+    let mut taken = Vec::with_capacity(alloc, kinds.len())?;
+    for said in kinds {
+        taken.push(Taken {
+            id: TypeId(said.id),
+            content: content_of(said.kind),
+        })?;
+    }
+    Ok(taken)
+}
+
+/// What bytes of this kind are taken for.
+fn content_of(kind: OpaqueKind) -> Content
+    ensures { result ≡ content_of kind }
+{
+    match kind {
+        OpaqueKind::Time => Content::Time,
+        OpaqueKind::BigInt => Content::Int,
+        OpaqueKind::BigFloat => Content::Float,
+        OpaqueKind::BigRat => Content::Rat,
+        OpaqueKind::Uuid => Content::Uuid,
+        OpaqueKind::NetipAddr => Content::Address,
+        OpaqueKind::Text => Content::Text,
+        OpaqueKind::Base64 => Content::Bytes,
+    }
+}
+
+/// The style of the lines, where this is said of types.
+fn style_of<'a>(lines: ValueLines<'_>, taken: &'a [Taken]) -> Style<'a>
+    ensures { AreTaken lines.entry.kinds.now taken.entry.now → IsStyleOf lines.entry result }
+{
+    Style {
+        zeros: lines.zeros,
+        raw: lines.raw,
+        taken,
+    }
 }
 
 /// Whether values of the type are printed, where this word says of which type alone they are.

@@ -13,7 +13,7 @@ use Rattle.gob_json_writer.proofs.WrittenLaws.{one_written}
 use Rattle.gob_plain.specs.AbsentFields.{AbsentTokens}
 use Rattle.gob_plain.specs.Filled.{nils_in, nils_of_each_in, nils_of_map_in, nils_of_fields_in, SaysInWith}
 use Rattle.gob_plain.specs.Filled.{SaysElementsIn, SaysMapIn, SaysStructIn}
-use Rattle.gob_plain.specs.OpaqueText.{SaysOpaque}
+use Rattle.gob_plain.specs.OpaqueText.{SaysOpaque, content_in}
 use Rattle.gob_plain.specs.Plain.{gives_names}
 use Rattle.gob_plain.specs.WritesPlain.{WritesSome, AreBehind}
 use Rattle.gob_plain.proofs.StyleLaws.{many_in, map_in, struct_in, many_nils, map_nils, struct_nils}
@@ -386,7 +386,7 @@ write_part-returns-in-Opaque-clause-said g t c =
               p.0,
               opaque_says N style T c.args.id v bytes p.0 (sym c.in-Opaque.is ∙ c.kind.ensures s.0 v s.1)
                   (c.bytes.ensures s.0 v s.1)
-                  (subst (λ o. SaysOpaque style.raw o bytes p.0) c.shape_of.ensures p.1),
+                  (subst (λ o. SaysOpaque (content_in style) c.args.id o bytes p.0) c.shape_of.ensures p.1),
               p.2,
             ))
             c.write_opaque.ensures;

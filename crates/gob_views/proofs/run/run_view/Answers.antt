@@ -19,9 +19,9 @@ returns-in-Values-clause-shows g c = λ bytes known.
     let new = g.W.Write.contents (writer_of c.run_values.new.output) in
     let next = g.R.Read.remaining (reader_of c.run_values.new.input) in
     let view = c.args.view.now in
-    let printed = rw (c.limits_of.ensures, within_view view, c.lines_of.ensures) at
-    c.run_values.ensures.printed in
-    subst (λ x. CommandAnswers x view bytes next old new c.run_values.result) (sym c.in-Values.is) (printed bytes known)
+    let printed = rw (c.limits_of.ensures, within_view view) at c.run_values.ensures.printed in
+    subst (λ x. CommandAnswers x view bytes next old new c.run_values.result) (sym c.in-Values.is)
+    (c.lines_of.result, c.lines_of.ensures, printed bytes known)
 
 pub returns-in-Types-clause-shows : goal.returns-in-Types-clause-shows
 returns-in-Types-clause-shows g c = λ bytes known.
