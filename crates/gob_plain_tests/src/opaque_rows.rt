@@ -328,19 +328,19 @@ a URL, raw | 0f ff 81 06 01 01 03 55 52 4c 01 ff 82 00 00 00 17 ff 82 00 13 68 7
 a whole number, raw | 0f ff 81 05 01 01 03 49 6e 74 01 ff 82 00 00 00 06 ff 82 00 02 03 ff | "A/8="
 "#;
 
-/// A stream whose type is said to be a float.
+/// Streams whose type is said to be a float.
 pub(crate) const SAID_FLOAT: &str = r#"
-said to be a float | 0a ff 81 05 01 02 ff 84 00 00 00 16 ff 82 00 12 01 0a 00 00 00 35 00 00 00 01 c0 00 00 00 00 00 00
+said to be a float | 0a ff 81 05 01 02 ff 82 00 00 00 16 ff 82 00 12 01 0a 00 00 00 35 00 00 00 01 c0 00 00 00 00 00 00
 00 | "1.5"
 
-but of another layout | 0a ff 81 05 01 02 ff 84 00 00 00 06 ff 82 00 02 02 07 | "Agc="
+but of another layout | 0a ff 81 05 01 02 ff 82 00 00 00 06 ff 82 00 02 02 07 | "Agc="
 "#;
 
 /// Streams whose type is said to be a fraction.
 pub(crate) const SAID_FRACTION: &str = r#"
-said to be a fraction | 0a ff 85 05 01 02 ff 88 00 00 00 0b ff 86 00 07 02 00 00 00 01 03 04 | "AgAAAAEDBA=="
+of a type of which nothing is said | 0a ff 83 05 01 02 ff 84 00 00 00 0b ff 84 00 07 02 00 00 00 01 03 04 | "AgAAAAEDBA=="
 
-and with its id | 0a ff 81 05 01 02 ff 84 00 00 00 0b ff 82 00 07 02 00 00 00 01 03 04 | "3/4"
+said to be a fraction | 0a ff 81 05 01 02 ff 82 00 00 00 0b ff 82 00 07 02 00 00 00 01 03 04 | "3/4"
 
 over the name of its type | 0f ff 81 05 01 01 03 49 6e 74 01 ff 82 00 00 00 0b ff 82 00 07 02 00 00 00 01 03 04 | "3/4"
 "#;
