@@ -150,6 +150,9 @@ def big_rat(value: Opaque) -> Fraction:
     return Fraction(_signed(int.from_bytes(data[5:end], "big"), data[0] & 1), below)
 
 
+_MOST_EXPONENT = 1 << 16
+
+
 def big_float(value: Opaque) -> Fraction | float:
     """A big.Float: exactly, as a fraction; a zero and an infinity as the float with their sign."""
     data = value.data
@@ -159,7 +162,11 @@ def big_float(value: Opaque) -> Fraction | float:
     if form == 1:
         if len(data) < 10:
             raise ValueError("no big.Float")
-        power: int = struct.unpack(">i", data[6:10])[0] - 8 * (len(data) - 10)
+        exponent: int = struct.unpack(">i", data[6:10])[0]
+        # digits beyond cost the square of the exponent, which a few bytes could ask for
+        if abs(exponent) > _MOST_EXPONENT:
+            raise ValueError("a big.Float beyond what is worked out")
+        power = exponent - 8 * (len(data) - 10)
         digits = _signed(int.from_bytes(data[10:], "big"), negative)
         return Fraction(digits) * Fraction(2) ** power
     if form > 2 or len(data) != 6:
@@ -230,7 +237,8 @@ _KNOWN: dict[str, Callable[[Opaque], Any]] = {
 
 
 def known(value: Opaque) -> Any:
-    """The value that one of these functions gives, by the type's name, else the opaque value itself."""
+    """The value that one of these functions gives, by the type's name, else the opaque value itself. Of a type without a
+    name, as Go sends one behind a pointer, the bytes of a time.Time and of a big.Int are known by their layout."""
     explain = text if value.marshal == "MarshalText" else _KNOWN.get(value.type)
     if explain is None:
         return value

@@ -472,6 +472,12 @@ class Opaque(unittest.TestCase):
                     explain(opaque(wrong))
         self.assertEqual(gob.go.known(opaque("05", "Time")), opaque("05", "Time"))
         self.assertEqual(gob.go.known(opaque("020100", "Int")), 256)
+        self.assertEqual(gob.go.known(opaque("020100", "")), 256)
+        at = gob.go.known(opaque("010000000ec28be77000000000ffff", ""))
+        self.assertEqual(at.isoformat(), "2009-11-10T23:00:00+00:00")
+        self.assertEqual(gob.go.known(opaque("02000000010304", "")), opaque("02000000010304", ""))
+        far = opaque("010a000000357fffffff8000000000000000", "Float")
+        self.assertEqual(gob.go.known(far), far)
 
     def test_types_without_a_name(self):
         known = {data: gob.go.known(opaque(data, "")) for data in (
