@@ -25,11 +25,13 @@ ghost use Rattle.gob.specs.Stop.{stop_status, ending_status, HasAnswered, EndsRu
 ghost use Rattle.gob.specs.Stop.{IsQuietIfClosed, IsToldOnce, IsUnopened, seen_after, seen_of, unused};
 
 mod pipe;
+mod progress;
 mod verdict;
 mod verify;
 mod way_on;
 
 use crate::pipe::Pipe;
+use crate::progress::{size_of, watched};
 use crate::verdict::Verdict;
 use crate::verify::verify;
 use crate::way_on::with_way_on;
@@ -221,14 +223,11 @@ fn run_view_on(rt: &HostRuntime, view: &View) -> Result<(), Stop> {
     let writer = buffered(rt.alloc(), rt.stdout())?;
     let mut told = None;
     let ending = match view.input {
-        None => {
-            let mut input = Input::new(rt.stdin());
-            show_out(rt.alloc(), view, &mut input, writer, &mut told).ending
-        }
+        None => show_watched(rt, view, rt.stdin(), None, writer, &mut told),
         Some(path) => {
             let file = opened_by_name(rt.alloc(), path, File::open(rt, path))?;
-            let mut input = Input::new(file);
-            show_out(rt.alloc(), view, &mut input, writer, &mut told).ending
+            let size = size_of(&file);
+            show_watched(rt, view, file, size, writer, &mut told)
         }
     };
     with_way_on(rt.alloc(), view, told_once(view.command, ending))?;
@@ -236,6 +235,21 @@ fn run_view_on(rt: &HostRuntime, view: &View) -> Result<(), Stop> {
         Some(kept) => tell(rt, &kept),
         None => Ok(()),
     }
+}
+
+// Shows the view of a reader of so many bytes, where that is known, and tells how far it is if that is asked for.
+fn show_watched<R: Read + Drop, W: Write + Drop>(
+    rt: &HostRuntime,
+    view: &View,
+    reader: R,
+    size: Option<u64>,
+    writer: BufWriter<Pipe<W>>,
+    told: &mut Option<Salvaged>,
+) -> Result<(), Stop> {
+    let mut input = Input::new(watched(rt, reader, size, view.progress));
+    let ending = show_out(rt.alloc(), view, &mut input, writer, told).ending;
+    input.into_inner().end();
+    ending
 }
 
 // How the run of a view ends the program: where `why` has said why the input is refused, no line says it once more.

@@ -1,5 +1,6 @@
 //! The files that are verified.
 
+use crate::progress::{size_of, watched};
 use crate::verdict::Verdict;
 use crate::{Stop, unopened_line};
 use gob_stream::Input;
@@ -8,7 +9,10 @@ use gob_views::{limits_of, tell_file};
 use gob_words::View;
 use std::fs::File;
 use std::io;
-use std::io::{ErrorKind, Read, Write};
+use std::io::{ErrorKind, IsTerminal, Read, Write};
+
+// A file of more bytes is told of on a terminal while it is read.
+const LARGE: u64 = 64_000_000;
 
 /// Verifies the files one after another, and goes on behind each that is refused or isn't read.
 pub(crate) fn verify(rt: &HostRuntime, view: &View, files: &[&str]) -> Result<(), Stop> {
@@ -22,10 +26,13 @@ pub(crate) fn verify(rt: &HostRuntime, view: &View, files: &[&str]) -> Result<()
 // Says on standard output what there is in a file, or why that can't be said. A minus sign is standard input.
 fn verify_file(rt: &HostRuntime, view: &View, name: &str) -> Result<Verdict, Stop> {
     if name == "-" {
-        return say(rt, view, name, &mut Input::new(rt.stdin()));
+        return say(rt, view, name, rt.stdin(), None);
     }
     match File::open(rt, name) {
-        Ok(file) => say(rt, view, name, &mut Input::new(file)),
+        Ok(file) => {
+            let size = size_of(&file);
+            say(rt, view, name, file, size)
+        }
         Err(error) => {
             let line = unopened_line(rt.alloc(), name, &error)?;
             sent(println!(rt; "{line}"))?;
@@ -34,19 +41,28 @@ fn verify_file(rt: &HostRuntime, view: &View, name: &str) -> Result<Verdict, Sto
     }
 }
 
-// Says what there is in the input, behind the name of its file.
-fn say<R: Read>(
+// Says what there is in a reader of so many bytes, where that is known, behind the name of its file.
+fn say<R: Read + Drop>(
     rt: &HostRuntime,
     view: &View,
     name: &str,
-    input: &mut Input<R>,
+    reader: R,
+    size: Option<u64>,
 ) -> Result<Verdict, Stop> {
-    let told = match tell_file(rt.alloc(), name, input, limits_of(view)) {
-        Ok(told) => told,
-        Err(_) => return Err(Stop::Run(ToolFault::Memory)),
+    let is_waited_for = is_large(size) && rt.stderr().is_terminal();
+    let mut input = Input::new(watched(rt, reader, size, view.progress || is_waited_for));
+    let told = tell_file(rt.alloc(), name, &mut input, limits_of(view));
+    input.into_inner().end();
+    let Ok(told) = told else {
+        return Err(Stop::Run(ToolFault::Memory));
     };
     sent(rt.stdout().write_all(&told.line))?;
     Ok(Verdict::of(&told.answer))
+}
+
+// Whether a file is known to take so long that people wait for it.
+fn is_large(size: Option<u64>) -> bool {
+    size.is_some_and(|size| size > LARGE)
 }
 
 // A line that isn't written is a failed write, and ends the program quietly where the other end of a pipe is closed.
