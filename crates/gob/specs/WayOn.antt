@@ -42,10 +42,11 @@ pub record IsWayOn (name line : List ℕ) : Type 0 where
   pub unobeyed : IsUnobeyed word
   pub line_is : line ≡ codes "gob: in " ++ (shown ++ (codes "; type: gob why " ++ (end_of_options name ++ word)))
 
--- what stops the program in place of a refusal of the file of this name: that and the line, or want of memory for it
+-- what stops the program in place of a refusal of the file of this name: that and the line, or where no memory was had
+-- for the line it alone
 abbrev pub TellsRefusal : (name : List ℕ) → Refusal → Stop → Type 0
 TellsRefusal name R (RefusedFile fault line) = (fault ≡ run_fault.Refused R) × IsWayOn name (string_bytes line)
-TellsRefusal name R told = told ≡ Run run_fault.Memory
+TellsRefusal name R told = told ≡ Run (run_fault.Refused R)
 
 -- what stops the program in place of what stopped a view's run over the file of this name
 abbrev pub TellsWayOn : (name : List ℕ) → (stop told : Stop) → Type 0

@@ -71,7 +71,8 @@ fn fault_in(alloc: Global, name: &str, fault: ToolFault) -> Stop
     match fault {
         ToolFault::Refused(refusal) => match way_on(alloc, name) {
             Ok(line) => Stop::RefusedFile(ToolFault::Refused(refusal), line),
-            Err(_) => Stop::Run(ToolFault::Memory),
+            // Without memory for the line the refusal is told alone.
+            Err(_) => Stop::Run(ToolFault::Refused(refusal)),
         },
         fault => Stop::Run(fault),
     }
