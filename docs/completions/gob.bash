@@ -3,7 +3,7 @@ _gob() {
     local current=${COMP_WORDS[COMP_CWORD]} previous=${COMP_WORDS[COMP_CWORD - 1]} words=
     COMPREPLY=()
     case $previous in
-    --depth | --item | --only | --at) return ;;
+    --depth | --item | --only | --as | --at) return ;;
     esac
     if [ "$COMP_CWORD" -eq 1 ]; then
         words='values types why explain verify salvage show check rewrite take version help --help -h --version -V'
@@ -12,10 +12,12 @@ _gob() {
     elif [[ $current == -* ]]; then
         words='--depth --item -h --help'
         case ${COMP_WORDS[1]} in
-        values) words+=' --zeros --raw --tagged --typed --only' ;;
+        values) words+=' --zeros --raw --tagged --typed --only --each --as --progress' ;;
+        types) words+=' --main --progress' ;;
         explain) words+=' --fault --at' ;;
-        show) words+=' --go' ;;
-        check) words+=' --go' ;;
+        verify) words+=' --progress' ;;
+        show) words+=' --go --progress' ;;
+        check) words+=' --go --progress' ;;
         rewrite) words+=' --go --hoist' ;;
         esac
     else
