@@ -24,12 +24,14 @@ ghost use Rattle.gob_words.specs.Escaped.{IsUnobeyed};
 ghost use Rattle.gob.specs.Stop.{stop_status, ending_status, HasAnswered, EndsRun, EndsView, IsAnswered, IsSettled};
 ghost use Rattle.gob.specs.Stop.{IsQuietIfClosed, IsToldOnce, IsUnopened, seen_after, seen_of, unused};
 
+mod asked;
 mod pipe;
 mod progress;
 mod verdict;
 mod verify;
 mod way_on;
 
+use crate::asked::{Asked, asked_by};
 use crate::pipe::Pipe;
 use crate::progress::{size_of, watched};
 use crate::verdict::Verdict;
@@ -39,9 +41,7 @@ use gob_salvage::{Salvaged, report};
 use gob_stream::{Input, Output};
 use gob_tool::{ToolFault, run_order, status};
 use gob_views::run_view;
-use gob_words::{
-    Order, OrderFault, View, ViewCommand, ViewFault, escaped, files_of, order_of, view_of,
-};
+use gob_words::{Order, OrderFault, View, ViewCommand, ViewFault, escaped};
 use std::alloc::{AllocError, Global};
 use std::fs::File;
 use std::io::{BufWriter, ErrorKind, Read, Write};
@@ -153,21 +153,10 @@ fn run(rt: &HostRuntime) -> Result<(), Stop> {
         .iter()
         .map(|word| word.as_str())
         .collect::<Vec<&str>>(rt.alloc())?;
-    match order_of(rt.alloc(), &names) {
-        Ok(order) => run_for(rt, &order),
-        Err(OrderFault::Words) => run_shown(rt, &names),
-        Err(fault) => answer(rt, fault),
-    }
-}
-
-// Judges the words that give no order, and shows what they ask for.
-fn run_shown(rt: &HostRuntime, names: &[&str]) -> Result<(), Stop> {
-    match view_of(rt.alloc(), names) {
-        Ok(view) if view.command == ViewCommand::Verify => {
-            let files = files_of(rt.alloc(), names)?;
-            verify(rt, &view, &files)
-        }
-        Ok(view) => run_view_on(rt, &view),
+    match asked_by(rt.alloc(), &names) {
+        Ok(Asked::Order(order)) => run_for(rt, &order),
+        Ok(Asked::View(view)) => run_view_on(rt, &view),
+        Ok(Asked::Files(view, files)) => verify(rt, &view, &files),
         Err(ViewFault::Order(fault)) => answer(rt, fault),
         Err(ViewFault::Word(line)) => Err(Stop::View(line)),
     }

@@ -1,0 +1,40 @@
+//! What the words ask for.
+
+ghost use Rattle.std.specs.Prelude.{MatchResult, map};
+ghost use Rattle.gob.specs.Asked.{AsksFor, RefusesAll};
+
+use gob_words::{Order, OrderFault, View, ViewCommand, ViewFault, files_of, order_of, view_of};
+use std::alloc::Global;
+
+/// What the words ask for: an exact command, a view of one stream, or one of some files.
+#[derive(Drop)]
+pub(crate) enum Asked<'a> {
+    Order(Order<'a>),
+    View(View<'a>),
+    Files(View<'a>, Vec<&'a str>),
+}
+
+/// What the words ask for, the program's name first: the order that they are, and else what they ask to be shown.
+pub(crate) fn asked_by<'a>(alloc: Global, words: &'a [&'a str]) -> Result<Asked<'a>, ViewFault>
+    ensures { MatchResult result (AsksFor (map (λ word. word.now) words.entry.now))
+        (RefusesAll (map (λ word. word.now) words.entry.now)) }
+{
+    match order_of(alloc, words) {
+        Ok(order) => Ok(Asked::Order(order)),
+        Err(OrderFault::Words) => shown_by(alloc, words),
+        Err(fault) => Err(ViewFault::Order(fault)),
+    }
+}
+
+// What the words ask to be shown, which are no order.
+fn shown_by<'a>(alloc: Global, words: &'a [&'a str]) -> Result<Asked<'a>, ViewFault>
+    ensures { MatchResult result (AsksFor (map (λ word. word.now) words.entry.now))
+        (RefusesAll (map (λ word. word.now) words.entry.now)) }
+{
+    let view = view_of(alloc, words)?;
+    if view.command != ViewCommand::Verify {
+        return Ok(Asked::View(view));
+    }
+    let files = files_of(alloc, words)?;
+    Ok(Asked::Files(view, files))
+}
