@@ -1,0 +1,197 @@
+//! What is wrong with a line, and where.
+
+ghost use Rattle.std.specs.Prelude.{◌≡◌};
+
+use crate::path::Step;
+use gob_num::Memory;
+use gob_types::Name;
+use std::alloc::{AllocError, Global};
+use std::fmt;
+
+/// What is due where a line says something else.
+#[derive(Clone, Copy, Debug, PartialEq, Eq)]
+pub enum Due {
+    /// The line is text.
+    Text,
+    /// A line begins with `{"define":` or `{"type":`.
+    Head,
+    /// The key of the next member.
+    Key(&'static str),
+    /// One of the kinds of types.
+    Kind,
+    /// The array of a value's parts, or of a pair's or a field's.
+    Array,
+    /// So many elements of an array.
+    Elements(u64),
+    /// The end of an array.
+    ArrayEnd,
+    /// The end of an object.
+    ObjectEnd,
+    /// The end of the line.
+    LineEnd,
+    /// `true` or `false`.
+    Bool,
+    /// A whole number from -9223372036854775808 to 9223372036854775807.
+    Int,
+    /// A whole number from 0 to 18446744073709551615.
+    Uint,
+    /// A string of 16 digits of lower case hexadecimal.
+    Pattern,
+    /// A string of pairs of digits of lower case hexadecimal.
+    Hex,
+    /// A string, or `{"hex":"..."}` of bytes that are no UTF-8.
+    Str,
+    /// The bytes of an opaque value.
+    Opaque,
+    /// `null`.
+    Nil,
+    /// The number of a field of the struct, above that of the field before.
+    FieldNumber,
+    /// The name of the field of this number.
+    FieldName,
+    /// A type that the lines before define, with all that it leads to.
+    Type,
+    /// No deeper value.
+    Shallower,
+    /// A shape that a description can give.
+    Definable,
+}
+
+impl fmt::Display for Due {
+    fn fmt<W: fmt::Write>(&self, f: &mut fmt::Formatter<W>) -> fmt::Result {
+        match self {
+            Due::Key(key) => write!(f, "the key \"{key}\""),
+            Due::Elements(1) => f.write_str("an array of 1 element"),
+            Due::Elements(count) => write!(f, "an array of {count} elements"),
+            other => f.write_str(other.words()),
+        }
+    }
+}
+
+impl Due {
+    // What is due in words, where these are always the same.
+    fn words(&self) -> &'static str {
+        match self {
+            Due::Text => "UTF-8",
+            Due::Head => "{\"define\": or {\"type\":",
+            Due::Kind => "a kind: array, slice, struct, map, gob, binary or text",
+            Due::Array | Due::Elements(_) => "an array",
+            Due::ArrayEnd => "the end of the array",
+            Due::ObjectEnd => "the end of the object",
+            Due::LineEnd => "the end of the line",
+            Due::Bool => "true or false",
+            Due::Int => "a whole number of 64 bits",
+            Due::Uint => "a whole number from 0 to 18446744073709551615",
+            Due::Pattern => "a string of 16 digits of lower case hexadecimal",
+            Due::Hex => "a string of lower case hexadecimal",
+            Due::Str => "a string, or {\"hex\":\"..\"} of bytes that are no UTF-8",
+            Due::Opaque => "{\"opaque\":\"..\"}",
+            Due::Nil => "null",
+            Due::Key(_) => "a key",
+            Due::FieldNumber => "the number of a later field of the struct",
+            Due::FieldName => "the name of this field",
+            Due::Type => "a type that the lines before define, with what it leads to",
+            Due::Shallower => "a value that is less deep",
+            Due::Definable =>
+                "a definition that names ids from 1 to 2147483647 and a length of 63 bits at most",
+        }
+    }
+}
+
+/// What is wrong with a line, and where.
+#[derive(Drop)]
+pub struct Wrong {
+    /// The offset in the line, in bytes from 0.
+    pub at: usize,
+    /// What is due there.
+    pub due: Due,
+    /// The steps to there in the value, from the last to the first, as far as there was memory.
+    pub path: Vec<Step>,
+}
+
+impl Wrong {
+    // The same at the token itself, in place of the end of the one before.
+    pub(crate) fn placed(self, line: &str) -> Wrong {
+        let Wrong { at, due, path } = self;
+        let rest = line.as_bytes().get(at..).unwrap_or(&[]);
+        let between = rest.iter().position(|byte| !is_between(*byte));
+        Wrong {
+            at: at.saturating_add(between.unwrap_or(0)),
+            due,
+            path,
+        }
+    }
+}
+
+// Whether the byte stands between two tokens.
+fn is_between(byte: u8) -> bool {
+    matches!(byte, b' ' | b'\t' | b'\r' | b'\n' | b',' | b':')
+}
+
+/// Why a line says no item.
+#[derive(Drop)]
+pub enum LineFault {
+    /// It isn't the line of any item by these types.
+    Wrong(Wrong),
+    /// No memory was had.
+    Memory,
+}
+
+impl LineFault {
+    /// That of a line that is text up to this offset alone.
+    pub fn no_text(alloc: Global, at: usize) -> LineFault {
+        LineFault::due(alloc, at, Due::Text)
+    }
+
+    // That of a line in which this is due at the offset.
+    pub(crate) fn due(alloc: Global, at: usize, due: Due) -> LineFault {
+        LineFault::Wrong(Wrong {
+            at,
+            due,
+            path: Vec::new(alloc),
+        })
+    }
+
+    // The fault of a value that a step leads to, as one of the value around it.
+    pub(crate) fn within(self, step: Step) -> LineFault {
+        match self {
+            LineFault::Wrong(Wrong { at, due, path }) => {
+                let mut path = path;
+                // Without memory the path is shorter.
+                let _ = path.push(step);
+                LineFault::Wrong(Wrong { at, due, path })
+            }
+            LineFault::Memory => LineFault::Memory,
+        }
+    }
+
+    // The fault of the value of this field, as one of the struct.
+    pub(crate) fn within_field(self, alloc: Global, name: &Name) -> LineFault {
+        match Vec::from_slice(alloc, name.as_bytes()) {
+            Ok(bytes) => self.within(Step::Field(Name::new(bytes))),
+            Err(_) => self,
+        }
+    }
+}
+
+impl From<AllocError> for LineFault {
+    ghost use Rattle.std.specs.Prelude.{◌≡◌};
+    ghost use Rattle.gob_lines.specs.declared.fault.LineFault.TheVariants.{Memory};
+
+    ghost from_gives = { λ _ fault. fault ≡ Memory };
+
+    fn from(_: AllocError) -> LineFault {
+        LineFault::Memory
+    }
+}
+
+impl From<Memory> for LineFault {
+    ghost use Rattle.std.specs.Prelude.{◌≡◌};
+    ghost use Rattle.gob_lines.specs.declared.fault.LineFault.TheVariants.{Memory};
+
+    ghost from_gives = { λ _ fault. fault ≡ Memory };
+
+    fn from(_: Memory) -> LineFault {
+        LineFault::Memory
+    }
+}

@@ -1,0 +1,19 @@
+//! The JSON lines of a stream, read back: what a line says.
+//!
+//! ```text
+//! {"type":2,"value":3}                    a line
+//! 03 04 00 06                             its item: the int 3
+//! ```
+#![tactic(auto)]
+
+mod definition;
+mod fault;
+pub mod laws;
+mod leaf;
+mod line;
+mod path;
+mod value;
+
+pub use fault::{Due, LineFault, Wrong};
+pub use line::{Line, read_line};
+pub use path::{Step, path_text};

@@ -1,0 +1,176 @@
+//! A value of any type, read from the tokens of a line part by part: the functions call one another down the value.
+
+ghost use Rattle.std.specs.Prelude.{◌≡◌, ◌+◌, ◌<◌, ◌^◌, IfOk, IfSome, OnOk, Some, slice_get};
+ghost use Rattle.serde_json.specs.Data.{array};
+ghost use Rattle.gob_value.specs.Tree.{Tree};
+ghost use Rattle.gob_value.specs.View.{view, views, pair_views, field_views};
+ghost use Rattle.gob_json.specs.Json.{value_json, elements_json, pairs_json, fields_json, text_json};
+ghost use Rattle.gob_lines.specs.Reads.{Reads};
+
+use crate::fault::{Due, LineFault};
+use crate::leaf::{read_basic, read_opaque, read_text, read_uint, take_array, take_array_end};
+use crate::path::Step;
+use gob_num::Memory;
+use gob_types::{Field, Kind, Shapes, TypeId};
+use gob_value::Value;
+use json::Reader;
+use std::alloc::Global;
+
+/// Reads a value of this type, no part of which is deeper than `depth`.
+#[cycle(depth)]
+pub(crate) fn read_value<S: Shapes>(
+    alloc: Global,
+    table: &S,
+    id: TypeId,
+    depth: u64,
+    tokens: &mut Reader<'_>,
+) -> Result<Value, LineFault>
+    ensures { IfOk result (λ v. Reads (value_json (S.table table.now) id (view v)) tokens.old tokens.new) }
+{
+    let at = tokens.offset();
+    if depth == 0 {
+        return Err(LineFault::due(alloc, at, Due::Shallower));
+    }
+    let Some(shape) = table.shape_of(id) else {
+        return Err(LineFault::due(alloc, at, Due::Type));
+    };
+    match &shape.kind {
+        Kind::Basic(basic) => read_basic(alloc, *basic, tokens),
+        Kind::Array { elem, len } => {
+            let elements = read_elements(alloc, table, *elem, depth - 1, tokens)?;
+            counted(alloc, elements, *len, at)
+        }
+        Kind::Slice { elem } => {
+            Ok(Value::Many(read_elements(alloc, table, *elem, depth - 1, tokens)?))
+        }
+        Kind::Map { key, elem } => {
+            Ok(Value::Pairs(read_pairs(alloc, table, *key, *elem, depth - 1, tokens)?))
+        }
+        Kind::Struct { fields } => {
+            let fields = fields.as_slice();
+            Ok(Value::Fields(read_fields(alloc, table, fields, depth - 1, tokens)?))
+        }
+        Kind::Opaque(_) => Ok(Value::Opaque(read_opaque(alloc, tokens)?)),
+    }
+}
+
+/// The value of these elements, where they are as many as are due. Their array stands at this offset.
+fn counted(alloc: Global, elements: Vec<Value>, due: u64, at: usize) -> Result<Value, LineFault>
+    ensures { IfOk result (λ v. view v ≡ Tree.many (views elements.items)) }
+{
+    if elements.len() as u64 != due {
+        return Err(LineFault::due(alloc, at, Due::Elements(due)));
+    }
+    Ok(Value::Many(elements))
+}
+
+/// Reads an array of elements of this type.
+#[cycle(depth)]
+fn read_elements<S: Shapes>(
+    alloc: Global,
+    table: &S,
+    id: TypeId,
+    depth: u64,
+    tokens: &mut Reader<'_>,
+) -> Result<Vec<Value>, LineFault>
+    ensures { IfOk result (λ vs.
+        Reads (array (elements_json (S.table table.now) id (views vs.items))) tokens.old tokens.new) }
+{
+    take_array(alloc, tokens)?;
+    let mut elements = Vec::new(alloc);
+    while !tokens.take_end_array() {
+        let index = elements.len() as u64;
+        match read_value(alloc, table, id, depth, tokens) {
+            Ok(element) => elements.push(element).map_err(Memory::from)?,
+            Err(fault) => return Err(fault.within(Step::Element(index))),
+        }
+    }
+    Ok(elements)
+}
+
+/// Reads an array of pairs, each of a key and an element of these types.
+#[cycle(depth)]
+fn read_pairs<S: Shapes>(
+    alloc: Global,
+    table: &S,
+    key_id: TypeId,
+    id: TypeId,
+    depth: u64,
+    tokens: &mut Reader<'_>,
+) -> Result<Vec<(Value, Value)>, LineFault>
+    ensures { IfOk result (λ ps.
+        Reads (array (pairs_json (S.table table.now) key_id id (pair_views ps.items))) tokens.old tokens.new) }
+{
+    take_array(alloc, tokens)?;
+    let mut pairs = Vec::new(alloc);
+    while !tokens.take_end_array() {
+        let index = pairs.len() as u64;
+        take_array(alloc, tokens)?;
+        let key = match read_value(alloc, table, key_id, depth, tokens) {
+            Ok(key) => key,
+            Err(fault) => return Err(fault.within(Step::Key(index))),
+        };
+        match read_value(alloc, table, id, depth, tokens) {
+            Ok(element) => pairs.push((key, element)).map_err(Memory::from)?,
+            Err(fault) => return Err(fault.within(Step::Value(index))),
+        }
+        take_array_end(alloc, tokens)?;
+    }
+    Ok(pairs)
+}
+
+/// Reads an array of the fields that are present, each its number, its name and its value.
+#[cycle(depth)]
+fn read_fields<S: Shapes>(
+    alloc: Global,
+    table: &S,
+    types: &[Field],
+    depth: u64,
+    tokens: &mut Reader<'_>,
+) -> Result<Vec<(u64, Value)>, LineFault>
+    ensures { IfOk result (λ fs.
+        Reads (array (fields_json (S.table table.now) types.now (field_views fs.items))) tokens.old tokens.new) }
+{
+    take_array(alloc, tokens)?;
+    let mut fields = Vec::new(alloc);
+    let mut next = 0;
+    while !tokens.take_end_array() {
+        take_array(alloc, tokens)?;
+        let at = tokens.offset();
+        let number = read_uint(alloc, tokens)?;
+        let Some(field) = field_from(types, next, number) else {
+            return Err(LineFault::due(alloc, at, Due::FieldNumber));
+        };
+        take_name(alloc, field.name.as_bytes(), tokens)?;
+        match read_value(alloc, table, field.id, depth, tokens) {
+            Ok(value) => fields.push((number, value)).map_err(Memory::from)?,
+            Err(fault) => return Err(fault.within_field(alloc, &field.name)),
+        }
+        take_array_end(alloc, tokens)?;
+        next = number + 1;
+    }
+    Ok(fields)
+}
+
+/// The field of this number, where it comes no earlier than the next one.
+fn field_from(types: &[Field], next: u64, number: u64) -> Option<&Field>
+    ensures found { IfSome result (λ field. slice_get types.now number ≡ Some field.now) }
+    ensures small { IfSome result (λ _. number + 1 < 2 ^ 64) }
+{
+    if number < next {
+        return None;
+    }
+    types.get(number as usize)
+}
+
+/// Takes the name of a field.
+fn take_name(alloc: Global, name: &[u8], tokens: &mut Reader<'_>) -> Result<(), LineFault>
+    ensures { OnOk result (Reads (text_json name.now) tokens.old tokens.new) }
+{
+    let at = tokens.offset();
+    let found = read_text(alloc, tokens)?;
+    if found.as_slice() == name {
+        return Ok(());
+    }
+    Err(LineFault::due(alloc, at, Due::FieldName))
+}
