@@ -17,7 +17,7 @@ use Rattle.gob_words.specs.declared.view.View.{View}
 use Rattle.gob_views.specs.Running.{ViewAnswers}
 use Rattle.gob.specs.declared.AfterRun.{AfterRun}
 use Rattle.gob.specs.declared.Stop.{Stop}
-use Rattle.gob.specs.declared.Stop.TheVariants.{Words, Run, Told, RefusedFile, LeftOut, Verified, Unread}
+use Rattle.gob.specs.declared.Stop.TheVariants.{Words, Run, Told, RefusedFile, LeftOut, Lines, Verified, Unread}
 use Rattle.gob.specs.declared.Stop.TheVariants as stop
 use Rattle.gob.specs.declared.verdict.Verdict.{Verdict}
 use Rattle.gob.specs.declared.verdict.Verdict.TheVariants as verdict
@@ -31,6 +31,7 @@ stop_status (Told fault) = fault_status fault
 stop_status (stop.View line) = 2
 stop_status (RefusedFile fault line) = fault_status fault
 stop_status (LeftOut report) = 1
+stop_status (Lines line) = 1
 stop_status (Verified said) = verdict_status said
 stop_status Unread = 2
 
@@ -48,6 +49,7 @@ stop_line (Told fault) = fault_line fault
 stop_line (stop.View line) = codes "gob: " ++ line.bytes.items
 stop_line (RefusedFile fault line) = fault_line fault ++ 10 ∷ line.bytes.items
 stop_line (LeftOut report) = report.bytes.items
+stop_line (Lines line) = line.bytes.items
 stop_line (Verified said) = []
 stop_line Unread = fault_line run_fault.Write
 
@@ -60,6 +62,7 @@ HasAnswered answer (Err (Told fault)) = ⊥
 HasAnswered answer (Err (stop.View line)) = ⊥
 HasAnswered answer (Err (RefusedFile fault line)) = ⊥
 HasAnswered answer (Err (LeftOut report)) = ⊥
+HasAnswered answer (Err (Lines line)) = ⊥
 HasAnswered answer (Err (Verified said)) = ⊥
 HasAnswered answer (Err Unread) = answer ≡ Err run_fault.Write
 

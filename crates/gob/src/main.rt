@@ -7,6 +7,7 @@
 //! prints a line for each. `gob values [IN]` prints each value as plain JSON, `gob types [IN]` the types as Go source,
 //! `gob why [IN]` why IN is refused or how much is in it, `gob explain [IN]` the bytes row by row, and `gob version`
 //! the version. `gob verify FILE..` prints a line for each file that says whether it is a whole stream.
+//! `gob write [LINES]` writes the stream that lines of `gob show` say.
 //! `gob salvage [IN]` writes what isn't damaged of IN, and says on standard error what is left out.
 //! `gob help` says the rest. Where the program stops at a fault, it prints a line on standard error, but none where
 //! `why` has said it on standard output, and behind a refusal of another view's file what to type. Its exit status is 0
@@ -30,6 +31,7 @@ mod progress;
 mod verdict;
 mod verify;
 mod way_on;
+mod write;
 
 use crate::asked::{Asked, asked_by};
 use crate::pipe::Pipe;
@@ -37,6 +39,7 @@ use crate::progress::{size_of, watched};
 use crate::verdict::Verdict;
 use crate::verify::verify;
 use crate::way_on::with_way_on;
+use crate::write::write;
 use gob_salvage::{Salvaged, report};
 use gob_stream::{Input, Output};
 use gob_tool::{ToolFault, run_order, status};
@@ -64,6 +67,8 @@ enum Stop {
     RefusedFile(ToolFault, String),
     // What is told of an input of which something was left out.
     LeftOut(String),
+    // What is wrong with lines, or with the stream that they say.
+    Lines(String),
     // What was said of the worst of the files that were verified.
     Verified(Verdict),
     // Nobody reads what is written any more.
@@ -85,7 +90,7 @@ impl Stop {
         match self {
             Stop::Words(fault) => fault.status(),
             Stop::Run(fault) | Stop::Told(fault) | Stop::RefusedFile(fault, _) => status(fault),
-            Stop::LeftOut(_) => 1,
+            Stop::LeftOut(_) | Stop::Lines(_) => 1,
             Stop::Verified(verdict) => verdict.status(),
             Stop::View(_) | Stop::Unread => 2,
         }
@@ -105,6 +110,7 @@ impl fmt::Display for Stop {
             Stop::View(line) => write!(f, "gob: {line}"),
             Stop::RefusedFile(fault, line) => write!(f, "{fault}\n{line}"),
             Stop::LeftOut(report) => f.write_str(report.as_str()),
+            Stop::Lines(line) => f.write_str(line.as_str()),
             Stop::Verified(_) => Ok(()),
             Stop::Unread => write!(f, "gob: write fault"),
         }
@@ -155,6 +161,7 @@ fn run(rt: &HostRuntime) -> Result<(), Stop> {
         .collect::<Vec<&str>>(rt.alloc())?;
     match asked_by(rt.alloc(), &names) {
         Ok(Asked::Order(order)) => run_for(rt, &order),
+        Ok(Asked::View(view)) if view.command == ViewCommand::Write => write(rt, &view),
         Ok(Asked::View(view)) => run_view_on(rt, &view),
         Ok(Asked::Files(view, files)) => verify(rt, &view, &files),
         Err(ViewFault::Order(fault)) => answer(rt, fault),

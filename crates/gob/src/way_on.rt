@@ -49,8 +49,11 @@ fn is_told(command: ViewCommand) -> bool
         | ViewCommand::ShowGo
         | ViewCommand::CheckGo
         | ViewCommand::RewriteGo => true,
-        ViewCommand::Why | ViewCommand::Verify | ViewCommand::Salvage | ViewCommand::Version =>
-            false,
+        ViewCommand::Why
+        | ViewCommand::Verify
+        | ViewCommand::Salvage
+        | ViewCommand::Write
+        | ViewCommand::Version => false,
     }
 }
 

@@ -57,6 +57,7 @@ CommandAnswers command.Explain view bytes now old new result =
     ExplainAnswers (view_explained view) (view_limits view) bytes now old new result
 CommandAnswers command.Salvage view bytes now old new result =
     (told : Option Salvaged) × SalvageAnswers (view_limits view) bytes now old new told result
+CommandAnswers command.Write view bytes now old new result = SendsText old new [] result
 CommandAnswers command.Version view bytes now old new result = SendsText old new version_line result
 CommandAnswers command.ShowGo view bytes now old new result = ShowGoAnswers (view_limits view) bytes now old new result
 CommandAnswers command.CheckGo view bytes now old new result =

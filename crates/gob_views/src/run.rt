@@ -20,7 +20,8 @@ use std::alloc::Global;
 use std::io::{Read, Write};
 
 /// Shows of the input what the view asks for, under its limits; the run of each command says what that is, and what
-/// each fault means. For [`ViewCommand::Version`] nothing is read. For [`ViewCommand::Verify`] the input is checked as
+/// each fault means. For [`ViewCommand::Version`] nothing is read, and for
+/// [`ViewCommand::Write`], whose run is gob_write's, nothing is read or written. For [`ViewCommand::Verify`] the input is checked as
 /// by [`ViewCommand::CheckGo`]; of several files [`crate::tell_file`] says this. `told` is, for
 /// [`ViewCommand::Salvage`] alone, where that is Ok, what was kept and what was left out.
 pub fn run_view<R: Read, W: Write>(
@@ -51,6 +52,7 @@ pub fn run_view<R: Read, W: Write>(
             run_explain(alloc, input, output, limits_of(view), explained_of(view))
         }
         ViewCommand::Salvage => run_salvage(alloc, input, output, limits_of(view), told),
+        ViewCommand::Write => end_run(Ok(()), output),
         ViewCommand::Version => end_run(write_version(output), output),
         ViewCommand::ShowGo => run_show_go(alloc, input, output, limits_of(view)),
         ViewCommand::CheckGo => run_check_go(alloc, input, output, limits_of(view)),

@@ -11,7 +11,7 @@ use Rattle.gob_words.specs.declared.words.OrderFault.TheVariants as fault
 use Rattle.gob_words.specs.declared.view.View.{View}
 use Rattle.gob_words.specs.declared.view.ViewCommand.{ViewCommand}
 use Rattle.gob_words.specs.declared.view.ViewCommand.TheVariants.{Values, Types, Why, Explain, Verify, Salvage, Version}
-use Rattle.gob_words.specs.declared.view.ViewCommand.TheVariants.{ShowGo, CheckGo, RewriteGo}
+use Rattle.gob_words.specs.declared.view.ViewCommand.TheVariants.{Write, ShowGo, CheckGo, RewriteGo}
 use Rattle.gob_words.specs.declared.view.ViewFault.{ViewFault}
 use Rattle.gob_words.specs.declared.view.ViewFault.TheVariants as view_fault
 use Rattle.gob_words.specs.Words.{HasNoFault, IsNumber, IsFaultOf, IsSet, program}
@@ -27,9 +27,9 @@ use Rattle.gob_words.proofs.WordLaws.{name_met, rows_met, some_fault, the_one, t
 abbrev having : (first second fourth : ℕ) → ViewCommand
 having first c fourth =
     if first == 99 then CheckGo else (if first == 115 then (if c == 97 then Salvage else ShowGo)
-    else (if first == 114 then RewriteGo
+    else (if first == 114 then RewriteGo else (if first == 119 then (if c == 114 then Write else Why)
     else (if c == 97 then Values
-    else (if c == 121 then Types else (if c == 104 then Why else (if c == 120 then Explain
+    else (if c == 121 then Types else (if c == 120 then Explain
     else (if fourth == 105 then Verify else Version)))))))
 
 abbrev having_name : Text → ViewCommand
@@ -42,6 +42,7 @@ has Why = refl
 has Explain = refl
 has Verify = refl
 has Salvage = refl
+has Write = refl
 has Version = refl
 has ShowGo = refl
 has CheckGo = refl

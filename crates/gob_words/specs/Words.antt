@@ -110,9 +110,9 @@ people_program =
 -- and those that write exactly what a stream has
 abbrev pub program : App
 program =
-    with_subcommand (with_subcommand (with_subcommand (with_subcommand (with_subcommand people_program
+    with_subcommand (with_subcommand (with_subcommand (with_subcommand (with_subcommand (with_subcommand people_program
     (go_stream (codes "show")).top) (go_stream (codes "check")).top) rewrite.top) (two_streams (codes "take")).top)
-    (new_app (codes "version")).top
+    (one_stream (codes "write")).top) (new_app (codes "version")).top
 
 -- ---- what they say
 

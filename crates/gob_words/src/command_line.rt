@@ -27,7 +27,9 @@ pub(crate) fn program<'a>(alloc: Global) -> Result<Command<'a>, AllocError>
     let rewriting = with_command(checking, rewrite(alloc))?;
     let take = two_streams(alloc, "take", help::TAKE, help::DEPTH);
     let taking = with_command(rewriting, take)?;
-    taking.subcommand(Command::new(alloc, "version").about(help::NAME_AND_VERSION))
+    let write = one_stream(alloc, "write", help::WRITE, help::DEPTH, help::LINES);
+    let writing = with_command(taking, write)?;
+    writing.subcommand(Command::new(alloc, "version").about(help::NAME_AND_VERSION))
 }
 
 // The program with the commands for people.

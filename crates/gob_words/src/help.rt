@@ -31,6 +31,8 @@ pub(crate) const REWRITE: &str = "Write a stream anew, without the fields that a
 
 pub(crate) const TAKE: &str = "Print each value as one of the type of the first value in WANTED";
 
+pub(crate) const WRITE: &str = "Write the stream that lines of JSON say, as show prints them";
+
 pub(crate) const NAME_AND_VERSION: &str = "Print the program's name and version";
 
 /// Their options and files.
@@ -76,6 +78,8 @@ pub(crate) const WANTED: &str = "The stream that has the wanted type";
 pub(crate) const INPUT: &str = "The stream; without it, standard input is read";
 
 pub(crate) const FILE: &str = "The stream; without it, or where it is -, standard input is read";
+
+pub(crate) const LINES: &str = "The lines; without it, or where it is -, standard input is read";
 
 pub(crate) const FILES: &str = "The streams";
 

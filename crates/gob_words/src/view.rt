@@ -28,6 +28,8 @@ pub enum ViewCommand {
     Verify,
     /// What isn't damaged of a stream, in its own bytes, as one stream.
     Salvage,
+    /// The stream that lines of JSON say, as [`ViewCommand::ShowGo`] and `show` alone write them, without `--go`.
+    Write,
     /// The program's name and version.
     Version,
     /// Each item of a stream of Go's encoder as a line of JSON, with what interfaces hold.

@@ -142,6 +142,7 @@ fn command_of(name: &str) -> Option<ViewCommand>
         "explain" => Some(ViewCommand::Explain),
         "verify" => Some(ViewCommand::Verify),
         "salvage" => Some(ViewCommand::Salvage),
+        "write" => Some(ViewCommand::Write),
         "version" => Some(ViewCommand::Version),
         "show" => Some(ViewCommand::ShowGo),
         "check" => Some(ViewCommand::CheckGo),
@@ -165,6 +166,7 @@ fn is_asked(command: ViewCommand, go: Option<&str>, hoist: Option<&str>) -> bool
         | ViewCommand::Explain
         | ViewCommand::Verify
         | ViewCommand::Salvage
+        | ViewCommand::Write
         | ViewCommand::Version => true,
     }
 }
@@ -180,6 +182,7 @@ fn is_fault_asked(command: ViewCommand, value: Option<&str>) -> bool
         | ViewCommand::Why
         | ViewCommand::Verify
         | ViewCommand::Salvage
+        | ViewCommand::Write
         | ViewCommand::Version
         | ViewCommand::ShowGo
         | ViewCommand::CheckGo
@@ -199,6 +202,7 @@ fn is_hoist_asked(command: ViewCommand, value: Option<&str>) -> bool
         | ViewCommand::Explain
         | ViewCommand::Verify
         | ViewCommand::Salvage
+        | ViewCommand::Write
         | ViewCommand::Version
         | ViewCommand::ShowGo
         | ViewCommand::CheckGo => false,
@@ -217,6 +221,7 @@ fn place_of(command: ViewCommand, word: Option<&str>) -> Option<Option<u64>>
         | ViewCommand::Why
         | ViewCommand::Verify
         | ViewCommand::Salvage
+        | ViewCommand::Write
         | ViewCommand::Version
         | ViewCommand::ShowGo
         | ViewCommand::CheckGo
@@ -249,6 +254,7 @@ fn is_given(command: ViewCommand, value: Option<&str>) -> bool
         | ViewCommand::Explain
         | ViewCommand::Verify
         | ViewCommand::Salvage
+        | ViewCommand::Write
         | ViewCommand::Version
         | ViewCommand::ShowGo
         | ViewCommand::CheckGo
@@ -267,6 +273,7 @@ fn only_of<'a>(command: ViewCommand, word: Option<&'a str>) -> Option<&'a str>
         | ViewCommand::Explain
         | ViewCommand::Verify
         | ViewCommand::Salvage
+        | ViewCommand::Write
         | ViewCommand::Version
         | ViewCommand::ShowGo
         | ViewCommand::CheckGo
