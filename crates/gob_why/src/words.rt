@@ -1,13 +1,14 @@
 //! Names, paths and numbers in sentences.
 
-ghost use Rattle.std.specs.Prelude.{IfOk, string_bytes};
+ghost use Rattle.std.specs.Prelude.{◌≡◌, IfOk, string_bytes};
 ghost use Rattle.gob_words.specs.Escaped.{IsUnobeyed};
+ghost use Rattle.gob_explain.specs.Names.{shown_name};
 
+use gob_explain::push_name;
 use gob_num::Memory;
 use gob_types::{Shapes, Table, TypeId};
-use gob_words::{escaped, quoted};
+use gob_words::quoted;
 use std::alloc::Global;
-use std::str;
 
 // The most characters of a path.
 const MOST_PATH: usize = 200;
@@ -16,18 +17,12 @@ const MOST_PATH: usize = 200;
 const LEFT_OUT: &str = " .. ";
 
 /// A name of the stream as a terminal can show it: its text, or where it is none, 0x and its bytes.
-pub(crate) fn name_text(alloc: Global, name: &[u8]) -> Result<String, Memory> {
-    match str::from_utf8(name) {
-        Ok(text) => Ok(escaped(alloc, text)?),
-        Err(_) => {
-            let mut text = String::from_str(alloc, "0x")?;
-            for byte in name {
-                let byte = *byte;
-                write!(text, "{byte:02x}")?;
-            }
-            Ok(text)
-        }
-    }
+pub(crate) fn name_text(alloc: Global, name: &[u8]) -> Result<String, Memory>
+    ensures { IfOk result (λ text. string_bytes text ≡ shown_name name.now) }
+{
+    let mut text = String::new(alloc);
+    push_name(alloc, name, &mut text)?;
+    Ok(text)
 }
 
 /// The path as it stands in a line: of a long one the middle is left out, so that it has 200 characters.
