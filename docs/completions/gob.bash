@@ -6,13 +6,13 @@ _gob() {
     --depth | --item | --only | --as | --at) return ;;
     esac
     if [ "$COMP_CWORD" -eq 1 ]; then
-        words='values types why explain verify salvage show check rewrite take version help --help -h --version -V'
+        words='values types why explain verify salvage show check rewrite take write version help --help -h --version -V'
     elif [ "${COMP_WORDS[1]}" = help ]; then
-        words='values types why explain verify salvage show check rewrite take version help'
+        words='values types why explain verify salvage show check rewrite take write version help'
     elif [[ $current == -* ]]; then
         words='--depth --item -h --help'
         case ${COMP_WORDS[1]} in
-        values) words+=' --zeros --raw --tagged --typed --only --each --as --progress' ;;
+        values) words+=' --zeros --raw --tagged --typed --only --as --progress' ;;
         types) words+=' --main --progress' ;;
         explain) words+=' --fault --at' ;;
         verify) words+=' --progress' ;;

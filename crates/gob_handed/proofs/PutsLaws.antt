@@ -9,12 +9,12 @@ use Rattle.gob_types.specs.Table.{Table}
 use Rattle.gob_handed.specs.declared.head.Head.{Head}
 use Rattle.gob_handed.specs.Handed.{AreHanded, one_more, handout_head, handout_nodes, handout_bytes}
 use Rattle.gob_handed.specs.declared.handout.Handout.{Handout}
-use Rattle.gob_handed.specs.declared.place.Place.{Place}
+use Rattle.gob_handed.specs.declared.room.RoomTaken.{RoomTaken}
 use Rattle.gob_handed.specs.Puts.{PutsNodes, PutsBytes}
 use Rattle.gob_handed.specs.Definition.{name_node, id_number, field_nodes, field_names}
 
 -- ---- one behind another
-pub nodes_on : {a b c : Place} {o n m xs ys : List FlatNode} → PutsNodes a b o n xs → PutsNodes b c n m ys
+pub nodes_on : {a b c : RoomTaken} {o n m xs ys : List FlatNode} → PutsNodes a b o n xs → PutsNodes b c n m ys
     → PutsNodes a c o m (xs ++ ys)
 nodes_on {xs = xs} {ys = ys} p q = record {
   prefix = q.prefix ∙ ap (λ l. l ++ ys) p.prefix ∙ append_assoc _ xs ys;
@@ -22,7 +22,7 @@ nodes_on {xs = xs} {ys = ys} p q = record {
   room = q.room;
 }
 
-pub bytes_on : {a b c : Place} {o n m xs ys : List ℕ} → PutsBytes a b o n xs → PutsBytes b c n m ys
+pub bytes_on : {a b c : RoomTaken} {o n m xs ys : List ℕ} → PutsBytes a b o n xs → PutsBytes b c n m ys
     → PutsBytes a c o m (xs ++ ys)
 bytes_on {xs = xs} {ys = ys} p q = record {
   prefix = q.prefix ∙ ap (λ l. l ++ ys) p.prefix ∙ append_assoc _ xs ys;
@@ -31,14 +31,14 @@ bytes_on {xs = xs} {ys = ys} p q = record {
 }
 
 -- where nothing is put
-pub no_nodes : (a b : Place) (ns : List FlatNode) → a.nodes ≤ length ns → b.nodes ≡ a.nodes → PutsNodes a b ns ns []
+pub no_nodes : (a b : RoomTaken) (ns : List FlatNode) → a.nodes ≤ length ns → b.nodes ≡ a.nodes → PutsNodes a b ns ns []
 no_nodes a b ns le same = record {
   prefix = ap (λ n. take n ns) same ∙ sym (append-nil _);
   end = omega arith;
   room = omega arith;
 }
 
-pub no_bytes : (a b : Place) (bs : List ℕ) → a.bytes ≤ length bs → b.bytes ≡ a.bytes → PutsBytes a b bs bs []
+pub no_bytes : (a b : RoomTaken) (bs : List ℕ) → a.bytes ≤ length bs → b.bytes ≡ a.bytes → PutsBytes a b bs bs []
 no_bytes a b bs le same = record {
   prefix = ap (λ n. take n bs) same ∙ sym (append-nil _);
   end = omega arith;
@@ -51,11 +51,11 @@ pub kept_on : {X : Type 0} (a b : ℕ) (o m n : List X) → a ≤ b → take a m
 kept_on a b o m n le before here =
     sym (take-take a b n le) ∙ ap (λ l. take a l) here ∙ take-take a b m le ∙ before
 
-pub kept_nodes_on : (a b : Place) (o m n ns : List FlatNode) → PutsNodes a b o m ns
+pub kept_nodes_on : (a b : RoomTaken) (o m n ns : List FlatNode) → PutsNodes a b o m ns
     → take a.nodes m ≡ take a.nodes o → take b.nodes n ≡ take b.nodes m → take a.nodes n ≡ take a.nodes o
 kept_nodes_on a b o m n ns puts = kept_on a.nodes b.nodes o m n (omega (arith, puts.end))
 
-pub kept_bytes_on : (a b : Place) (o m n bs : List ℕ) → PutsBytes a b o m bs
+pub kept_bytes_on : (a b : RoomTaken) (o m n bs : List ℕ) → PutsBytes a b o m bs
     → take a.bytes m ≡ take a.bytes o → take b.bytes n ≡ take b.bytes m → take a.bytes n ≡ take a.bytes o
 kept_bytes_on a b o m n bs puts = kept_on a.bytes b.bytes o m n (omega (arith, puts.end))
 
@@ -81,7 +81,7 @@ field_names-append (x ∷ xs) ys =
     ap (λ l. x.name ++ l) (field_names-append xs ys) ∙ sym (append_assoc x.name (field_names xs) (field_names ys))
 
 -- one more field, whose name is this
-pub field_step : (from at to : Place) (base : ℕ) (o n m : List FlatNode) (p q r : List ℕ) (fs : List Field) (i : ℕ)
+pub field_step : (from at to : RoomTaken) (base : ℕ) (o n m : List FlatNode) (p q r : List ℕ) (fs : List Field) (i : ℕ)
     (f : Field) (name : List ℕ) → i < length fs → f ≡ get_or fs i f → name ≡ f.name → base ≤ from.bytes
     → PutsNodes from at o n (field_nodes (from.bytes - base) (take i fs))
     × PutsBytes from at p q (field_names (take i fs))
@@ -124,8 +124,8 @@ names_within fs i f lt is =
     omega (arith, long)
 
 -- there is room for one more field, where there is for all
-pub room_step : (from at : Place) (base : ℕ) (o n : List FlatNode) (p q : List ℕ) (fs : List Field) (i : ℕ) (f : Field)
-    (name : List ℕ) → i < length fs → f ≡ get_or fs i f → name ≡ f.name
+pub room_step : (from at : RoomTaken) (base : ℕ) (o n : List FlatNode) (p q : List ℕ) (fs : List Field) (i : ℕ)
+    (f : Field) (name : List ℕ) → i < length fs → f ≡ get_or fs i f → name ≡ f.name
     → PutsNodes from at o n (field_nodes (from.bytes - base) (take i fs))
     × PutsBytes from at p q (field_names (take i fs))
     → length n ≡ length o → length q ≡ length p
@@ -159,7 +159,7 @@ same_at xs ys i d e =
 
 -- one more
 pub hand_step : (T : Table) (handouts : List Handout) (i : ℕ) (handout : Handout) (heads : List Head) (head : Head)
-    (at to : Place) (nodes nodes' : List FlatNode) (pool pool' : List ℕ)
+    (at to : RoomTaken) (nodes nodes' : List FlatNode) (pool pool' : List ℕ)
     → i < length handouts → i < length heads → handout ≡ get_or handouts i handout
     → AreHanded T (take i handouts) (take i heads) (take at.nodes nodes) (take at.bytes pool)
     × ((at.nodes ≤ length nodes) × (at.bytes ≤ length pool))

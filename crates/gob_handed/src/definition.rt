@@ -7,7 +7,7 @@ ghost use Rattle.gob_handed.specs.Definition.{name_node, type_node, elem_node, i
 ghost use Rattle.gob_handed.specs.Definition.{kind_code, kind_number};
 ghost use Rattle.gob_handed.specs.Definition.{named_nodes, named_bytes, shape_nodes, shape_bytes};
 
-use crate::place::Place;
+use crate::room::RoomTaken;
 use gob_tape::FlatNode;
 use gob_types::{Field, Kind, Marshal, Shape, TypeId};
 
@@ -30,10 +30,10 @@ const REFERENCE: u16 = 14;
 #[tactic(auto, using(crate::proofs::PutsLaws::putting))]
 pub(crate) fn put_shape(
     shape: Option<&Shape>,
-    from: Place,
+    from: RoomTaken,
     nodes: &mut [FlatNode],
     pool: &mut [u8],
-) -> Option<Place>
+) -> Option<RoomTaken>
     ensures nodes { IfSome result (λ to. PutsNodes from to nodes.old nodes.new
         (shape_nodes (option_copied shape.entry))) }
     ensures bytes { IfSome result (λ to. PutsBytes from to pool.old pool.new
@@ -66,10 +66,10 @@ pub(crate) fn put_shape(
 fn put_named(
     kind: &Kind,
     base: usize,
-    at: Place,
+    at: RoomTaken,
     nodes: &mut [FlatNode],
     pool: &mut [u8],
-) -> Option<Place>
+) -> Option<RoomTaken>
     requires nodes { at.nodes ≤ length nodes.old }
     requires bytes { at.bytes ≤ length pool.old }
     requires base { base ≤ at.bytes }
@@ -115,10 +115,10 @@ fn put_name(
     number: u32,
     name: &[u8],
     base: usize,
-    at: Place,
+    at: RoomTaken,
     nodes: &mut [FlatNode],
     pool: &mut [u8],
-) -> Option<Place>
+) -> Option<RoomTaken>
     ensures nodes { IfSome result (λ to. PutsNodes at to nodes.old nodes.new
         (name_node kind number (at.bytes - base) name.now ∷ [])) }
     ensures bytes { IfSome result (λ to. PutsBytes at to pool.old pool.new name.now) }
@@ -141,7 +141,7 @@ fn put_name(
 }
 
 // The place behind a node that names a type.
-fn put_type(id: TypeId, at: Place, nodes: &mut [FlatNode]) -> Option<Place>
+fn put_type(id: TypeId, at: RoomTaken, nodes: &mut [FlatNode]) -> Option<RoomTaken>
     ensures nodes { IfSome result (λ to. PutsNodes at to nodes.old nodes.new (type_node id ∷ [])) }
     ensures bytes { IfSome result (λ to. to.bytes ≡ at.bytes) }
     ensures room { at.nodes + 1 ≤ length nodes.old → IsSome result }
@@ -152,7 +152,7 @@ fn put_type(id: TypeId, at: Place, nodes: &mut [FlatNode]) -> Option<Place>
 }
 
 // The place behind a node that names the type of the elements of an array that has so many.
-fn put_elem(id: TypeId, count: u64, at: Place, nodes: &mut [FlatNode]) -> Option<Place>
+fn put_elem(id: TypeId, count: u64, at: RoomTaken, nodes: &mut [FlatNode]) -> Option<RoomTaken>
     ensures nodes { IfSome result (λ to. PutsNodes at to nodes.old nodes.new (elem_node id count ∷ [])) }
     ensures bytes { IfSome result (λ to. to.bytes ≡ at.bytes) }
     ensures room { at.nodes + 1 ≤ length nodes.old → IsSome result }
@@ -178,7 +178,7 @@ fn id_number(id: TypeId) -> u32
 
 // The place behind the nodes of a map's types.
 #[tactic(auto, using(crate::proofs::PutsLaws::putting))]
-fn put_types(key: TypeId, elem: TypeId, at: Place, nodes: &mut [FlatNode]) -> Option<Place>
+fn put_types(key: TypeId, elem: TypeId, at: RoomTaken, nodes: &mut [FlatNode]) -> Option<RoomTaken>
     ensures nodes { IfSome result (λ to. PutsNodes at to nodes.old nodes.new
         (type_node key ∷ (type_node elem ∷ []))) }
     ensures bytes { IfSome result (λ to. to.bytes ≡ at.bytes) }
@@ -195,10 +195,10 @@ fn put_types(key: TypeId, elem: TypeId, at: Place, nodes: &mut [FlatNode]) -> Op
 fn put_fields(
     fields: &[Field],
     base: usize,
-    from: Place,
+    from: RoomTaken,
     nodes: &mut [FlatNode],
     pool: &mut [u8],
-) -> Option<Place>
+) -> Option<RoomTaken>
     requires nodes { from.nodes ≤ length nodes.old }
     requires bytes { from.bytes ≤ length pool.old }
     requires base { base ≤ from.bytes }
@@ -230,36 +230,36 @@ fn put_fields(
 
 /// How many nodes and bytes the definition of a type has; of the bytes as many as a `usize` can say.
 #[tactic(auto, using(crate::proofs::PutsLaws::field_nodes_long))]
-pub(crate) fn room_of_shape(shape: Option<&Shape>) -> Place
+pub(crate) fn room_of_shape(shape: Option<&Shape>) -> RoomTaken
     ensures nodes { result.nodes ≡ length (shape_nodes (option_copied shape.entry)) }
     ensures bytes { result.bytes ≡ min (length (shape_bytes (option_copied shape.entry))) (2 ^ 64 - 1) }
 {
     let Some(shape) = shape else {
-        return Place { nodes: 1, bytes: 0 };
+        return RoomTaken { nodes: 1, bytes: 0 };
     };
     let name = shape.name.as_bytes().len();
     match &shape.kind {
-        Kind::Array { .. } => Place {
+        Kind::Array { .. } => RoomTaken {
             nodes: 2,
             bytes: name,
         },
-        Kind::Slice { .. } => Place {
+        Kind::Slice { .. } => RoomTaken {
             nodes: 2,
             bytes: name,
         },
-        Kind::Map { .. } => Place {
+        Kind::Map { .. } => RoomTaken {
             nodes: 3,
             bytes: name,
         },
-        Kind::Struct { fields } => Place {
+        Kind::Struct { fields } => RoomTaken {
             nodes: fields.as_slice().len().saturating_add(1),
             bytes: name.saturating_add(names_length(fields.as_slice())),
         },
-        Kind::Basic(_) => Place {
+        Kind::Basic(_) => RoomTaken {
             nodes: 1,
             bytes: name,
         },
-        Kind::Opaque(_) => Place {
+        Kind::Opaque(_) => RoomTaken {
             nodes: 1,
             bytes: name,
         },

@@ -29,8 +29,8 @@ mod handing;
 mod handout;
 mod hands;
 mod head;
-mod place;
 mod reader;
+mod room;
 
 pub use any_reader::AnyReader;
 pub use hands::Hands;

@@ -11,7 +11,7 @@ use std::alloc::Global;
 
 /// Where it stands.
 #[derive(Drop)]
-pub(crate) struct Place {
+pub(crate) struct FaultPlace {
     /// The way to it in the item's value; empty before that.
     pub(crate) path: String,
     /// What the item is; empty before its type number is whole.
@@ -26,9 +26,9 @@ pub(crate) fn place_behind(
     table: &Table,
     front: &[u8],
     reason: Reason,
-) -> Result<Place, Memory> {
+) -> Result<FaultPlace, Memory> {
     let Some(head) = head_of(front) else {
-        return Ok(Place {
+        return Ok(FaultPlace {
             path: String::new(alloc),
             item: String::new(alloc),
             due: String::from_str(alloc, due_in_head(front))?,
@@ -51,7 +51,7 @@ fn place_in_body(
     head: Head,
     front: &[u8],
     reason: Reason,
-) -> Result<Place, Memory> {
+) -> Result<FaultPlace, Memory> {
     let id = if head.defines {
         TypeId::WIRE_TYPE
     } else {
@@ -66,7 +66,7 @@ fn place_in_body(
         Some(due) => String::from_str(alloc, due)?,
         None => due_behind(alloc, table, id, body)?,
     };
-    Ok(Place {
+    Ok(FaultPlace {
         path: shortened(alloc, whole.as_str())?,
         item: item_text(alloc, table, head)?,
         due,

@@ -5,7 +5,7 @@ use crate::front_cause::cause_at_front;
 use crate::item_cause::item_cause;
 use crate::kept::Kept;
 use crate::marks::rest_from;
-use crate::place::{Place, place_behind};
+use crate::place::{FaultPlace, place_behind};
 use crate::scene::Scene;
 use crate::sentence::{usual_cause, usual_step, what};
 use crate::step::{step_text, with_file};
@@ -35,7 +35,7 @@ pub(crate) fn refusal_words(
 }
 
 // Which item it is, and where in its value.
-fn push_where(scene: &Scene<'_>, place: &Place, text: &mut String) -> Result<(), Memory> {
+fn push_where(scene: &Scene<'_>, place: &FaultPlace, text: &mut String) -> Result<(), Memory> {
     let items = scene.items;
     let begin = scene.kept.begin;
     write!(text, "where: item {items}")?;
@@ -56,7 +56,7 @@ fn push_where(scene: &Scene<'_>, place: &Place, text: &mut String) -> Result<(),
 fn push_found(
     alloc: Global,
     scene: &Scene<'_>,
-    place: &Place,
+    place: &FaultPlace,
     text: &mut String,
 ) -> Result<(), Memory> {
     let due = place.due.as_str();

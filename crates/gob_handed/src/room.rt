@@ -9,7 +9,7 @@ const GIVEN_BACK: usize = 65536;
 
 /// How much of the room is taken.
 #[derive(Clone, Copy)]
-pub(crate) struct Place {
+pub(crate) struct RoomTaken {
     /// How many nodes.
     pub(crate) nodes: usize,
     /// How many bytes.
@@ -17,14 +17,14 @@ pub(crate) struct Place {
 }
 
 /// The front of the room.
-pub(crate) const FRONT: Place = Place { nodes: 0, bytes: 0 };
+pub(crate) const FRONT: RoomTaken = RoomTaken { nodes: 0, bytes: 0 };
 
-impl Place {
+impl RoomTaken {
     ghost use Rattle.std.specs.Prelude.{◌≡◌, ◌↔◌, ◌+◌, ◌≤◌, ◌∷◌, [], IfSome, IsSome, IsTrue, length, take};
     ghost use Rattle.gob_handed.specs.Puts.{PutsNodes, PutsBytes};
 
     /// The place behind a node that is put here; None where there is no room for it.
-    pub(crate) fn node(self, out: &mut [FlatNode], node: FlatNode) -> Option<Place>
+    pub(crate) fn node(self, out: &mut [FlatNode], node: FlatNode) -> Option<RoomTaken>
         ensures put { IfSome result (λ to. PutsNodes self to out.old out.new (node ∷ [])) }
         ensures bytes { IfSome result (λ to. to.bytes ≡ self.bytes) }
         ensures room { self.nodes + 1 ≤ length out.old → IsSome result }
@@ -35,14 +35,14 @@ impl Place {
             return None;
         }
         out[self.nodes] = node;
-        Some(Place {
+        Some(RoomTaken {
             nodes: self.nodes + 1,
             bytes: self.bytes,
         })
     }
 
     /// The place behind nodes that are put here; None where there is no room for them.
-    pub(crate) fn nodes(self, out: &mut [FlatNode], nodes: Vec<FlatNode>) -> Option<Place>
+    pub(crate) fn nodes(self, out: &mut [FlatNode], nodes: Vec<FlatNode>) -> Option<RoomTaken>
         ensures put { IfSome result (λ to. PutsNodes self to out.old out.new nodes.items) }
         ensures bytes { IfSome result (λ to. to.bytes ≡ self.bytes) }
         ensures room { self.nodes + length nodes.items ≤ length out.old → IsSome result }
@@ -54,14 +54,14 @@ impl Place {
         }
         let end = self.nodes + nodes.len();
         move_nodes(nodes, &mut out[self.nodes..]);
-        Some(Place {
+        Some(RoomTaken {
             nodes: end,
             bytes: self.bytes,
         })
     }
 
     /// Whether there is room for so much more in so many nodes and bytes.
-    pub(crate) fn has_room(self, more: Place, nodes: usize, bytes: usize) -> bool
+    pub(crate) fn has_room(self, more: RoomTaken, nodes: usize, bytes: usize) -> bool
         ensures { IsTrue result ↔ ((self.nodes + more.nodes ≤ nodes) × (self.bytes + more.bytes ≤ bytes)) }
     {
         self.nodes <= nodes
@@ -71,7 +71,7 @@ impl Place {
     }
 
     /// The place behind bytes that are put here; None where there is no room for them.
-    pub(crate) fn bytes(self, pool: &mut [u8], bytes: &[u8]) -> Option<Place>
+    pub(crate) fn bytes(self, pool: &mut [u8], bytes: &[u8]) -> Option<RoomTaken>
         ensures put { IfSome result (λ to. PutsBytes self to pool.old pool.new bytes.now) }
         ensures nodes { IfSome result (λ to. to.nodes ≡ self.nodes) }
         ensures room { self.bytes + length bytes.now ≤ length pool.old → IsSome result }
@@ -83,7 +83,7 @@ impl Place {
         }
         let end = self.bytes + bytes.len();
         pool[self.bytes..end].copy_from_slice(bytes);
-        Some(Place {
+        Some(RoomTaken {
             nodes: self.nodes,
             bytes: end,
         })

@@ -1,5 +1,5 @@
 use Rattle.std.proofs.Common.{◌≡◌, ◌++◌, ◌≤◌, length, drop}
-use Rattle.gob_handed.proofs.place.move_nodes.Given as goal
+use Rattle.gob_handed.proofs.room.move_nodes.Given as goal
 
 abbrev pub invariant-nodes : goal.invariant-nodes
 invariant-nodes l =
