@@ -21,15 +21,18 @@ LAST = HEX("ff85 03 01 01 04 4c617374 01 ff86 00 01 01 01 01 42 01 04 00 00 00")
 TYPES = """package types
 
 // type 65
+// registered as []interface {}
 type T65 []interface{}
 
 // type 66
+// registered as main.Held
 type Held struct {
 \tA int
 \tS string
 }
 
 // type 67
+// registered as main.Last
 type Last struct {
 \tB int
 }

@@ -20,7 +20,8 @@ pub(crate) struct Reached {
 impl Reached {
     /// The line that tells it, which takes the place of the one before.
     pub(crate) fn line(&self, alloc: Global) -> Result<String, AllocError>
-        ensures { IfOk result (λ line. string_bytes line ≡ progress_line self.now.passed self.now.total self.now.millis) }
+        ensures { IfOk result (λ line.
+            string_bytes line ≡ progress_line self.now.passed self.now.total self.now.millis) }
     {
         let read = megabytes(self.passed);
         let rate = self.rate();

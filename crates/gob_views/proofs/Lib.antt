@@ -1,4 +1,4 @@
-pub mod IdLaws
+pub mod NamingLaws
 pub mod PlainLaws
 pub mod TakenLaws
 pub mod SendLaws

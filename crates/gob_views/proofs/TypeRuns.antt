@@ -1,26 +1,31 @@
 -- How a run that gathers types goes on, and how it ends.
-use Rattle.std.proofs.Common.{◌≡◌, ℕ, ◌+◌, ◌<◌, arith, List, [], ◌∷◌, ◌++◌, length, Option, Some, Result, Ok, Err, ◌∙◌}
-use Rattle.std.proofs.Common.{ap, sym, subst, refl, append-nil, length-append}
+use Rattle.std.proofs.Common.{◌≡◌, ℕ, ◌<◌, arith, List, [], ◌∷◌, ◌++◌, length, Option, Some, Result, Ok, Err, ◌∙◌}
+use Rattle.std.proofs.Common.{ap, sym, subst, refl, append-nil, length-append, min}
 use Rattle.std.specs.Result.{IsErrAnd}
 use Rattle.std.specs.Io.KnownBytes.{Appends, Keeps}
 use Rattle.std.proofs.KnownBytes.{Appends-kept}
+use Rattle.std.proofs.lemmas.List.{length-take-le}
 use Rattle.gob_num.proofs.PublicLaws.{unsigned_length}
 use Rattle.gob_types.specs.Base.{base_table}
 use Rattle.gob_types.specs.Table.{Table}
 use Rattle.gob_types.specs.declared.id.TypeId.{TypeId}
-use Rattle.gob_source.specs.Source.{go_source}
-use Rattle.gob_stream.specs.Bounds.{Bounds, within_trees}
+use Rattle.gob_value.specs.Whole.{IsWhole}
+use Rattle.gob_source.specs.Registered.{Naming}
+use Rattle.gob_stream.specs.Bounds.{Bounds, greatest_depth, within_trees}
 use Rattle.gob_stream.specs.Devices.{Rose, counts_up}
 use Rattle.gob_stream.specs.Honest.{OfRefusal}
 use Rattle.gob_stream.specs.Reading.{CountsReads, SomeTaken}
 use Rattle.gob_stream.specs.declared.fault.Fault.{Fault}
 use Rattle.gob_stream.specs.declared.fault.Refusal.{Refusal}
 use Rattle.gob_stream.specs.declared.fault.Fault.TheVariants as reading
-use Rattle.gob_stream.specs.declared.values.Passed.{Passed}
+use Rattle.gob_stream.specs.Item.{puts}
+use Rattle.gob_stream.proofs.PublicLaws.{counted_some, whole_item}
+use Rattle.gob_filled.specs.Filled.{filled, no_filling}
 use Rattle.gob_filled.specs.Outcome.{FilledOutcome, refused}
-use Rattle.gob_filled.specs.Stream.{FilledItem, FilledStream}
-use Rattle.gob_go.specs.Calls.Reader.{EndsWith, HasReadFrom, KnowsTypes, PassesFrom, StepsOnFrom, StopsFrom, session_of}
-use Rattle.gob_go.specs.Calls.Session.{IsBetweenItems, limits_of, taken_of, types_of}
+use Rattle.gob_filled.specs.Stream.{FilledItem, FilledStream, putting}
+use Rattle.gob_go.specs.Calls.Reader.{EndsWith, HasReadFrom, KnowsTypes, PassesOne, StepsOnFrom, StopsFrom, session_of}
+use Rattle.gob_go.specs.Calls.Reader.{waits_in}
+use Rattle.gob_go.specs.Calls.Session.{HasBodyNext, IsBetweenItems, limits_of, taken_of, types_of}
 use Rattle.gob_go.specs.Ids.{defined_ids}
 use Rattle.gob_go.specs.Reading.{LeadsBehind}
 use Rattle.gob_go.specs.Calls.Reader.{GoReader}
@@ -33,96 +38,104 @@ use Rattle.gob_tool.specs.Ending.{EndsRun, ends_so, flush_fails}
 use Rattle.gob_tool.specs.Showing.{AppendsPrefix}
 use Rattle.gob_tool.proofs.EndLaws.{all_kept, prefix_kept}
 use Rattle.gob_tool.specs.RunningGo.{BeginsGo, EndsWholeGo, IsRefusedGo}
-use Rattle.gob_views.specs.Machine.Gathered.{GathersAll, GathersNext, GathersSo, GathersUpTo, GathersWhole, IdsGiven}
-use Rattle.gob_views.specs.Machine.Gathered.{StopsGathering}
+use Rattle.gob_views.specs.Gathering.{registered_names, value_types}
+use Rattle.gob_views.specs.Machine.Gathered.{GathersAll, GathersNext, GathersSo, GathersUpTo, GathersWhole, IsEmpty}
+use Rattle.gob_views.specs.Machine.Gathered.{IsGathered, ItemGiven, StopsGathering, TypeGathered, WaitsWhole}
+use Rattle.gob_views.specs.Machine.Gathered.{gathered_text}
 use Rattle.gob_views.specs.Sending.{SendsText}
-use Rattle.gob_views.specs.Types.{OfSource, TypesAnswers}
-use Rattle.gob_views.proofs.IdLaws.{defined_append, ids_given, none_defined_in}
+use Rattle.gob_views.specs.Types.{OfSource, TypesAnswers, source_text}
+use Rattle.gob_views.specs.declared.gathered.Gathered.{Gathered}
+use Rattle.gob_views.specs.declared.types.SourceForm.{SourceForm}
+use Rattle.gob_views.proofs.NamingLaws.{nothing_gathered, step_gathered, value_gathered}
 
 -- ---- from item to item
-pub gathers_first : (r : GoReader) (read : Option (List ℕ)) (ids : List TypeId) → HasReadFrom r read read []
-    → ids ≡ [] → GathersSo r read read ids
-gathers_first r read ids has none = record { given = []; has = has; ids_are = none }
+pub gathers_first : (r : GoReader) (read : Option (List ℕ)) (g : Gathered) → HasReadFrom r read read [] → IsEmpty g
+    → GathersSo r read read g
+gathers_first r read g has none = record { given = []; has = has; gathered = nothing_gathered none }
 
 -- more was read, and nothing given
-pub gathers_filled : {r r' : GoReader} {read now next : Option (List ℕ)} {ids : List TypeId}
-    (s : GathersSo r read now ids) → HasReadFrom r' read next s.given → GathersSo r' read next ids
-gathers_filled s h = record { given = s.given; has = h; ids_are = s.ids_are }
+pub gathers_filled : {r r' : GoReader} {read now next : Option (List ℕ)} {g : Gathered} (s : GathersSo r read now g)
+    → HasReadFrom r' read next s.given → GathersSo r' read next g
+gathers_filled s h = record { given = s.given; has = h; gathered = s.gathered }
 
--- where no item was passed, or none that defines anything
-still_defined : (given more : List FilledItem)
-    → (0 < length more → defined_ids (given ++ more) ≡ defined_ids given)
-    → defined_ids (given ++ more) ≡ defined_ids given
-still_defined given [] same = ap (λ (l : List FilledItem). defined_ids l) (append-nil given)
-still_defined given (i ∷ more) same = same (omega arith)
+-- the item of a value waits as a whole
+pub waits_whole : {T : Table} {r : GoReader} {id : TypeId} {body : List ℕ} {used limit : ℕ}
+    → IsBetweenItems (session_of r) → HasBodyNext (session_of r) id body used (waits_in r)
+    → T ≡ types_of (session_of r) → limit ≡ min (limits_of (session_of r)).depth greatest_depth
+    → IsWhole T id limit body → WaitsWhole r id used
+waits_whole {id = id} {body = body} {limit = limit} between next same deep whole =
+    let w = subst (λ (T : Table). IsWhole T id limit body) same whole in
+    (w.value, record { between = between; within = next.within; next = whole_item greatest_depth deep next w })
 
-pub gathers_passed : {r : GoReader} {read now : Option (List ℕ)} {ids : List TypeId} (r' : GoReader) (passed : Passed)
-    → PassesFrom r r' passed → (0 < passed.items → IsBetweenItems (session_of r) × IsBetweenItems (session_of r'))
-    → types_of (session_of r') ≡ types_of (session_of r) → GathersSo r read now ids
-    → GathersSo r' read now ids × (taken_of (session_of r') ≡ taken_of (session_of r) + passed.used)
-gathers_passed {read = read} {now = now} r' passed p between same s =
-    let t = p.each read now s.given s.has in
-    let none : defined_ids (s.given ++ p.more) ≡ defined_ids s.given = still_defined s.given p.more (λ some.
-    let b = between (omega (arith, some, p.counted)) in
-    none_defined_in p.more s.has.gave t.after.gave b.0 b.1 same) in (
-      record { given = s.given ++ p.more; has = t.after; ids_are = s.ids_are ∙ sym none },
-      t.onward,
+-- which was passed
+pub gathers_passed : {r r' : GoReader} {read now : Option (List ℕ)} {old new : Gathered} {id : TypeId} {used : ℕ}
+    (s : GathersSo r read now old) → WaitsWhole r id used → PassesOne r r' used → TypeGathered id old new
+    → GathersSo r' read now new × (taken_of (session_of r) < taken_of (session_of r'))
+gathers_passed {r = r} {read = read} {now = now} {id = id} {used = used} s w p kept =
+    let t = p read now s.given (puts id w.0) s.has w.1.next in
+    let some = counted_some w.1.next in
+    let size = length-take-le used (waits_in r) w.1.within in (
+      record {
+        given = s.given ++ putting id (filled w.0 no_filling) ∷ [];
+        has = t.after;
+        gathered = value_gathered s.given id w.0 s.gathered kept;
+      },
+      omega (arith, t.onward, some, size),
     )
 
-pub gathers_step : {r r' : GoReader} {read now : Option (List ℕ)} {old : List TypeId} {step : Step GoItem}
-    (new : List TypeId) (s : GathersSo r read now old) → 0 < step.used → StepsOnFrom r r' read now s.given step
-    → IdsGiven step.item old new
+pub gathers_step : {r r' : GoReader} {read now : Option (List ℕ)} {old new : Gathered} {step : Step GoItem}
+    (s : GathersSo r read now old) → 0 < step.used → StepsOnFrom r r' read now s.given step
+    → ItemGiven step.item old new
     → GathersSo r' read now new × (taken_of (session_of r) < taken_of (session_of r'))
-gathers_step {old = old} new s some st e = (
+gathers_step s some st e = (
   record {
     given = s.given ++ st.more;
     has = st.takes.after;
-    ids_are = ids_given old new st.gives e ∙ ap (λ (l : List TypeId). l ++ defined_ids st.more) s.ids_are
-        ∙ sym (defined_append s.given st.more);
+    gathered = step_gathered s.given st.gives e s.gathered;
   },
   omega (arith, some, st.takes.onward),
 )
 
 -- ---- what stops it
-pub gathers_stopped : {r : GoReader} {read now : Option (List ℕ)} {ids : List TypeId} (A : Type 0) (r' : GoReader)
-    (next : Option (List ℕ)) (e : Fault) (T : Table) (s : GathersSo r read now ids)
+pub gathers_stopped : {r : GoReader} {read now : Option (List ℕ)} {g : Gathered} (A : Type 0) (r' : GoReader)
+    (next : Option (List ℕ)) (e : Fault) (T : Table) (s : GathersSo r read now g)
     → limits_of (session_of r') ≡ limits_of (session_of r) → StopsFrom (session_of r) T read next s.given e
     → OfRefusal {A = A} (λ _. KnowsTypes (limits_of (session_of r)) read next s.given (types_of (session_of r')))
-    (Err e) → StopsGathering r' read next ids e
+    (Err e) → StopsGathering r' read next g e
 gathers_stopped A r' next (reading.Refused R) T s same stops knows = λ bytes known. record {
   given = s.given;
   outcome = subst (λ (L : Bounds). FilledOutcome base_table (within_trees L) bytes s.given (refused R)) (sym same)
       (stops bytes known).outcome;
   known = subst (λ (L : Bounds). SomeTaken bytes next
       (λ came. LeadsBehind (within_trees L) came s.given (types_of (session_of r')))) (sym same) (knows bytes known);
-  ids_are = s.ids_are;
+  gathered = s.gathered;
 }
 gathers_stopped A r' next reading.Read T s same stops knows = tt
 gathers_stopped A r' next reading.Memory T s same stops knows = tt
 gathers_stopped A r' next reading.Failed T s same stops knows = tt
 
-pub up_to_refusal : (r : GoReader) (read now : Option (List ℕ)) (ids : List TypeId) (e : Fault) (R : Refusal)
-    → e ≡ reading.Refused R → StopsGathering r read now ids e → (bytes : List ℕ) → read ≡ Some bytes
-    → GathersUpTo r bytes now ids R
-up_to_refusal r read now ids e R is h = subst (λ e. StopsGathering r read now ids e) is h
+pub up_to_refusal : (r : GoReader) (read now : Option (List ℕ)) (g : Gathered) (e : Fault) (R : Refusal)
+    → e ≡ reading.Refused R → StopsGathering r read now g e → (bytes : List ℕ) → read ≡ Some bytes
+    → GathersUpTo r bytes now g R
+up_to_refusal r read now g e R is h = subst (λ e. StopsGathering r read now g e) is h
 
 -- at the error that a `?` returns
-pub next_at : (r r' : GoReader) (read now : Option (List ℕ)) (ids : List TypeId) (res : Result (Unit {0}) Fault)
-    (e : Fault) → IsErrAnd res (λ x. x ≡ e) → StopsGathering r' read now ids e → GathersNext r r' read now ids res
-next_at r r' read now ids (Ok u) e is h = absurd is
-next_at r r' read now ids (Err f) e is h = subst (λ e. StopsGathering r' read now ids e) (sym is) h
+pub next_at : (r r' : GoReader) (read now : Option (List ℕ)) (g : Gathered) (res : Result (Unit {0}) Fault)
+    (e : Fault) → IsErrAnd res (λ x. x ≡ e) → StopsGathering r' read now g e → GathersNext r r' read now g res
+next_at r r' read now g (Ok u) e is h = absurd is
+next_at r r' read now g (Err f) e is h = subst (λ e. StopsGathering r' read now g e) (sym is) h
 
-pub all_at : (r : GoReader) (read now : Option (List ℕ)) (ids : List TypeId) (res : Result (Unit {0}) Fault)
-    (e : Fault) → IsErrAnd res (λ x. x ≡ e) → StopsGathering r read now ids e → GathersAll r read now ids res
-all_at r read now ids (Ok u) e is h = absurd is
-all_at r read now ids (Err f) e is h = subst (λ e. StopsGathering r read now ids e) (sym is) h
+pub all_at : (r : GoReader) (read now : Option (List ℕ)) (g : Gathered) (res : Result (Unit {0}) Fault)
+    (e : Fault) → IsErrAnd res (λ x. x ≡ e) → StopsGathering r read now g e → GathersAll r read now g res
+all_at r read now g (Ok u) e is h = absurd is
+all_at r read now g (Err f) e is h = subst (λ e. StopsGathering r read now g e) (sym is) h
 
 -- all of it was read
-pub gathers_whole : {r : GoReader} {read now : Option (List ℕ)} {bytes : List ℕ} {ids : List TypeId} {taken : ℕ}
-    (r' : GoReader) (next : Option (List ℕ)) (s : GathersSo r read now ids)
+pub gathers_whole : {r : GoReader} {read now : Option (List ℕ)} {bytes : List ℕ} {g : Gathered} {taken : ℕ}
+    (r' : GoReader) (next : Option (List ℕ)) (s : GathersSo r read now g)
     → limits_of (session_of r') ≡ limits_of (session_of r) → types_of (session_of r') ≡ types_of (session_of r)
     → EndsWith (within_trees (limits_of (session_of r))) (types_of (session_of r)) taken s.given bytes next
-    → GathersWhole r' bytes next ids
+    → GathersWhole r' bytes next g
 gathers_whole {r = r} {bytes = bytes} r' next s same_limits same_types e = record {
   given = s.given;
   stream = subst (λ (L : Bounds). FilledStream base_table (within_trees L) s.given bytes (types_of (session_of r')))
@@ -130,7 +143,7 @@ gathers_whole {r = r} {bytes = bytes} r' next s same_limits same_types e = recor
       (subst (λ (T : Table). FilledStream base_table (within_trees (limits_of (session_of r))) s.given bytes T)
       (sym same_types) e.stream);
   end = e.end;
-  ids_are = s.ids_are;
+  gathered = s.gathered;
 }
 
 -- ---- reads that failed
@@ -173,44 +186,54 @@ whole_leads {bytes = bytes} {T = T} s = record {
 }
 
 -- of what was gathered
-whole_source : {P : List ℕ → Type 0} {r : GoReader} {bytes : List ℕ} {now : Option (List ℕ)} {ids : List TypeId}
-    (text : List ℕ) (w : GathersWhole r bytes now ids) → text ≡ go_source (types_of (session_of r)) ids → P text
-    → OfSource (within_trees (limits_of (session_of r))) bytes now P w.given
-whole_source {P = P} {r = r} {bytes = bytes} text w e h = record {
+source_given : (form : SourceForm) (T : Table) {g : Gathered} {items : List FilledItem} → IsGathered g items
+    → gathered_text form T g
+    ≡ source_text form T (defined_ids items) (registered_names items) (value_types items)
+source_given form T {g = g} {items = items} a =
+    ap (λ (ids : List TypeId). source_text form T ids g.names g.values.keys) a.ids
+    ∙ ap (λ (names : List Naming). source_text form T (defined_ids items) names g.values.keys) a.names
+    ∙ ap (λ (values : List TypeId). source_text form T (defined_ids items) (registered_names items) values) a.values
+
+whole_source : {P : List ℕ → Type 0} {r : GoReader} {bytes : List ℕ} {now : Option (List ℕ)} {g : Gathered}
+    (form : SourceForm) (text : List ℕ) (w : GathersWhole r bytes now g)
+    → text ≡ gathered_text form (types_of (session_of r)) g → P text
+    → OfSource form (within_trees (limits_of (session_of r))) bytes now P w.given
+whole_source {P = P} {r = r} {bytes = bytes} form text w e h = record {
   types = types_of (session_of r);
   known = record {
     bytes = bytes;
     taken = record { left = []; known = w.end; whole = sym (append-nil bytes) };
     holds = whole_leads w.stream;
   };
-  holds = subst P (e ∙ ap (λ (is : List TypeId). go_source (types_of (session_of r)) is) w.ids_are) h;
+  holds = subst P (e ∙ source_given form (types_of (session_of r)) w.gathered) h;
 }
 
-refused_source : {P : List ℕ → Type 0} {r : GoReader} {bytes : List ℕ} {now : Option (List ℕ)} {ids : List TypeId}
-    {R : Refusal} (text : List ℕ) (w : GathersUpTo r bytes now ids R) → text ≡ go_source (types_of (session_of r)) ids
-    → P text → OfSource (within_trees (limits_of (session_of r))) bytes now P w.given
-refused_source {P = P} {r = r} text w e h = record {
+refused_source : {P : List ℕ → Type 0} {r : GoReader} {bytes : List ℕ} {now : Option (List ℕ)} {g : Gathered}
+    {R : Refusal} (form : SourceForm) (text : List ℕ) (w : GathersUpTo r bytes now g R)
+    → text ≡ gathered_text form (types_of (session_of r)) g → P text
+    → OfSource form (within_trees (limits_of (session_of r))) bytes now P w.given
+refused_source {P = P} {r = r} form text w e h = record {
   types = types_of (session_of r);
   known = w.known;
-  holds = subst P (e ∙ ap (λ (is : List TypeId). go_source (types_of (session_of r)) is) w.ids_are) h;
+  holds = subst P (e ∙ source_given form (types_of (session_of r)) w.gathered) h;
 }
 
 -- of all types, or a prefix of it
-pub whole_sent : (L : Bounds) (r : GoReader) (bytes : List ℕ) (now old new : Option (List ℕ)) (ids : List TypeId)
-    (text : List ℕ) (res : Result (Unit {0}) ToolFault) → limits_of (session_of r) ≡ L
-    → GathersWhole r bytes now ids → text ≡ go_source (types_of (session_of r)) ids → SendsText old new text res
-    → TypesAnswers (within_trees L) bytes now old new res
-whole_sent L r bytes now old new ids text (Ok u) same w e h =
-    subst (λ (M : Bounds). EndsWholeGo (within_trees M) bytes now (OfSource (within_trees M) bytes now
+pub whole_sent : (form : SourceForm) (L : Bounds) (r : GoReader) (bytes : List ℕ) (now old new : Option (List ℕ))
+    (g : Gathered) (text : List ℕ) (res : Result (Unit {0}) ToolFault) → limits_of (session_of r) ≡ L
+    → GathersWhole r bytes now g → text ≡ gathered_text form (types_of (session_of r)) g → SendsText old new text res
+    → TypesAnswers form (within_trees L) bytes now old new res
+whole_sent form L r bytes now old new g text (Ok u) same w e h =
+    subst (λ (M : Bounds). EndsWholeGo (within_trees M) bytes now (OfSource form (within_trees M) bytes now
     (Appends old new))) same (record {
       items = w.given;
       table = types_of (session_of r);
       stream = w.stream;
       end = w.end;
-      holds = whole_source {P = Appends old new} text w e h;
+      holds = whole_source {P = Appends old new} form text w e h;
     })
-whole_sent L r bytes now old new ids text (Err fault.Write) same w e h =
-    subst (λ (M : Bounds). BeginsGo (within_trees M) bytes (OfSource (within_trees M) bytes now
+whole_sent form L r bytes now old new g text (Err fault.Write) same w e h =
+    subst (λ (M : Bounds). BeginsGo (within_trees M) bytes (OfSource form (within_trees M) bytes now
     (AppendsPrefix old new))) same (record {
       items = w.given;
       begins = record {
@@ -220,88 +243,91 @@ whole_sent L r bytes now old new ids text (Err fault.Write) same w e h =
         stream = w.stream;
         whole = sym (append-nil bytes);
       };
-      holds = whole_source {P = AppendsPrefix old new} text w e h;
+      holds = whole_source {P = AppendsPrefix old new} form text w e h;
     })
-whole_sent L r bytes now old new ids text (Err fault.Memory) same w e h = h
-whole_sent L r bytes now old new ids text (Err (fault.Refused R)) same w e h = absurd h
-whole_sent L r bytes now old new ids text (Err (fault.Wanted R)) same w e h = absurd h
-whole_sent L r bytes now old new ids text (Err fault.NoWantedType) same w e h = absurd h
-whole_sent L r bytes now old new ids text (Err (fault.Clash path reason)) same w e h = absurd h
-whole_sent L r bytes now old new ids text (Err fault.Read) same w e h = absurd h
+whole_sent form L r bytes now old new g text (Err fault.Memory) same w e h = h
+whole_sent form L r bytes now old new g text (Err (fault.Refused R)) same w e h = absurd h
+whole_sent form L r bytes now old new g text (Err (fault.Wanted R)) same w e h = absurd h
+whole_sent form L r bytes now old new g text (Err fault.NoWantedType) same w e h = absurd h
+whole_sent form L r bytes now old new g text (Err (fault.Clash path reason)) same w e h = absurd h
+whole_sent form L r bytes now old new g text (Err fault.Read) same w e h = absurd h
 
 -- of those of the items before a refusal
-pub refused_sent : (L : Bounds) (r : GoReader) (bytes : List ℕ) (now old new : Option (List ℕ)) (ids : List TypeId)
-    (text : List ℕ) (R : Refusal) → limits_of (session_of r) ≡ L → GathersUpTo r bytes now ids R
-    → text ≡ go_source (types_of (session_of r)) ids → Appends old new text
-    → TypesAnswers (within_trees L) bytes now old new (Err (fault.Refused R))
-refused_sent L r bytes now old new ids text R same w e h =
-    subst (λ (M : Bounds). IsRefusedGo (within_trees M) bytes R (OfSource (within_trees M) bytes now
+pub refused_sent : (form : SourceForm) (L : Bounds) (r : GoReader) (bytes : List ℕ) (now old new : Option (List ℕ))
+    (g : Gathered) (text : List ℕ) (R : Refusal) → limits_of (session_of r) ≡ L → GathersUpTo r bytes now g R
+    → text ≡ gathered_text form (types_of (session_of r)) g → Appends old new text
+    → TypesAnswers form (within_trees L) bytes now old new (Err (fault.Refused R))
+refused_sent form L r bytes now old new g text R same w e h =
+    subst (λ (M : Bounds). IsRefusedGo (within_trees M) bytes R (OfSource form (within_trees M) bytes now
     (Appends old new))) same (record {
       items = w.given;
       outcome = w.outcome;
-      holds = refused_source {P = Appends old new} text w e h;
+      holds = refused_source {P = Appends old new} form text w e h;
     })
 
 -- which a write or want of memory stopped
-pub refused_unsent : (L : Bounds) (r : GoReader) (bytes : List ℕ) (now old new : Option (List ℕ)) (ids : List TypeId)
-    (text : List ℕ) (R : Refusal) (f : ToolFault) → limits_of (session_of r) ≡ L → GathersUpTo r bytes now ids R
-    → text ≡ go_source (types_of (session_of r)) ids → SendsText old new text (Err f)
-    → TypesAnswers (within_trees L) bytes now old new (Err f)
-refused_unsent L r bytes now old new ids text R fault.Write same w e h =
-    subst (λ (M : Bounds). BeginsGo (within_trees M) bytes (OfSource (within_trees M) bytes now
+pub refused_unsent : (form : SourceForm) (L : Bounds) (r : GoReader) (bytes : List ℕ) (now old new : Option (List ℕ))
+    (g : Gathered) (text : List ℕ) (R : Refusal) (f : ToolFault) → limits_of (session_of r) ≡ L
+    → GathersUpTo r bytes now g R
+    → text ≡ gathered_text form (types_of (session_of r)) g → SendsText old new text (Err f)
+    → TypesAnswers form (within_trees L) bytes now old new (Err f)
+refused_unsent form L r bytes now old new g text R fault.Write same w e h =
+    subst (λ (M : Bounds). BeginsGo (within_trees M) bytes (OfSource form (within_trees M) bytes now
     (AppendsPrefix old new))) same (record {
       items = w.given;
       begins = w.outcome.gives.begins;
-      holds = refused_source {P = AppendsPrefix old new} text w e h;
+      holds = refused_source {P = AppendsPrefix old new} form text w e h;
     })
-refused_unsent L r bytes now old new ids text R fault.Memory same w e h = h
-refused_unsent L r bytes now old new ids text R (fault.Refused Q) same w e h = absurd h
-refused_unsent L r bytes now old new ids text R (fault.Wanted Q) same w e h = absurd h
-refused_unsent L r bytes now old new ids text R fault.NoWantedType same w e h = absurd h
-refused_unsent L r bytes now old new ids text R (fault.Clash path reason) same w e h = absurd h
-refused_unsent L r bytes now old new ids text R fault.Read same w e h = absurd h
+refused_unsent form L r bytes now old new g text R fault.Memory same w e h = h
+refused_unsent form L r bytes now old new g text R (fault.Refused Q) same w e h = absurd h
+refused_unsent form L r bytes now old new g text R (fault.Wanted Q) same w e h = absurd h
+refused_unsent form L r bytes now old new g text R fault.NoWantedType same w e h = absurd h
+refused_unsent form L r bytes now old new g text R (fault.Clash path reason) same w e h = absurd h
+refused_unsent form L r bytes now old new g text R fault.Read same w e h = absurd h
 
 -- ---- behind the flush
-source_as : {L : Bounds} {bytes : List ℕ} {now : Option (List ℕ)} {P Q : List ℕ → Type 0} {items : List FilledItem}
-    → OfSource L bytes now P items → ((text : List ℕ) → P text → Q text) → OfSource L bytes now Q items
+source_as : {form : SourceForm} {L : Bounds} {bytes : List ℕ} {now : Option (List ℕ)} {P Q : List ℕ → Type 0}
+    {items : List FilledItem} → OfSource form L bytes now P items → ((text : List ℕ) → P text → Q text)
+    → OfSource form L bytes now Q items
 source_as s f = record { types = s.types; known = s.known; holds = f _ s.holds }
 
-types_kept : (L : Bounds) (bytes : List ℕ) (now old mid new : Option (List ℕ)) (res : Result (Unit {0}) ToolFault)
-    → Keeps mid new → TypesAnswers L bytes now old mid res → TypesAnswers L bytes now old new res
-types_kept L bytes now old mid new (Ok u) k h = record {
+types_kept : (form : SourceForm) (L : Bounds) (bytes : List ℕ) (now old mid new : Option (List ℕ))
+    (res : Result (Unit {0}) ToolFault) → Keeps mid new → TypesAnswers form L bytes now old mid res
+    → TypesAnswers form L bytes now old new res
+types_kept form L bytes now old mid new (Ok u) k h = record {
   items = h.items;
   table = h.table;
   stream = h.stream;
   end = h.end;
   holds = source_as h.holds (λ text a. Appends-kept old mid new text a k);
 }
-types_kept L bytes now old mid new (Err (fault.Refused R)) k h = record {
+types_kept form L bytes now old mid new (Err (fault.Refused R)) k h = record {
   items = h.items;
   outcome = h.outcome;
   holds = source_as h.holds (λ text a. Appends-kept old mid new text a k);
 }
-types_kept L bytes now old mid new (Err fault.Write) k h = record {
+types_kept form L bytes now old mid new (Err fault.Write) k h = record {
   items = h.items;
   begins = h.begins;
   holds = source_as h.holds (λ text a. prefix_kept old mid new text a k);
 }
-types_kept L bytes now old mid new (Err fault.Read) k h = Appends-kept old mid new [] h k
-types_kept L bytes now old mid new (Err fault.Memory) k h = Appends-kept old mid new [] h k
-types_kept L bytes now old mid new (Err (fault.Wanted R)) k h = absurd h
-types_kept L bytes now old mid new (Err fault.NoWantedType) k h = absurd h
-types_kept L bytes now old mid new (Err (fault.Clash path reason)) k h = absurd h
+types_kept form L bytes now old mid new (Err fault.Read) k h = Appends-kept old mid new [] h k
+types_kept form L bytes now old mid new (Err fault.Memory) k h = Appends-kept old mid new [] h k
+types_kept form L bytes now old mid new (Err (fault.Wanted R)) k h = absurd h
+types_kept form L bytes now old mid new (Err fault.NoWantedType) k h = absurd h
+types_kept form L bytes now old mid new (Err (fault.Clash path reason)) k h = absurd h
 
-pub types_ended : (L : Bounds) (bytes : List ℕ) (now old mid new : Option (List ℕ))
+pub types_ended : (form : SourceForm) (L : Bounds) (bytes : List ℕ) (now old mid new : Option (List ℕ))
     (answer result : Result (Unit {0}) ToolFault) → Keeps mid new → EndsRun answer result
-    → TypesAnswers L bytes now old mid answer → TypesAnswers L bytes now old new result
-types_ended L bytes now old mid new answer result k (ends_so e) h =
-    subst (λ r. TypesAnswers L bytes now old new r) (sym e) (types_kept L bytes now old mid new answer k h)
-types_ended L bytes now old mid new answer result k (flush_fails o e) h =
-    subst (λ r. TypesAnswers L bytes now old new r) (sym e)
-    (cut (subst (λ r. TypesAnswers L bytes now old mid r) o h))
+    → TypesAnswers form L bytes now old mid answer → TypesAnswers form L bytes now old new result
+types_ended form L bytes now old mid new answer result k (ends_so e) h =
+    subst (λ r. TypesAnswers form L bytes now old new r) (sym e) (types_kept form L bytes now old mid new answer k h)
+types_ended form L bytes now old mid new answer result k (flush_fails o e) h =
+    subst (λ r. TypesAnswers form L bytes now old new r) (sym e)
+    (cut (subst (λ r. TypesAnswers form L bytes now old mid r) o h))
   where
-    cut : EndsWholeGo L bytes now (OfSource L bytes now (Appends old mid))
-        → BeginsGo L bytes (OfSource L bytes now (AppendsPrefix old new))
+    cut : EndsWholeGo L bytes now (OfSource form L bytes now (Appends old mid))
+        → BeginsGo L bytes (OfSource form L bytes now (AppendsPrefix old new))
     cut w = record {
       items = w.items;
       begins = record { prefix = bytes; rest = []; table = w.table; stream = w.stream; whole = sym (append-nil bytes) };

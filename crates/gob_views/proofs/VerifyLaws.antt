@@ -1,5 +1,5 @@
 -- What a check answered is right of the file.
-use Rattle.std.proofs.Common.{◌≡◌, ◌∙◌, ℕ, List, [], ◌∷◌, ◌++◌, Option, Some, Result, Ok, Err, ap, sym, subst}
+use Rattle.std.proofs.Common.{◌≡◌, ◌∙◌, ℕ, List, [], ◌++◌, Option, Some, Result, Ok, Err, ap, sym}
 use Rattle.std.proofs.Common.{append_assoc, codes, encode_utf8_all}
 use Rattle.std.proofs.lemmas.Str.{encodes-chars}
 use Rattle.std.specs.Str.{IsUtf8, chars}
@@ -7,7 +7,6 @@ use Rattle.gob_stream.specs.Bounds.{Bounds}
 use Rattle.gob_tool.specs.CheckingGo.{CheckGoAnswers}
 use Rattle.gob_tool.specs.Checking.{is_accepted, is_cut, is_stopped}
 use Rattle.gob_tool.specs.declared.fault.ToolFault.{ToolFault}
-use Rattle.gob_tool.specs.declared.fault.ToolFault.TheVariants as fault
 use Rattle.gob_words.specs.Escaped.{escaped_text}
 use Rattle.gob_views.specs.Verify.{IsRightOf, IsSaid, told_of}
 

@@ -3,4 +3,5 @@ pub mod Verify
 pub mod Sending
 pub mod Types
 pub mod Running
+pub mod Gathering
 pub mod Machine

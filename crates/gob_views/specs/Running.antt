@@ -15,6 +15,8 @@ use Rattle.gob_words.specs.declared.view.View.{View}
 use Rattle.gob_words.specs.declared.view.ViewCommand.{ViewCommand}
 use Rattle.gob_words.specs.declared.view.ViewCommand.TheVariants as command
 use Rattle.gob_words.specs.Words.{text_of}
+use Rattle.gob_views.specs.declared.types.SourceForm.{SourceForm}
+use Rattle.gob_views.specs.declared.types.SourceForm.TheVariants as form
 use Rattle.gob_views.specs.declared.value_line.ValueLines.{ValueLines}
 use Rattle.gob_views.specs.Sending.{SendsText}
 use Rattle.gob_views.specs.Types.{TypesAnswers}
@@ -42,6 +44,14 @@ explained_by false (Some place) = explained.At place
 abbrev pub view_explained : View → Explained
 view_explained view = explained_by view.fault view.at
 
+-- what is written of types
+abbrev pub form_by : (main : Bool) → SourceForm
+form_by true = form.Program
+form_by false = form.Types
+
+abbrev pub view_form : View → SourceForm
+view_form view = form_by view.main
+
 -- the line that names the program and its version
 abbrev pub version_line : List ℕ
 version_line = codes "gob 0.1.0" ++ 10 ∷ []
@@ -51,7 +61,8 @@ abbrev pub CommandAnswers : ViewCommand → View → (bytes : List ℕ) → (now
     → Result (Unit {0}) ToolFault → Type 0
 CommandAnswers command.Values view bytes now old new result =
     (lines : ValueLines) × AreLinesOf view lines × ValuesAnswers lines (view_limits view) bytes now old new result
-CommandAnswers command.Types view bytes now old new result = TypesAnswers (view_limits view) bytes now old new result
+CommandAnswers command.Types view bytes now old new result =
+    TypesAnswers (view_form view) (view_limits view) bytes now old new result
 CommandAnswers command.Why view bytes now old new result = WhyAnswers (view_limits view) bytes now old new result
 CommandAnswers command.Explain view bytes now old new result =
     ExplainAnswers (view_explained view) (view_limits view) bytes now old new result

@@ -16,6 +16,7 @@
 //! `gob_why` and `gob_salvage`.
 #![tactic(auto)]
 
+mod gathered;
 mod run;
 mod types;
 mod value_line;
@@ -24,7 +25,7 @@ mod verify;
 
 pub use gob_plain::Style;
 pub use run::{limits_of, run_view};
-pub use types::run_types;
+pub use types::{SourceForm, run_types};
 pub use value_line::ValueLines;
 pub use values::run_values;
 pub use verify::{ToldFile, tell_file};

@@ -5,10 +5,11 @@ ghost use Rattle.gob_salvage.specs.Running.{SalvageAnswers};
 ghost use Rattle.gob_stream.specs.Calls.Ends.{failed_reads, failed_writes, reader_of, writer_of};
 ghost use Rattle.gob_tool.specs.Ending.{CountsOnlyWrites};
 ghost use Rattle.gob_tool.specs.Showing.{CountsReadFaults, CountsWriteFaults, IsFlushedSince};
-ghost use Rattle.gob_views.specs.Running.{ViewAnswers, AreLinesOf, version_line, view_explained, view_limits};
+ghost use Rattle.gob_views.specs.Running.{ViewAnswers, AreLinesOf, version_line, view_explained, view_form};
+ghost use Rattle.gob_views.specs.Running.{view_limits};
 ghost use Rattle.gob_views.specs.Sending.{SendsText};
 
-use crate::types::run_types;
+use crate::types::{SourceForm, run_types};
 use crate::value_line::ValueLines;
 use crate::values::run_values;
 use gob_salvage::{Salvaged, run_salvage};
@@ -20,10 +21,10 @@ use std::alloc::Global;
 use std::io::{Read, Write};
 
 /// Shows of the input what the view asks for, under its limits; the run of each command says what that is, and what
-/// each fault means. For [`ViewCommand::Version`] nothing is read, and for
-/// [`ViewCommand::Write`], whose run is gob_write's, nothing is read or written. For [`ViewCommand::Verify`] the input is checked as
-/// by [`ViewCommand::CheckGo`]; of several files [`crate::tell_file`] says this. `told` is, for
-/// [`ViewCommand::Salvage`] alone, where that is Ok, what was kept and what was left out.
+/// each fault means. For [`ViewCommand::Version`] nothing is read, and for [`ViewCommand::Write`], whose run is
+/// gob_write's, nothing is read or written. For [`ViewCommand::Verify`] the input is checked as by
+/// [`ViewCommand::CheckGo`]; of several files [`crate::tell_file`] says this. `told` is, for [`ViewCommand::Salvage`]
+/// alone, where that is Ok, what was kept and what was left out.
 pub fn run_view<R: Read, W: Write>(
     alloc: Global,
     view: &View<'_>,
@@ -46,7 +47,7 @@ pub fn run_view<R: Read, W: Write>(
 {
     match view.command {
         ViewCommand::Values => { run_values(alloc, input, output, limits_of(view), lines_of(view)) }
-        ViewCommand::Types => run_types(alloc, input, output, limits_of(view)),
+        ViewCommand::Types => run_types(alloc, input, output, limits_of(view), form_of(view)),
         ViewCommand::Why => run_why(alloc, input, output, limits_of(view), view.input),
         ViewCommand::Explain => {
             run_explain(alloc, input, output, limits_of(view), explained_of(view))
@@ -107,4 +108,15 @@ fn write_version<W: Write>(output: &mut Output<W>) -> Result<(), ToolFault>
 {
     output.send_all(VERSION.as_bytes())?;
     Ok(output.send_all(b"\n")?)
+}
+
+// What is written of types.
+fn form_of(view: &View<'_>) -> SourceForm
+    ensures { result ≡ view_form view.now }
+{
+    if view.main {
+        SourceForm::Program
+    } else {
+        SourceForm::Types
+    }
 }

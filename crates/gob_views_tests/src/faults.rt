@@ -4,7 +4,7 @@ use crate::devices::{SlowReader, SlowWriter};
 use crate::ending::{Ending, ending_of};
 use gob_stream::{Input, Limits, Output};
 use gob_test_rows::bytes_of;
-use gob_views::{ValueLines, run_types, run_values};
+use gob_views::{SourceForm, ValueLines, run_types, run_values};
 use std::alloc::{AllocError, Global};
 use std::test::*;
 
@@ -35,7 +35,7 @@ fn ends(
             ValueLines::default(),
         )
     } else {
-        run_types(alloc, &mut input, &mut output, limits)
+        run_types(alloc, &mut input, &mut output, limits, SourceForm::Types)
     };
     let due = if of_values { VALUES } else { TYPES };
     let is_prefix = due.starts_with(writer.held.as_slice());

@@ -5,7 +5,7 @@ use gob_num::Memory;
 use gob_stream::{Input, Limits, Output};
 use gob_test_rows::bytes_of;
 use gob_tool::ToolFault;
-use gob_views::{ValueLines, run_types, run_values, run_view, tell_file};
+use gob_views::{SourceForm, ValueLines, run_types, run_values, run_view, tell_file};
 use gob_words::{View, ViewCommand};
 use std::alloc::{AllocError, Global};
 use std::test::*;
@@ -43,7 +43,8 @@ fn writes_types(alloc: Global, row: &Row) -> Result<bool, Memory> {
     let mut written = Vec::new(alloc);
     let mut input = Input::new(bytes.as_slice());
     let mut output = Output::new(&mut written);
-    let ended = run_types(alloc, &mut input, &mut output, Limits::standard());
+    let limits = Limits::standard();
+    let ended = run_types(alloc, &mut input, &mut output, limits, SourceForm::Types);
     let mut due = row.types.as_bytes().to_vec(alloc)?;
     for byte in due.as_mut_slice() {
         if *byte == b'>' {

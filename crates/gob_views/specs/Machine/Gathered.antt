@@ -3,7 +3,10 @@ use Rattle.std.specs.Prelude.{◌≡◌, ℕ, ◌<◌, List, [], ◌++◌, Optio
 use Rattle.gob_types.specs.Base.{base_table}
 use Rattle.gob_types.specs.Table.{Table}
 use Rattle.gob_types.specs.declared.id.TypeId.{TypeId}
+use Rattle.gob_value.specs.Tree.{Tree}
 use Rattle.gob_stream.specs.Bounds.{within_trees}
+use Rattle.gob_tool.specs.Texts.{IsNextWhole}
+use Rattle.gob_go.specs.GoStepping.{go_stepping}
 use Rattle.gob_stream.specs.Reading.{SomeTaken}
 use Rattle.gob_stream.specs.declared.fault.Fault.{Fault}
 use Rattle.gob_stream.specs.declared.fault.Fault.TheVariants as reading
@@ -17,46 +20,80 @@ use Rattle.gob_go.specs.Reading.{LeadsBehind}
 use Rattle.gob_go.specs.declared.item.GoItem.{GoItem}
 use Rattle.gob_go.specs.Calls.Reader.{GoReader}
 use Rattle.gob_go.specs.Ids.{defined_ids, item_ids}
+use Rattle.gob_source.specs.Registered.{each_once}
+use Rattle.gob_views.specs.Gathering.{item_namings, registered_names, value_types, with_item, with_type}
+use Rattle.gob_views.specs.Types.{source_text}
+use Rattle.gob_views.specs.declared.gathered.Gathered.{Gathered}
+use Rattle.gob_views.specs.declared.types.SourceForm.{SourceForm}
 
--- the ids of what is defined by what a step gave stand behind the old ones
-abbrev pub IdsGiven : Option GoItem → (old new : List TypeId) → Type 0
-IdsGiven None old new = new ≡ old
-IdsGiven (Some given) old new = (T : Table) (i : FilledItem) → ItemMeans T given i → new ≡ old ++ item_ids i
+-- a file of this form of what was gathered, where the types are those of the table
+abbrev pub gathered_text : SourceForm → Table → Gathered → List ℕ
+gathered_text form T g = source_text form T g.ids.items g.names g.values.keys
 
--- the ids are those of the types that were read
-pub record GathersSo (r : GoReader) (read now : Option (List ℕ)) (ids : List TypeId) : Type 0 where
+-- nothing was gathered
+abbrev pub IsEmpty : Gathered → Type 0
+IsEmpty g = (g.ids.items ≡ []) × (g.names ≡ []) × (g.values.keys ≡ [])
+
+-- the type of a value was gathered
+abbrev pub TypeGathered : TypeId → (old new : Gathered) → Type 0
+TypeGathered t old new = (new.ids.items ≡ old.ids.items) × (new.names ≡ old.names)
+    × (new.values.keys ≡ with_type old.values.keys t)
+
+-- what this item says was gathered
+abbrev pub ItemGathered : GoItem → (old new : Gathered) → Type 0
+ItemGathered given old new = (T : Table) (i : FilledItem) → ItemMeans T given i
+    → (new.ids.items ≡ old.ids.items ++ item_ids i) × (new.names ≡ each_once old.names (item_namings i))
+    × (new.values.keys ≡ with_item old.values.keys i)
+
+-- and what a step gave
+abbrev pub ItemGiven : Option GoItem → (old new : Gathered) → Type 0
+ItemGiven None old new = new ≡ old
+ItemGiven (Some given) old new = ItemGathered given old new
+
+-- the first bytes that wait are an item of a value of the type, in which no interface holds another
+abbrev pub WaitsWhole : GoReader → TypeId → (used : ℕ) → Type 0
+WaitsWhole r id used = (v : Tree) × IsNextWhole go_stepping r id v used
+
+-- what was gathered is what these items say
+pub record IsGathered (g : Gathered) (items : List FilledItem) : Type 0 where
+  pub ids : g.ids.items ≡ defined_ids items
+  pub names : g.names ≡ registered_names items
+  pub values : g.values.keys ≡ value_types items
+
+-- it is what the items say that were read
+pub record GathersSo (r : GoReader) (read now : Option (List ℕ)) (g : Gathered) : Type 0 where
   pub given : List FilledItem
   pub has : HasReadFrom r read now given
-  pub ids_are : ids ≡ defined_ids given
+  pub gathered : IsGathered g given
 
--- what refused an input that had these bytes: the ids are those of the types of the items before
-pub record GathersUpTo (r : GoReader) (bytes : List ℕ) (now : Option (List ℕ)) (ids : List TypeId) (R : Refusal) : Type
+-- what refused an input that had these bytes: what was gathered is what the items before say
+pub record GathersUpTo (r : GoReader) (bytes : List ℕ) (now : Option (List ℕ)) (g : Gathered) (R : Refusal) : Type
     0 where
   pub given : List FilledItem
   pub outcome : FilledOutcome base_table (within_trees (limits_of (session_of r))) bytes given (refused R)
   pub known : SomeTaken bytes now
       (λ came. LeadsBehind (within_trees (limits_of (session_of r))) came given (types_of (session_of r)))
-  pub ids_are : ids ≡ defined_ids given
+  pub gathered : IsGathered g given
 
 -- all of it was read
-pub record GathersWhole (r : GoReader) (bytes : List ℕ) (now : Option (List ℕ)) (ids : List TypeId) : Type 0 where
+pub record GathersWhole (r : GoReader) (bytes : List ℕ) (now : Option (List ℕ)) (g : Gathered) : Type 0 where
   pub given : List FilledItem
   pub stream : FilledStream base_table (within_trees (limits_of (session_of r))) given bytes (types_of (session_of r))
   pub end : now ≡ Some []
-  pub ids_are : ids ≡ defined_ids given
+  pub gathered : IsGathered g given
 
--- behind another fault nothing is made of the ids
-abbrev pub StopsGathering : GoReader → (read now : Option (List ℕ)) → List TypeId → Fault → Type 0
-StopsGathering r read now ids (reading.Refused R) = (bytes : List ℕ) → read ≡ Some bytes → GathersUpTo r bytes now ids R
-StopsGathering r read now ids _ = Unit {0}
+-- behind another fault nothing is made of it
+abbrev pub StopsGathering : GoReader → (read now : Option (List ℕ)) → Gathered → Fault → Type 0
+StopsGathering r read now g (reading.Refused R) = (bytes : List ℕ) → read ≡ Some bytes → GathersUpTo r bytes now g R
+StopsGathering r read now g _ = Unit {0}
 
 -- some of what waited was taken, and what it defines was gathered
-abbrev pub GathersNext : (r r' : GoReader) → (read now : Option (List ℕ)) → List TypeId → Result (Unit {0}) Fault
+abbrev pub GathersNext : (r r' : GoReader) → (read now : Option (List ℕ)) → Gathered → Result (Unit {0}) Fault
     → Type 0
-GathersNext r r' read now ids (Ok _) =
-    GathersSo r' read now ids × (taken_of (session_of r) < taken_of (session_of r'))
-GathersNext r r' read now ids (Err e) = StopsGathering r' read now ids e
+GathersNext r r' read now g (Ok _) =
+    GathersSo r' read now g × (taken_of (session_of r) < taken_of (session_of r'))
+GathersNext r r' read now g (Err e) = StopsGathering r' read now g e
 
-abbrev pub GathersAll : GoReader → (read now : Option (List ℕ)) → List TypeId → Result (Unit {0}) Fault → Type 0
-GathersAll r read now ids (Ok _) = (bytes : List ℕ) → read ≡ Some bytes → GathersWhole r bytes now ids
-GathersAll r read now ids (Err e) = StopsGathering r read now ids e
+abbrev pub GathersAll : GoReader → (read now : Option (List ℕ)) → Gathered → Result (Unit {0}) Fault → Type 0
+GathersAll r read now g (Ok _) = (bytes : List ℕ) → read ≡ Some bytes → GathersWhole r bytes now g
+GathersAll r read now g (Err e) = StopsGathering r read now g e

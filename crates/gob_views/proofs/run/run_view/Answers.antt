@@ -29,7 +29,7 @@ returns-in-Types-clause-shows g c = λ bytes known.
     let new = g.W.Write.contents (writer_of c.run_types.new.output) in
     let next = g.R.Read.remaining (reader_of c.run_types.new.input) in
     let view = c.args.view.now in
-    let written = rw (c.limits_of-in-Types.ensures, within_view view) at
+    let written = rw (c.limits_of-in-Types.ensures, within_view view, c.form_of.ensures) at
     c.run_types.ensures.written in
     subst (λ x. CommandAnswers x view bytes next old new c.run_types.result) (sym c.in-Types.is) (written bytes known)
 
@@ -102,16 +102,16 @@ pub returns-in-Version-clause-shows : goal.returns-in-Version-clause-shows
 returns-in-Version-clause-shows g c = λ bytes known.
     let old = g.W.Write.contents (writer_of c.args.output.now) in
     let mid = g.W.Write.contents (writer_of c.write_version.new.output) in
-    let new = g.W.Write.contents (writer_of c.end_run.new.output) in
+    let new = g.W.Write.contents (writer_of c.end_run-in-Version.new.output) in
     let view = c.args.view.now in
     subst (λ x. CommandAnswers x view bytes (g.R.Read.remaining (reader_of c.args.input.now)) old new
-    c.end_run.result) (sym c.in-Version.is)
-    (sends_ended old mid new version_line c.write_version.result c.end_run.result c.end_run.ensures.bytes
-    c.end_run.ensures.ends c.write_version.ensures.sent)
+    c.end_run-in-Version.result) (sym c.in-Version.is)
+    (sends_ended old mid new version_line c.write_version.result c.end_run-in-Version.result
+    c.end_run-in-Version.ensures.bytes c.end_run-in-Version.ensures.ends c.write_version.ensures.sent)
 
 pub returns-in-Version-clause-writes : goal.returns-in-Version-clause-writes
 returns-in-Version-clause-writes g c =
-    c.end_run.ensures.writes (failed_writes c.args.output.now) c.write_version.ensures.writes
+    c.end_run-in-Version.ensures.writes (failed_writes c.args.output.now) c.write_version.ensures.writes
 
 pub returns-in-Explain-clause-shows : goal.returns-in-Explain-clause-shows
 returns-in-Explain-clause-shows g c = λ bytes known.
@@ -126,4 +126,4 @@ returns-in-Explain-clause-shows g c = λ bytes known.
 
 pub returns-in-Version-clause-flushed : goal.returns-in-Version-clause-flushed
 returns-in-Version-clause-flushed g c =
-    c.end_run.ensures.flushed (failed_writes c.args.output.now) c.write_version.ensures.writes
+    c.end_run-in-Version.ensures.flushed (failed_writes c.args.output.now) c.write_version.ensures.writes

@@ -1,4 +1,4 @@
--- From turn to turn the ids are those of what was read, and each end is that of the stream.
+-- From turn to turn what was gathered is what the items say that were read, and each end is that of the stream.
 use Rattle.std.proofs.Common.{Bool, ◌∙◌, ap, arith, refl}
 use Rattle.gob_stream.specs.Calls.Ends.{reader_of}
 use Rattle.gob_go.specs.Calls.Reader.{session_of}

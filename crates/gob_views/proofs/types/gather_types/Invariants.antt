@@ -1,4 +1,4 @@
--- The ids of the types that were read are gathered.
+-- What the items say that were read is gathered.
 use Rattle.std.proofs.Common.{◌≡◌, ◌+◌, ◌-◌}
 use Rattle.gob_go.specs.Calls.Session.{limits_of, taken_of}
 use Rattle.gob_stream.specs.Calls.Ends.{failed_reads, reader_of}
@@ -11,7 +11,7 @@ invariant-items g l =
     (limits_of (session_of l.reader) ≡ limits_of (session_of l.fn.reader))
     × (failed_reads l.input ≡ failed_reads l.fn.input)
     × GathersSo l.reader (g.R.Read.remaining (reader_of l.fn.input))
-    (g.R.Read.remaining (reader_of l.input)) l.ids.items
+    (g.R.Read.remaining (reader_of l.input)) l.gathered
 
 abbrev pub decreases-items : goal.decreases-items
 decreases-items g l = (limits_of (session_of l.reader)).stream + 9 - taken_of (session_of l.reader)

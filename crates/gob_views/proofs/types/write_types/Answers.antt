@@ -1,12 +1,12 @@
 -- The source of the types that were read goes out, of a whole stream and of one that is refused.
-use Rattle.std.proofs.Common.{◌∙◌, ap₂}
+use Rattle.std.proofs.Common.{◌∙◌, ap}
 use Rattle.std.proofs.KnownBytes.{Appends-nil}
 use Rattle.gob_types.specs.Defined.{types}
-use Rattle.gob_source.specs.Source.{go_source}
 use Rattle.gob_stream.specs.Bounds.{within_trees}
 use Rattle.gob_stream.specs.Calls.Ends.{reader_of, writer_of}
 use Rattle.gob_tool.specs.declared.fault.ToolFault.TheVariants as fault
 use Rattle.gob_tool.proofs.EndLaws.{at_error}
+use Rattle.gob_views.specs.Machine.Gathered.{gathered_text}
 use Rattle.gob_views.specs.Types.{TypesAnswers}
 use Rattle.gob_views.proofs.TypeRuns.{refused_sent, refused_unsent, up_to_refusal, whole_sent}
 use Rattle.gob_views.proofs.types.write_types.Goals as goal
@@ -15,7 +15,7 @@ pub returns-in_err-reader-clause-written : goal.returns-in_err-reader-clause-wri
 returns-in_err-reader-clause-written g c = λ bytes known.
     let out = g.W.Write.contents (writer_of c.args.output.now) in
     let now = g.R.Read.remaining (reader_of c.args.input.now) in
-    at_error (λ r. TypesAnswers (within_trees c.args.limits) bytes now out out r) c.from_residual.result
+    at_error (λ r. TypesAnswers c.args.form (within_trees c.args.limits) bytes now out out r) c.from_residual.result
     fault.Memory c.from_residual.ensures.1 (Appends-nil out)
 
 pub returns-in-Ok-clause-written : goal.returns-in-Ok-clause-written
@@ -24,10 +24,11 @@ returns-in-Ok-clause-written g c = λ bytes known.
     let new = g.W.Write.contents (writer_of c.send_source.new.output) in
     let now = g.R.Read.remaining (reader_of c.gather_types.new.input) in
     let r = c.gather_types.new.reader in
-    whole_sent c.args.limits r bytes now old new c.gather_types.new.ids.items
-    (go_source (types c.table.result.now) c.deref.result.now) c.send_source.result
+    let has = c.gather_types.new.gathered in
+    whole_sent c.args.form c.args.limits r bytes now old new has
+    (gathered_text c.args.form (types c.table.result.now) has) c.send_source.result
     (c.in-Ok.ensures.limits ∙ c.in_ok-reader.ensures.limits) (c.in-Ok.ensures.gathered bytes known)
-    (ap₂ (λ d ids. go_source (types d) ids) c.table.ensures c.deref.ensures.value) c.send_source.ensures.sent
+    (ap (λ d. gathered_text c.args.form (types d) has) c.table.ensures) c.send_source.ensures.sent
 
 pub returns-in_err-send_source-in-Err-Refused-clause-written :
     goal.returns-in_err-send_source-in-Err-Refused-clause-written
@@ -36,15 +37,16 @@ returns-in_err-send_source-in-Err-Refused-clause-written g c = λ bytes known.
     let new = g.W.Write.contents (writer_of c.send_source-in-Err-Refused.new.output) in
     let now = g.R.Read.remaining (reader_of c.gather_types.new.input) in
     let r = c.gather_types.new.reader in
+    let has = c.gather_types.new.gathered in
     let f = c.in_err-send_source-in-Err-Refused.field-0.0 in
-    at_error (λ res. TypesAnswers (within_trees c.args.limits) bytes now old new res)
+    at_error (λ res. TypesAnswers c.args.form (within_trees c.args.limits) bytes now old new res)
     c.from_residual-in_err-send_source-in-Err-Refused.result f
     c.from_residual-in_err-send_source-in-Err-Refused.ensures.1
-    (refused_unsent c.args.limits r bytes now old new c.gather_types.new.ids.items
-    (go_source (types c.table-in-Err-Refused.result.now) c.deref-in-Err-Refused.result.now) c.in-Err-Refused.refusal f
+    (refused_unsent c.args.form c.args.limits r bytes now old new has
+    (gathered_text c.args.form (types c.table-in-Err-Refused.result.now) has) c.in-Err-Refused.refusal f
     (c.in-Err-Refused.ensures.limits ∙ c.in_ok-reader.ensures.limits) (up_to_refusal r _ now _ c.in-Err-Refused.field-0
     c.in-Err-Refused.refusal c.in-Err-Refused.field-0-is c.in-Err-Refused.ensures.gathered bytes known)
-    (ap₂ (λ d ids. go_source (types d) ids) c.table-in-Err-Refused.ensures c.deref-in-Err-Refused.ensures.value)
+    (ap (λ d. gathered_text c.args.form (types d) has) c.table-in-Err-Refused.ensures)
     c.in_err-send_source-in-Err-Refused.ensures.sent)
 
 pub returns-in-Err-Refused-clause-written : goal.returns-in-Err-Refused-clause-written
@@ -53,9 +55,10 @@ returns-in-Err-Refused-clause-written g c = λ bytes known.
     let new = g.W.Write.contents (writer_of c.send_source-in-Err-Refused.new.output) in
     let now = g.R.Read.remaining (reader_of c.gather_types.new.input) in
     let r = c.gather_types.new.reader in
-    refused_sent c.args.limits r bytes now old new c.gather_types.new.ids.items
-    (go_source (types c.table-in-Err-Refused.result.now) c.deref-in-Err-Refused.result.now) c.in-Err-Refused.refusal
+    let has = c.gather_types.new.gathered in
+    refused_sent c.args.form c.args.limits r bytes now old new has
+    (gathered_text c.args.form (types c.table-in-Err-Refused.result.now) has) c.in-Err-Refused.refusal
     (c.in-Err-Refused.ensures.limits ∙ c.in_ok-reader.ensures.limits) (up_to_refusal r _ now _ c.in-Err-Refused.field-0
     c.in-Err-Refused.refusal c.in-Err-Refused.field-0-is c.in-Err-Refused.ensures.gathered bytes known)
-    (ap₂ (λ d ids. go_source (types d) ids) c.table-in-Err-Refused.ensures c.deref-in-Err-Refused.ensures.value)
+    (ap (λ d. gathered_text c.args.form (types d) has) c.table-in-Err-Refused.ensures)
     c.in_ok-send_source-in-Err-Refused.ensures.sent

@@ -1,5 +1,5 @@
 -- The line is that of the JSON, or of the JSON under the name of the type.
-use Rattle.std.proofs.Common.{◌≡◌, ℕ, List, subst, sym}
+use Rattle.std.proofs.Common.{ℕ, List, subst, sym}
 use Rattle.std.proofs.lemmas.Result.{on_ok_weaker}
 use Rattle.gob_plain.specs.declared.style.Taken.{Taken}
 use Rattle.gob_views.specs.Values.{AreTaken}
