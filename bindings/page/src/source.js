@@ -1,8 +1,9 @@
-// Types as Go source: what `gob types` prints, as docs/FORMAT.md says under Types as source.
+// Types as Go source, as docs/FORMAT.md has it under Types as source, but for registered names.
 
 const RESERVED = new Set(("break case chan const continue default defer else fallthrough for func go goto if import " +
     "interface map package range return select struct switch type var bool int uint float64 byte string complex128 " +
-    "error nil big netip time url value data _ init main").split(" "));
+    "error nil big netip time url value data _ init main bufio gob json fmt io log os reflect int64 uint64 copy len new " +
+    "newValue nextType readNumber typeID").split(" "));
 // a longer name counts as none, in bytes
 const LONGEST = 255;
 // the types of Go's library that encode themselves, by how and their names, and the packages by their paths

@@ -27,6 +27,8 @@ import streams  # noqa: E402
 from chromium import Page  # noqa: E402
 
 SEED, MUTANTS = 52, 300
+# what gob types says of the names under which types fill interfaces, which nothing here keeps
+NAMES = re.compile(r"^// registered as .*\n|\n(?:// \S+ is registered as .*\n)+", re.MULTILINE)
 ANSWERS = """(async () => {
     const text = async (kind) => (await linesOf(kind)).text();
     const { told } = shown, { refusal } = told;
@@ -100,7 +102,7 @@ class Tests:
         fault = [1, *map(int, found.groups())] if found else [0]
         due = {
             "state": "refused" if found else "whole", "line": line, "fault": fault, "show": lines,
-            "values": self.printed("values", path)[0], "types": self.printed("types", path)[0],
+            "values": self.printed("values", path)[0], "types": NAMES.sub("", self.printed("types", path)[0]),
         }
         differing = [part for part in due if answer[part] != due[part]]
         self.due(f"{name} is read as by the program", not differing, data.hex(), differing,

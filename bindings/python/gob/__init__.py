@@ -443,7 +443,7 @@ def types(source: Source, *, piece: int = 1 << 20, **options: Any) -> dict[int, 
 
 
 def source(types: Mapping[int, Type]) -> str:
-    """Go source that declares these types, as `gob types` prints it: a file that compiles, in ASCII."""
+    """Go source that declares these types: a file that compiles, in ASCII, as `gob types` but for registered names."""
     return _Declared(types).text()
 
 

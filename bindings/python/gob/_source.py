@@ -1,4 +1,4 @@
-"""Types as Go source: the text of `gob types`, as docs/FORMAT.md has it under Types as source."""
+"""Types as Go source, as docs/FORMAT.md has it under Types as source, but for registered names."""
 from __future__ import annotations
 
 import re
@@ -10,7 +10,8 @@ from ._types import BASIC, Field, Type
 _RESERVED = frozenset("""
     break case chan const continue default defer else fallthrough for func go goto if import interface map package range
     return select struct switch type var bool int uint float64 byte string complex128 error nil big
-    netip time url value data _ init main
+    netip time url value data _ init main bufio gob json fmt io log os reflect int64 uint64 copy len new newValue
+    nextType readNumber typeID
 """.split())
 # a longer name counts as none, in bytes of UTF-8
 _LONGEST = 255
