@@ -1,13 +1,13 @@
 //! Writing a stream item by item.
 
-ghost use Rattle.std.specs.Prelude.{IfOk};
+ghost use Rattle.std.specs.Prelude.{◌≡◌, IfOk};
 ghost use Rattle.gob_value.specs.Tree.{Tree};
 ghost use Rattle.gob_value.specs.View.{view};
 ghost use Rattle.gob_stream.specs.Bounds.{within_trees};
 ghost use Rattle.gob_stream.specs.Calls.Ends.{writer_of};
 ghost use Rattle.gob_stream.specs.Item.{defines, puts, item_view};
 ghost use Rattle.gob_stream.specs.Calls.Writing.{IsNew, WritesNext, WriteAnswers, WriteEffects};
-ghost use Rattle.gob_stream.specs.Calls.Writing.{IsSpelling, IsSpelledAs, writer_limits, writer_types};
+ghost use Rattle.gob_stream.specs.Calls.Writing.{IsSpelling, IsSpelledAs, writer_limits, writer_table, writer_types};
 
 use crate::denial::define_admitted;
 use crate::fault::WriteFault;
@@ -84,6 +84,13 @@ impl StreamWriter {
             body: Vec::new(alloc),
             item: Vec::new(alloc),
         })
+    }
+
+    /// The types that the stream has defined so far.
+    pub fn table(&self) -> &Table
+        ensures { result.now ≡ writer_table self.now }
+    {
+        &self.types
     }
 
     /// Writes the definition of a type, by its description, a value of type 16. Refused, in this order: an id below

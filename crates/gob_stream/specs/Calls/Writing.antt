@@ -4,7 +4,7 @@ use Rattle.std.specs.Prelude.{Some, Result, Ok, Err}
 use Rattle.std.specs.Io.KnownBytes.{Appends, Keeps}
 use Rattle.gob_types.specs.Table.{Table}
 use Rattle.gob_types.specs.Base.{base_table}
-use Rattle.gob_types.specs.Defined.{types}
+use Rattle.gob_types.specs.Defined.{Defined, types}
 use Rattle.gob_num.specs.Unsigned.{IsUnsigned}
 use Rattle.gob_num.specs.Signed.{IsSigned}
 use Rattle.gob_types.specs.declared.id.TypeId.{TypeId}
@@ -34,6 +34,9 @@ HasWriterFailed w = w.place.failed ≡ true
 -- what it keeps to, and the types of its stream so far
 abbrev pub writer_limits : WriterState → Bounds
 writer_limits w = w.limits
+
+abbrev pub writer_table : WriterState → Defined
+writer_table w = w.types
 
 abbrev pub writer_types : WriterState → Table
 writer_types w = types w.types
