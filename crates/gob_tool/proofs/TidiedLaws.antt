@@ -1,6 +1,7 @@
 -- What is made of an item of a stream is its tidy form.
 use Rattle.std.proofs.Common.{◌≡◌, ℕ, ℤ, pos, negsuc, ◌+◌, ◌<◌, ◌≤◌, ◌^◌, arith, List, [], ◌∷◌, ◌++◌, ◌∙◌, ap, sym}
-use Rattle.std.proofs.Common.{subst, refl, length, length-append, Option, Some, None, Result, Ok, Err, OnOk, OnErr, IfErr}
+use Rattle.std.proofs.Common.{subst, refl, length, length-append, Option, Some, None}
+use Rattle.std.proofs.Common.{Result, Ok, Err, OnOk, OnErr, IfErr}
 use Rattle.std.specs.Io.KnownBytes as known
 use Rattle.std.specs.Result.{IsErrAnd}
 use Rattle.std.proofs.lemmas.Int.{ints}
@@ -41,7 +42,8 @@ use Rattle.gob_tape.specs.Meaning.{Means, MeansFitting}
 use Rattle.gob_tape.specs.declared.tape.Tape.{Tape}
 use Rattle.gob_tape.specs.declared.tape_builder.TapeBuilder.{TapeBuilder}
 use Rattle.gob_tidy.specs.TidiedWhole.{TidiesWhole}
-use Rattle.gob_tool.specs.Machine.Rewritten.{IsHead, IsLastOfStream, IsNumbered, IsTidyItem, IsTidyText, spells_definition}
+use Rattle.gob_tool.specs.Machine.Rewritten.{IsHead, IsLastOfStream, IsNumbered, IsTidyItem, IsTidyText}
+use Rattle.gob_tool.specs.Machine.Rewritten.{spells_definition}
 use Rattle.gob_tool.specs.Machine.Rewritten.{SendsNumbered, SendsTidy, is_tidy_of_value, spells_value}
 use Rattle.gob_tool.specs.Sending.{Sends}
 use Rattle.gob_tool.specs.Texts.{IsGiven, IsWholeText}

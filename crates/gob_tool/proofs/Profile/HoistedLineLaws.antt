@@ -8,7 +8,7 @@ use Rattle.gob_stream.specs.Item.{defines}
 use Rattle.gob_filled.specs.Filled.{Definitions, no_definitions, definition, Filled, filled, Fillings, no_filling}
 use Rattle.gob_filled.specs.Filled.{filling}
 use Rattle.gob_filled.specs.Stream.{FilledItem, defining, putting}
-use Rattle.gob_go_json.specs.FilledJson.{FilledShows, filled_shows, FillingsShow, none_left, then_shown}
+use Rattle.gob_json_writer.specs.FilledJson.{FilledShows, filled_shows, FillingsShow, none_left, then_shown}
 use Rattle.gob_go_writer.specs.Hoisting.{defining_items, filling_items, fillings_without, hoisted, inner_items}
 use Rattle.gob_go_writer.specs.Hoisting.{without_definitions}
 use Rattle.gob_tool.specs.Line.{line}

@@ -24,8 +24,8 @@ use Rattle.gob_go.specs.declared.filled.Definition.{Definition}
 use Rattle.gob_go.specs.declared.filled.Filled.{Filled, out-Filled}
 use Rattle.gob_go.specs.declared.filled.Filling.{Filling, out-Filling}
 use Rattle.gob_tool.specs.Line.{line}
-use Rattle.gob_go_json.specs.FilledJson.{FilledShows}
-use Rattle.gob_go_json.proofs.ShownLaws.{shows_as_ever}
+use Rattle.gob_json_writer.specs.FilledJson.{FilledShows}
+use Rattle.gob_json_writer.proofs.ShownLaws.{shows_as_ever}
 use Rattle.gob_go.proofs.IdLaws.{item_left}
 use Rattle.gob_tool.specs.LineGo.{definition_lines, filling_lines, inner_lines, value_line}
 use Rattle.gob_tool.specs.Machine.LinesGo.{LinesGiven, ShowsInLines}

@@ -8,7 +8,7 @@ use Rattle.gob_go.specs.Calls.Session.{limits_of}
 use Rattle.gob_go.specs.GoStepping.{go_stepping}
 use Rattle.gob_filled.specs.Outcome.{profile}
 use Rattle.gob_filled.specs.Stream.{FilledItem, defining, putting, FilledStream}
-use Rattle.gob_go_json.proofs.ShownLaws.{stream_shown}
+use Rattle.gob_json_writer.proofs.ShownLaws.{stream_shown}
 use Rattle.gob_tool.specs.declared.fault.ToolFault.{ToolFault}
 use Rattle.gob_tool.proofs.TextLaws.{texts_are}
 use Rattle.gob_tool.specs.LineGo.{IsLinesOf}

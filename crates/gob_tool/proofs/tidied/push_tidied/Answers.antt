@@ -9,7 +9,8 @@ use Rattle.gob_tool.proofs.tidied.push_tidied.Goals as goal
 pub push_tidy_definition-requires-clause-of_stream : goal.push_tidy_definition-requires-clause-of_stream
 push_tidy_definition-requires-clause-of_stream c =
     let x = given_last c.requires.of_stream in
-    subst (λ (i : StreamItem). IsLastOfStream (types c.args.table.now) i) (sym (definition_meant x.means c.in-Define.is))
+    subst (λ (i : StreamItem). IsLastOfStream (types c.args.table.now) i)
+    (sym (definition_meant x.means c.in-Define.is))
     x.last
 
 pub push_tidy_value-pushed-requires-clause-of_stream : goal.push_tidy_value-pushed-requires-clause-of_stream

@@ -4,7 +4,7 @@ use Rattle.json.specs.Tree.{json_tokens}
 use Rattle.serde_json.specs.Written.{outline}
 use Rattle.gob_types.specs.Defined.{types}
 use Rattle.gob_json_writer.specs.NilsJson.{put_json_with}
-use Rattle.gob_go_json.specs.FilledJson.{put_shows}
+use Rattle.gob_json_writer.specs.FilledJson.{put_shows}
 use Rattle.gob_tool.proofs.Profile.LineLaws.{line_printed}
 use Rattle.gob_tool.proofs.go.item_lines.push_value.Goals as goal
 
