@@ -16,7 +16,7 @@ use Rattle.gob_filled.specs.Filled as spelled
 use Rattle.gob_go.specs.Meaning.{IsFilled, is_filled, AreFillings, no_fillings, filling_then}
 use Rattle.gob_go.specs.declared.filled.Filled.{Filled, out-Filled}
 use Rattle.gob_go.specs.declared.filled.Filling.{Filling, out-Filling}
-use Rattle.gob_go_json.specs.Gaps.{AreGaps, gap_before}
+use Rattle.gob_json_writer.specs.Gaps.{AreGaps, gap_before}
 use Rattle.gob_handed.specs.ValueNodes.{PutsValue, puts_value, PutsFillings, puts_none, puts_filling, PutsHeld}
 use Rattle.gob_handed.specs.ValueNodes.{puts_held, behind, text_node, held_node}
 use Rattle.gob_handed.specs.Machine.Putting.{HoldsNil}

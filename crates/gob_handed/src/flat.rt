@@ -7,12 +7,12 @@ ghost use Rattle.gob_tape.specs.FlatNodes.{flat};
 ghost use Rattle.gob_filled.specs.Filled as spelled;
 ghost use Rattle.gob_go.specs.Meaning.{AreFillings, IsFilled};
 ghost use Rattle.gob_go.specs.declared.filled.Filling.{out-Filling};
-ghost use Rattle.gob_go_json.specs.Gaps.{AreGaps};
+ghost use Rattle.gob_json_writer.specs.Gaps.{AreGaps};
 ghost use Rattle.gob_handed.specs.ValueNodes.{PutsValue, PutsFillings, PutsHeld, behind, begun, text_node};
 ghost use Rattle.gob_handed.specs.Machine.Putting.{HoldsNil};
 
 use gob_go::{Filled, Filling};
-use gob_go_json::{gaps_of, tape_of};
+use gob_json_writer::{gaps_of, tape_of};
 use gob_num::Memory;
 use gob_tape::{FlatNode, Tape};
 use gob_types::{Table, TypeId};

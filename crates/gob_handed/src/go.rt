@@ -15,7 +15,7 @@ use crate::flat::{FlatValue, push_value};
 use crate::handout::{Content, Handout, Span, push_definitions, push_handout};
 use crate::hands::Hands;
 use gob_go::{Filled, GoItem, GoSession, push_inner_ids};
-use gob_go_json::tape_of;
+use gob_json_writer::tape_of;
 use gob_num::Memory;
 use gob_types::{Table, TypeId};
 use std::alloc::Global;

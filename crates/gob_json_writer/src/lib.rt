@@ -4,11 +4,21 @@
 //!   the other of a tape.
 //! - [`write_filled_tape`] tells it a value of a tape whose interfaces may hold others: [`Nils`] says what stands in
 //!   its nils.
+//! - [`write_filled`] tells it a value of a stream of Go's encoder with its type, and with what its interfaces hold.
+//! - [`tape_of`] and [`gaps_of`] read a skeleton anew: its tape, and in which of its parts the fillings stand.
 //! - [`write_definition`] tells it the shape of a type: `{"define":65,"elem":2,"kind":"slice","name":""}`.
+//! - [`laws`] has what the definitions in `specs/` entail: each value of a stream of Go's encoder shows one JSON.
+//!
+//! ```text
+//! 0a 10 00 03 69 6e 74 04 02 00 0a        an item: the int 5 in an interface, under the name int
+//! {"type":8,"value":{"interface":{"name":"int","type":2,"value":5}}}
+//! ```
 #![tactic(auto)]
 
 mod definition_json;
+mod go;
 mod held;
+pub mod laws;
 mod leaf;
 mod nils;
 mod part_types;
@@ -16,6 +26,7 @@ mod tape_json;
 mod value_json;
 
 pub use definition_json::write_definition;
+pub use go::{gaps_of, tape_of, write_filled};
 pub use held::Held;
 pub use leaf::write_text;
 pub use nils::{Empty, Nils};

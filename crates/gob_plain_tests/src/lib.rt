@@ -6,6 +6,8 @@
 #[cfg(test)]
 mod filled_values;
 #[cfg(test)]
+mod go;
+#[cfg(test)]
 mod opaque_rows;
 #[cfg(test)]
 mod rows;

@@ -12,7 +12,7 @@ use Rattle.gob_filled.specs.Filled.{Definitions, no_definitions, definition, Fil
 use Rattle.gob_filled.specs.Filled.{Fillings, no_filling, filling}
 use Rattle.gob_filled.specs.Stream.{FilledItem, defining, putting}
 use Rattle.gob_json_writer.specs.NilsJson.{put_json_with}
-use Rattle.gob_go_json.specs.FilledJson.{FilledShows}
+use Rattle.gob_json_writer.specs.FilledJson.{FilledShows}
 use Rattle.gob_tool.specs.Line.{line}
 
 -- those of definitions, by the shapes that the table has
@@ -35,7 +35,7 @@ abbrev pub value_line : Table → TypeId → Tree → (ℕ → Data) → List �
 value_line T id v N = compact_text (put_json_with N T id v) ++ 10 ∷ []
 
 -- the text is the lines of a value, behind which the types are those of the table: it shows this tree, and its nils
--- these. Each value of a stream shows some, and no others: `values_show` and `values_show_once` of gob_go_json.
+-- these. Each value of a stream shows some, and no others: `values_show` and `values_show_once` of gob_json_writer.
 pub record AreLinesOfValue (T : Table) (id : TypeId) (w : Filled) (text : List ℕ) : Type 0 where
   pub value : Tree
   pub nils : ℕ → Data

@@ -22,8 +22,8 @@ use Rattle.gob_go.specs.declared.filled.Filled.{Filled}
 use Rattle.gob_go.specs.declared.item.GoItem.{GoItem}
 use Rattle.gob_go.specs.declared.item.GoItem.TheVariants as item
 use Rattle.gob_go.specs.Calls.Reader.{GoReader}
-use Rattle.gob_go_plain.specs.Filled.{SaysFilled}
-use Rattle.gob_go_plain.proofs.PublicLaws.{says_unfilled}
+use Rattle.gob_plain.specs.HeldPlain.{SaysFilled}
+use Rattle.gob_plain.proofs.PublicLaws.{says_unfilled}
 use Rattle.gob_tool.specs.TextsGo.{IsWholeText}
 use Rattle.gob_tool.proofs.Profile.TextLaws.{whole_text}
 use Rattle.gob_views.specs.Machine.Tapes.{IsTapeOf}

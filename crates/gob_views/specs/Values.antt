@@ -11,7 +11,7 @@ use Rattle.gob_types.specs.Table.{Table, shape_of}
 use Rattle.gob_types.specs.declared.kind.Shape.{Shape}
 use Rattle.gob_stream.specs.Bounds.{Bounds}
 use Rattle.gob_filled.specs.Stream.{FilledItem, defining, putting}
-use Rattle.gob_go_plain.specs.Filled.{SaysFilled, tagged_json}
+use Rattle.gob_plain.specs.HeldPlain.{SaysFilled, tagged_json}
 use Rattle.gob_tool.specs.declared.fault.ToolFault.{ToolFault}
 use Rattle.gob_tool.specs.TextsGo.{TextsAnswers}
 use Rattle.gob_words.specs.Words.{IsNumber, text_of}

@@ -12,15 +12,14 @@ ghost use Rattle.gob_value.specs.Tree.{Tree};
 ghost use Rattle.gob_plain.specs.Filled.{SaysIn};
 ghost use Rattle.gob_filled.specs.Filled as spelled;
 ghost use Rattle.gob_go.specs.Meaning.{IsFilled};
-ghost use Rattle.gob_go_plain.specs.Filled.{SaysFilled, tagged_json};
+ghost use Rattle.gob_plain.specs.HeldPlain.{SaysFilled, tagged_json};
 ghost use Rattle.gob_words.specs.Words.{text_of};
 ghost use Rattle.gob_views.specs.Values.{AreTaken, IsChosen, IsLineOf, IsStyleOf, SaysStyled, content_of, shown_json};
 ghost use Rattle.gob_views.specs.Values.{type_name};
 
 use gob_go::Filled;
-use gob_go_plain::filled_text;
 use gob_num::Memory;
-use gob_plain::{Content, Filler, Fillers, Nils, Style, Taken, plain_text};
+use gob_plain::{Content, Filler, Fillers, Nils, Style, Taken, filled_text, plain_text};
 use gob_tape::Tape;
 use gob_types::{Shapes, Table, TypeId};
 use gob_words::{OpaqueKind, TypeKind, number_of};

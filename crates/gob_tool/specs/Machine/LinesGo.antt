@@ -7,7 +7,7 @@ use Rattle.gob_stream.specs.Item.{defines}
 use Rattle.gob_filled.specs.Stream.{FilledItem, defining, putting}
 use Rattle.gob_go.specs.Meaning.{ItemMeans}
 use Rattle.gob_go.specs.declared.item.GoItem.{GoItem}
-use Rattle.gob_go_json.specs.FilledJson.{FilledShows}
+use Rattle.gob_json_writer.specs.FilledJson.{FilledShows}
 use Rattle.gob_tool.specs.Line.{line}
 use Rattle.gob_tool.specs.LineGo.{inner_lines, value_line}
 

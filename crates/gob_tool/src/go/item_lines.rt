@@ -10,14 +10,13 @@ ghost use Rattle.gob_stream.specs.Item.{defines};
 ghost use Rattle.gob_filled.specs.Filled as spelled;
 ghost use Rattle.gob_go.specs.Meaning.{IsFilled, definitions_of};
 ghost use Rattle.gob_go.specs.declared.filled.Filling.{out-Filling};
-ghost use Rattle.gob_go_json.specs.FilledJson.{FilledShows};
+ghost use Rattle.gob_json_writer.specs.FilledJson.{FilledShows};
 ghost use Rattle.gob_tool.specs.Line.{line};
 ghost use Rattle.gob_tool.specs.LineGo.{definition_lines, inner_lines, value_line};
 ghost use Rattle.gob_tool.specs.Machine.LinesGo.{LinesGiven};
 
 use gob_go::{Definition, Filled, Filling, GoItem};
-use gob_go_json::write_filled;
-use gob_json_writer::write_definition;
+use gob_json_writer::{write_definition, write_filled};
 use gob_num::Memory;
 use gob_types::{Shapes, Table, TypeId};
 use json::Writer;

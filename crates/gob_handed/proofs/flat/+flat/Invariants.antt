@@ -3,7 +3,7 @@ use Rattle.gob_types.specs.Defined.{types}
 use Rattle.gob_types.specs.declared.id.TypeId.{TypeId}
 use Rattle.gob_filled.specs.Filled.{Fillings}
 use Rattle.gob_go.specs.Meaning.{AreFillings}
-use Rattle.gob_go_json.specs.Gaps.{AreGaps}
+use Rattle.gob_json_writer.specs.Gaps.{AreGaps}
 use Rattle.gob_handed.proofs.FillingLaws.{AreLeft}
 use Rattle.gob_handed.proofs.flat.+flat.Given as goal
 

@@ -1,6 +1,0 @@
-mod GapsLaws
-mod HoldingLaws
-mod LevelLaws
-mod OnceLaws
-mod PartOrder
-pub mod ShownLaws

@@ -1,5 +1,0 @@
-use Rattle.gob_go_json.proofs.OnceLaws.{shown_once}
-use Rattle.gob_go_json.proofs.laws.values_show_once.Goals as goal
-
-pub returns : goal.returns
-returns c T t w v other M N a b = shown_once a b

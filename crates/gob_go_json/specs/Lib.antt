@@ -1,4 +1,0 @@
-pub mod FilledJson
-pub mod Gaps
-pub mod Laws
-pub mod Machine

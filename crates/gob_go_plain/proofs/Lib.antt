@@ -1,4 +1,0 @@
-mod NilLaws
-mod PlacingLaws
-mod FilledLaws
-pub mod PublicLaws

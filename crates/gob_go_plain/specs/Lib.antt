@@ -1,3 +1,0 @@
-pub mod Filled
-pub mod Laws
-pub mod Machine

@@ -1,0 +1,7 @@
+//! Values of streams of Go's encoder as plain JSON: an interface is shown as what it holds.
+
+mod nils;
+mod placing;
+mod text;
+
+pub use text::filled_text;
