@@ -98,6 +98,7 @@ pub record IsViewOf (met : Option (Text × List Row)) (view : View) : Type 0 whe
   pub tagged : IsFlagOf view.command (first_of (codes "tagged") rows) view.tagged
   pub typed : IsFlagOf view.command (first_of (codes "typed") rows) view.typed
   pub only : IsOnlyOf view.command (first_of (codes "only") rows) (text_of view.only)
+  pub each : IsGiven (first_of (codes "each") rows) view.each
   pub kinds : SayKinds (kind_words_in met) view.kinds.items
   pub main : IsGiven (first_of (codes "main") rows) view.main
   pub progress : IsGiven (first_of (codes "progress") rows) view.progress
@@ -112,7 +113,7 @@ abbrev pub IsVersionView : View → Type 0
 IsVersionView given = (given.command ≡ view.Version) × (given.input ≡ None) × (given.depth ≡ 1000)
     × (given.item ≡ 67108864) × (given.zeros ≡ false) × (given.raw ≡ false) × (given.tagged ≡ false)
     × (given.typed ≡ false) × (given.only ≡ None) × (given.hoist ≡ false) × (given.fault ≡ false) × (given.at ≡ None)
-    × (given.kinds.items ≡ []) × (given.main ≡ false) × (given.progress ≡ false)
+    × (given.each ≡ false) × (given.kinds.items ≡ []) × (given.main ≡ false) × (given.progress ≡ false)
 
 -- the files that a command's words name, in order, where it takes some
 abbrev pub files_in : Option (Text × List Row) → List Text

@@ -71,12 +71,12 @@ abbrev pub kinds_rule : Rule
 kinds_rule = record (option_rule (codes "as")) { action = Some Append }
 
 -- the flag for a line an element, the option for what bytes are, and the flag for progress
-abbrev pub with_kinds : App → App
-with_kinds app = with_progress (with_rule app kinds_rule)
+abbrev pub with_elements : App → App
+with_elements app = with_progress (with_rule (with_rule app (flag_rule (codes "each"))) kinds_rule)
 
 -- the command that shows values
 abbrev pub values : App
-values = with_input (with_kinds (with_types (with_flags (with_options (codes "values")))))
+values = with_input (with_elements (with_types (with_flags (with_options (codes "values")))))
 
 -- the command that shows types, with the flag for a program
 abbrev pub types : App

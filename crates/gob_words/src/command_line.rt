@@ -5,7 +5,7 @@ ghost use Rattle.clap.specs.Words.{App, app_of, rule_of, with_subcommand};
 ghost use Rattle.clap.specs.declared.builder.Command.TheViews.{out-Command};
 ghost use Rattle.gob_words.specs.Words.{flag_rule, option_rule, with_flags, with_options, with_input, one_stream};
 ghost use Rattle.gob_words.specs.Words.{explain, go_stream, people_program, program, rewrite, two_streams, values};
-ghost use Rattle.gob_words.specs.Words.{kinds_rule, types, verify, with_kinds, with_go_flags, with_parts};
+ghost use Rattle.gob_words.specs.Words.{kinds_rule, types, verify, with_elements, with_go_flags, with_parts};
 ghost use Rattle.gob_words.specs.Words.{with_progress, with_types};
 
 use crate::help;
@@ -61,7 +61,7 @@ fn values<'a>(alloc: Global) -> Result<Command<'a>, AllocError>
     let options = with_options(alloc, "values", help::VALUES, help::DEPTH)?;
     let flagged = with_flags(alloc, options)?;
     let typed = with_types(alloc, flagged)?;
-    with_input(alloc, with_kinds(alloc, typed)?, help::FILE)
+    with_input(alloc, with_elements(alloc, typed)?, help::FILE)
 }
 
 // The command that shows types, with the flag for a program behind the options that other commands have too.
@@ -216,13 +216,14 @@ fn with_types<'a>(alloc: Global, command: Command<'a>) -> Result<Command<'a>, Al
         .arg(option(alloc, "only", "TYPE", help::ONLY))
 }
 
-// The command with the option that says what bytes are, and the flag for progress.
-fn with_kinds<'a>(alloc: Global, command: Command<'a>) -> Result<Command<'a>, AllocError>
+// The command with the flag for a line an element, the option that says what bytes are, and the flag for progress.
+fn with_elements<'a>(alloc: Global, command: Command<'a>) -> Result<Command<'a>, AllocError>
     requires { (out-Command command).has_globals ≡ false }
-    ensures app { IfOk result (λ more. app_of more ≡ with_kinds (app_of command.entry)) }
+    ensures app { IfOk result (λ more. app_of more ≡ with_elements (app_of command.entry)) }
     ensures local { IfOk result (λ more. (out-Command more).has_globals ≡ false) }
 {
-    with_progress(alloc, command.arg(kinds(alloc))?)
+    let flagged = command.arg(flag(alloc, "each", help::EACH))?;
+    with_progress(alloc, flagged.arg(kinds(alloc))?)
 }
 
 // The option that says what the bytes of a type are: of several types where it is given several times.

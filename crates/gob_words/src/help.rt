@@ -61,6 +61,9 @@ pub(crate) const TYPED: &str = "Show each value as {\"NAME\":value}, by its type
 
 pub(crate) const ONLY: &str = "Show only the values of the type of this name or id";
 
+pub(crate) const EACH: &str =
+    "Show each element of a list or a map on a line of its own, in place of the whole value";
+
 pub(crate) const AS: &str =
     "Take the bytes of the type of this id for: time.Time, big.Int, big.Float, \
     big.Rat, uuid, netip.Addr, text or base64";

@@ -62,6 +62,8 @@ pub struct View<'a> {
     pub typed: bool,
     /// The name or the id of the type whose values alone are shown: for [`ViewCommand::Values`] alone.
     pub only: Option<&'a str>,
+    /// Whether each element of a list or a map is shown on a line of its own: for [`ViewCommand::Values`] alone.
+    pub each: bool,
     /// What is said of types whose values encode themselves, in the order of the words; of two that say something of
     /// one type, the later counts. For [`ViewCommand::Values`] alone.
     pub kinds: Vec<TypeKind>,

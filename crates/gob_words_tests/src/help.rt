@@ -84,6 +84,7 @@ where it is -,
 pandas
 --typed 
 --only <TYPE>
+--each 
 --as <ID=KIND>
 time.Time, big.Int, big.Float, big.Rat, uuid, netip.Addr, text or base64
 --progress 

@@ -62,12 +62,12 @@ verify a.gob b.gob
 Verify None 1000 67108864 None
 verify --depth 5 --item 0 -- --go
 Verify None 5 0 None
-values --progress f
-Values Some("f") 1000 67108864 None progress
+values --each --progress f
+Values Some("f") 1000 67108864 None each progress
 values --as 66=big.Int f
 Values Some("f") 1000 67108864 None as 66=BigInt
-values --as=66=text --as 0067=netip.Addr --as 66=base64 -
-Values None 1000 67108864 None as 66=Text 67=NetipAddr 66=Base64
+values --as=66=text --as 0067=netip.Addr --each --as 66=base64 -
+Values None 1000 67108864 None each as 66=Text 67=NetipAddr 66=Base64
 values --as 1=time.Time --as 2=big.Float --as 3=big.Rat --as 18446744073709551615=uuid
 Values None 1000 67108864 None as 1=Time 2=BigFloat 3=BigRat 18446744073709551615=Uuid
 types --main f
@@ -114,6 +114,7 @@ fn shown(alloc: Global, view: &View<'_>) -> Result<String, AllocError> {
         (view.raw, " raw"),
         (view.tagged, " tagged"),
         (view.typed, " typed"),
+        (view.each, " each"),
         (view.main, " main"),
         (view.progress, " progress"),
         (view.hoist, " hoist"),
@@ -251,6 +252,8 @@ values --as
 gob: a value is required for '--as <ID=KIND>' but none was supplied
 values --main
 gob: unexpected argument '--main' found
+types --each
+gob: unexpected argument '--each' found
 types --as 66=text
 gob: unexpected argument '--as' found
 why --progress f
