@@ -5,15 +5,9 @@ ghost use Rattle.gob_words.specs.Escaped.{IsUnobeyed};
 
 use gob_num::Memory;
 use gob_types::Name;
-use gob_words::escaped;
+use gob_words::{escaped, shortened};
 use std::alloc::Global;
 use std::{fmt, str};
-
-// The most characters of a path.
-const MOST_PATH: usize = 200;
-
-// What stands in place of its middle.
-const LEFT_OUT: &str = " .. ";
 
 /// A step into a value. Display writes `.Name`, `[2]`, or `[2] key` to a key.
 #[derive(Drop)]
@@ -64,23 +58,4 @@ pub fn path_text(alloc: Global, steps: &[Step]) -> Result<String, Memory>
     }
     let path = shortened(alloc, path.as_str())?;
     Ok(escaped(alloc, path.as_str())?)
-}
-
-// The text without its middle, where it is long.
-fn shortened(alloc: Global, path: &str) -> Result<String, Memory> {
-    let count = path.chars().count();
-    if count <= MOST_PATH {
-        return Ok(String::from_str(alloc, path)?);
-    }
-    let side = (MOST_PATH - LEFT_OUT.len()) / 2;
-    let mut text = String::new(alloc);
-    for (place, character) in path.chars().enumerate() {
-        if place == side {
-            text.push_str(LEFT_OUT)?;
-        }
-        if place < side || place >= count - side {
-            text.push(character)?;
-        }
-    }
-    Ok(text)
 }

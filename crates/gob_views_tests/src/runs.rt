@@ -107,6 +107,7 @@ fn usual(alloc: Global, command: ViewCommand) -> View<'static> {
         tagged: false,
         typed: false,
         only: None,
+        each: false,
         kinds: Vec::new(alloc),
         main: false,
         progress: false,

@@ -1,12 +1,13 @@
 //! Where in an item a refused byte stands, and what is due there.
 
 use crate::due::due_in;
-use crate::words::{shortened, type_name, type_text};
+use crate::words::{type_name, type_text};
 use gob_explain::{Awaited, Row, RowSink, Step, What, path_text, path_to, walk_body};
 use gob_forms::{Head, head_of};
 use gob_num::{Memory, uint_at};
 use gob_stream::Limits;
 use gob_types::{Basic, Kind, Reason, Shapes, Table, TypeId};
+use gob_words::shortened;
 use std::alloc::Global;
 
 /// Where it stands.

@@ -10,39 +10,12 @@ use gob_types::{Shapes, Table, TypeId};
 use gob_words::quoted;
 use std::alloc::Global;
 
-// The most characters of a path.
-const MOST_PATH: usize = 200;
-
-// What stands in place of its middle.
-const LEFT_OUT: &str = " .. ";
-
 /// A name of the stream as a terminal can show it: its text, or where it is none, 0x and its bytes.
 pub(crate) fn name_text(alloc: Global, name: &[u8]) -> Result<String, Memory>
     ensures { IfOk result (λ text. string_bytes text ≡ shown_name name.now) }
 {
     let mut text = String::new(alloc);
     push_name(alloc, name, &mut text)?;
-    Ok(text)
-}
-
-/// The path as it stands in a line: of a long one the middle is left out, so that it has 200 characters.
-pub(crate) fn shortened(alloc: Global, path: &str) -> Result<String, Memory> {
-    let count = path.chars().count();
-    if count <= MOST_PATH {
-        return Ok(String::from_str(alloc, path)?);
-    }
-    let side = (MOST_PATH - LEFT_OUT.len()) / 2;
-    let mut text = String::new(alloc);
-    let mut place = 0usize;
-    for character in path.chars() {
-        if place == side {
-            text.push_str(LEFT_OUT)?;
-        }
-        if place < side || place >= count.saturating_sub(side) {
-            text.push(character)?;
-        }
-        place = place.saturating_add(1);
-    }
     Ok(text)
 }
 

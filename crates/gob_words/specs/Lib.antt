@@ -5,3 +5,4 @@ pub mod Views
 pub mod ViewDepths
 pub mod Escaped
 pub mod Shell
+pub mod Paths

@@ -8,6 +8,8 @@ mod help;
 #[cfg(test)]
 mod lines;
 #[cfg(test)]
+mod paths;
+#[cfg(test)]
 mod views;
 #[cfg(test)]
 mod words;
