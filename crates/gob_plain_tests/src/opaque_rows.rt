@@ -338,7 +338,8 @@ but of another layout | 0a ff 81 05 01 02 ff 82 00 00 00 06 ff 82 00 02 02 07 | 
 
 /// Streams whose type is said to be a fraction.
 pub(crate) const SAID_FRACTION: &str = r#"
-of a type of which nothing is said | 0a ff 83 05 01 02 ff 84 00 00 00 0b ff 84 00 07 02 00 00 00 01 03 04 | "AgAAAAEDBA=="
+of a type of which nothing is said | 0a ff 83 05 01 02 ff 84 00 00 00 0b ff 84 00 07 02 00 00 00 01 03
+04 | "AgAAAAEDBA=="
 
 said to be a fraction | 0a ff 81 05 01 02 ff 82 00 00 00 0b ff 82 00 07 02 00 00 00 01 03 04 | "3/4"
 
@@ -347,5 +348,6 @@ over the name of its type | 0f ff 81 05 01 01 03 49 6e 74 01 ff 82 00 00 00 0b f
 
 /// Streams whose type is said to be bytes.
 pub(crate) const SAID_BYTES: &str = r#"
-a time that is said to be bytes | TIME 13 ff 82 00 0f 01 00 00 00 0e c2 8b e7 70 00 00 00 00 ff ff | "AQAAAA7Ci+dwAAAAAP//"
+a time that is said to be bytes | TIME 13 ff 82 00 0f 01 00 00 00 0e c2 8b e7 70 00 00 00 00 ff
+ff | "AQAAAA7Ci+dwAAAAAP//"
 "#;

@@ -64,8 +64,8 @@ fn prints_so(alloc: Global, row: &str, tagged: bool) -> Result<bool, Memory> {
 const TYPES: &str = r#"
 a type defined in a value, and used by the next item | 15 10 00 08 2a 62 69 67 2e 49 6e 74 ff 81 05 01 02 ff 84 00 00
 00 07 ff 82 04 00 02 02 05 06 ff 82 00 02 02 05 | package types||// type 65, which encodes itself by GobEncode|//
- registered as *big.Int|type T65 string||func (value T65) GobEncode() ([]byte, error) {|>return []byte(value), nil|}||func
- (value *T65) GobDecode(data []byte) error {|>*value = T65(data)|>return nil|}
+ registered as *big.Int|type T65 string||func (value T65) GobEncode() ([]byte, error) {|>return []byte(value), nil|}||
+func (value *T65) GobDecode(data []byte) error {|>*value = T65(data)|>return nil|}
 
 types defined before a value, and within what it holds | 0e ff 81 04 01 02 ff 82 00 01 0c 01 10 00 00 21 ff 82 00 01 01
 61 0e 5b 5d 69 6e 74 65 72 66 61 63 65 20 7b 7d ff 83 02 01 02 ff 84 00 01 10 00 00 5c ff 84 59 00 04 07 66 6c 6f 61 74
