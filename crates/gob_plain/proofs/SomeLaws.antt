@@ -8,6 +8,7 @@ use Rattle.json.specs.Tree.{json_tokens, items_tokens, members_tokens}
 use Rattle.json.specs.Written.{Written, Writes}
 use Rattle.gob_json_writer.specs.WritesJson.{WritesTokens}
 use Rattle.gob_plain.specs.WritesPlain.{WritesSome, WritesPlainOf}
+pub use Rattle.gob_plain.specs.WritesPlain.{some_then}
 
 -- ---- one call behind another
 
@@ -21,21 +22,6 @@ some_weaker {r = r} f w = record {
   tokens = on_ok_weaker r (λ e. (e.0, f e.0 e.1, e.2)) w.tokens;
   before = w.before;
 }
-
-pub some_then : {E F : Type 0} {u : Unit {0}} {r : Result (Unit {0}) F} {old mid new : Written} {P Q R : List Token
-    → Type 0}
-    → WritesSome {E = E} (Ok u) old mid P → WritesSome r mid new Q
-    → ((xs ys : List Token) → P xs → Q ys → R (xs ++ ys)) → WritesSome r old new R
-some_then {r = r} {old = old} v w f =
-    let xs = v.tokens.0 in record {
-      tokens = on_ok_weaker r
-          (λ e. (
-            xs ++ e.0,
-            f xs e.0 v.tokens.1 e.1,
-            e.2 ∙ ap (λ (l : List Token). l ++ e.0) v.tokens.2 ∙ append_assoc old.tokens xs e.0,
-          )) w.tokens;
-      before = w.before ∙ v.before;
-    }
 
 pub some_behind : {E F : Type 0} {u : Unit {0}} {r : Result (Unit {0}) F} {old mid new : Written} {xs : List Token}
     {Q R : List Token → Type 0}

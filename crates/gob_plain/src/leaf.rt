@@ -113,12 +113,19 @@ pub(crate) fn write_key(alloc: Global, part: View<'_>, out: &mut Writer) -> Resu
 fn write_int_name(number: u64, out: &mut Writer) -> Result<(), AllocError>
     ensures { WritesTokens result out.old out.new (key (signed_decimal (signed_of number)) ∷ []) }
 {
-    let mut digits = itoa::Buffer::new();
-    out.key(digits.format(to_signed(number)))
+    write_signed_name(to_signed(number), out)
 }
 
-// Writes the number as the name of a member.
-fn write_uint_name(number: u64, out: &mut Writer) -> Result<(), AllocError>
+/// Writes the number as the name of a member.
+pub(crate) fn write_signed_name(number: i64, out: &mut Writer) -> Result<(), AllocError>
+    ensures { WritesTokens result out.old out.new (key (signed_decimal number) ∷ []) }
+{
+    let mut digits = itoa::Buffer::new();
+    out.key(digits.format(number))
+}
+
+/// Writes the number as the name of a member.
+pub(crate) fn write_uint_name(number: u64, out: &mut Writer) -> Result<(), AllocError>
     ensures { WritesTokens result out.old out.new (key (decimal number) ∷ []) }
 {
     let mut digits = itoa::Buffer::new();

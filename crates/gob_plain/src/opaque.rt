@@ -4,7 +4,7 @@ ghost use Rattle.std.specs.Prelude.{◌≡◌, if◌then◌else◌};
 ghost use Rattle.std.specs.Option.{option_copied};
 ghost use Rattle.gob_plain.specs.BigInt.{SaysInt};
 ghost use Rattle.gob_plain.specs.OpaqueText.{SaysOpaque, SaysBytes, SaysText, content_of, content_by, content_as};
-ghost use Rattle.gob_plain.specs.OpaqueText.{content_in, taken_as};
+ghost use Rattle.gob_plain.specs.OpaqueText.{SaysContent, content_in, taken_as};
 ghost use Rattle.gob_plain.specs.TimeText.{SaysTimeOr};
 ghost use Rattle.gob_plain.specs.WritesPlain.{WritesPlain};
 
@@ -59,7 +59,32 @@ pub(crate) fn write_opaque(
     ensures { WritesPlain result out.old out.new
         (SaysOpaque (content_in style.entry) id (option_copied shape.entry) bytes.now) }
 {
-    match content_in(style, id, shape) {
+    write_content(alloc, content_in(style, id, shape), bytes, out)
+}
+
+/// Writes an opaque value as what its bytes are guessed to be, by its type, which has this shape.
+pub(crate) fn write_guessed(
+    alloc: Global,
+    shape: &Shape,
+    bytes: &[u8],
+    raw: bool,
+    out: &mut Writer,
+) -> Result<(), AllocError>
+    ensures { WritesPlain result out.old out.new (SaysContent (content_of raw (Some shape.now)) bytes.now) }
+{
+    write_content(alloc, content_of(Some(shape), raw), bytes, out)
+}
+
+// Writes an opaque value as what its bytes are taken for.
+fn write_content(
+    alloc: Global,
+    content: Content,
+    bytes: &[u8],
+    out: &mut Writer,
+) -> Result<(), AllocError>
+    ensures { WritesPlain result out.old out.new (SaysContent content bytes.now) }
+{
+    match content {
         Content::Bytes => write_bytes(alloc, bytes, out),
         Content::Text => write_text(alloc, bytes, out),
         Content::Time => write_time(alloc, bytes, out),

@@ -77,7 +77,7 @@ fn entry_types<S: Shapes>(table: &S, id: TypeId) -> EntryTypes
 }
 
 // Whether the keys of a map give names to members: texts and whole numbers do.
-fn gives_names(key: TypeId) -> bool
+pub(crate) fn gives_names(key: TypeId) -> bool
     ensures { result ≡ gives_names key }
 {
     key.0 == 6 || key.0 == 2 || key.0 == 3

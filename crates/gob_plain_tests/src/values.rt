@@ -4,7 +4,7 @@ use crate::opaque_rows::{OPAQUE, RAW, SAID_BYTES, SAID_FLOAT, SAID_FRACTION};
 use crate::rows::ROWS;
 use crate::zero_rows::ZEROS;
 use gob_num::Memory;
-use gob_plain::{Content, Style, Taken, plain_text};
+use gob_plain::{Content, Style, Taken, plain_text, plain_text_of};
 use gob_stream::{Fault, Item, Limits, Session};
 use gob_tape::{Tape, TapeBuilder};
 use gob_test_rows::{bytes_of, part};
@@ -36,11 +36,43 @@ fn json_of(alloc: Global, bytes: &[u8], style: Style<'_>) -> Result<String, Memo
     }
 }
 
-// Whether the row's last value has the row's JSON in this style.
+// The JSON of the value that stands whole at the front of the piece, in this style, if one does.
+fn whole_text_of(
+    alloc: Global,
+    session: &Session<TapeBuilder>,
+    piece: &[u8],
+    style: Style<'_>,
+) -> Result<Option<String>, Memory> {
+    let Some(item) = session.whole_value(piece) else {
+        return Ok(None);
+    };
+    let depth = session.limits().depth();
+    Ok(plain_text_of(alloc, session.table(), item.id, item.body, depth, style)?)
+}
+
+// The same as `json_of` of a stream that isn't refused, from the bytes in which the value stands whole.
+fn whole_json_of(alloc: Global, bytes: &[u8], style: Style<'_>) -> Result<String, Memory> {
+    let mut session = Session::<TapeBuilder>::new(alloc, Limits::standard())?;
+    let mut items = Vec::new(alloc);
+    let mut json = String::new(alloc);
+    for at in 0..bytes.len() {
+        if let Some(text) = whole_text_of(alloc, &session, &bytes[at..], style)? {
+            json = text;
+        }
+        if session.feed(alloc, &bytes[at..at + 1], &mut items).is_err() {
+            return Err(Memory);
+        }
+    }
+    Ok(json)
+}
+
+// Whether the row's last value has the row's JSON in this style, both from a tape and from its bytes.
 fn is_due(alloc: Global, row: &str, style: Style<'_>) -> Result<bool, Memory> {
     let bytes = bytes_of(alloc, part(row, 1))?;
     let text = json_of(alloc, &bytes, style)?;
-    Ok(text.as_str() == part(row, 2))
+    let whole = whole_json_of(alloc, &bytes, style)?;
+    let due = part(row, 2);
+    Ok(text.as_str() == due && whole.as_str() == due)
 }
 
 // The style, with zeros or raw.

@@ -1,0 +1,155 @@
+-- Where a visitor is, and what is said there of one event.
+use Rattle.std.proofs.Common.{◌-◌}
+use Rattle.std.proofs.Common.{◌≡◌, ◌≢◌, ℕ, List, [], ◌∷◌, ◌++◌, Bool, Option, length}
+use Rattle.std.proofs.Common.{refl, sym, subst, append-nil, ◌∙◌, true}
+use Rattle.std.proofs.Common.{Result, Ok, Err, Some, None, IfSome, arith, false}
+use Rattle.std.specs.Prelude.{slice_get}
+use Rattle.std.specs.declared.alloc.AllocError.{AllocError}
+use Rattle.json.specs.Token.{Token}
+use Rattle.json.specs.Tree.{json_tokens}
+use Rattle.json.specs.Written.{Written}
+use Rattle.gob_types.specs.declared.id.TypeId.{TypeId}
+use Rattle.gob_types.specs.declared.kind.Field.{Field}
+use Rattle.gob_types.specs.declared.kind.Shape.{Shape}
+use Rattle.gob_types.specs.Table.{Table}
+use Rattle.gob_value.specs.Tree.{Tree}
+use Rattle.gob_json.specs.Json.{field_name}
+use Rattle.gob_value.specs.Tree.{Trees, tree_count}
+use Rattle.gob_walk.specs.Standing.{BeginsElements}
+use Rattle.gob_walk.proofs.TellLaws.{ElementsLeft}
+use Rattle.gob_walk.specs.Event.{elements_told}
+use Rattle.gob_walk.specs.Event.{Event, leaf, raw, map_begins, map_ends, entry, entry_ends, present, struct_ends}
+use Rattle.gob_plain.specs.declared.style.Style.{Style}
+use Rattle.gob_plain.specs.declared.visitor.Place.{Place}
+use Rattle.gob_plain.specs.declared.visitor.Place.TheVariants as place
+use Rattle.gob_plain.specs.AbsentFields.{AbsentTokens}
+use Rattle.gob_plain.specs.OpaqueText.{SaysContent, content_of}
+use Rattle.gob_plain.specs.Plain.{gives_names, key_text, name_text}
+use Rattle.gob_plain.specs.PlainEvents.{SaysEvents, LeafSays, map_opens, map_closes, entry_closes}
+use Rattle.gob_plain.specs.PlainEvents as said
+use Rattle.gob_plain.specs.WritesPlain.{AreTokensOf, WritesSome}
+use Rattle.gob_json_writer.specs.WritesJson.{WritesTokens}
+use Rattle.gob_plain.proofs.SomeLaws.{some_of, some_then}
+use Rattle.gob_plain.specs.TellsTokens.{TellsTokens}
+use Rattle.gob_walk.specs.Told.{Reaches}
+use Rattle.gob_walk.specs.declared.stop.Stop.{Stop}
+use Rattle.gob_walk.proofs.AnswerLaws.{reached_both, reached_prefix}
+
+module _ {style : Style} {T : Table} where
+  -- what is no name is said between two parts alone
+  pub no_name : {a b : Place} {es : List Event} {ts : List Token} → (a ≡ place.Free → b ≡ place.Free)
+      → (a ≢ place.Free → b ≡ place.Lost) → SaysEvents style T place.Free es ts place.Free
+      → SaysEvents style T a es ts b
+  no_name {a = place.Free} {es = es} {ts = ts} free lost p =
+      subst (λ b. SaysEvents style T place.Free es ts b) (sym (free refl)) p
+  no_name {a = place.Name} {es = es} {ts = ts} free lost p =
+      subst (λ b. SaysEvents style T place.Name es ts b) (sym (lost (λ e. cc))) said.says_lost
+  no_name {a = place.Lost} {es = es} {ts = ts} free lost p =
+      subst (λ b. SaysEvents style T place.Lost es ts b) (sym (lost (λ e. cc))) said.says_lost
+
+  -- a name is due
+  pub name_due : {a b c : Place} {k : TypeId} {later : Bool} → gives_names k ≡ true
+      → (a ≡ place.Free → b ≡ place.Free) → (a ≢ place.Free → b ≡ place.Lost)
+      → (b ≡ place.Free → c ≡ place.Name) → (b ≡ place.Lost → c ≡ place.Lost)
+      → SaysEvents style T a (entry k later ∷ []) [] c
+  name_due {a = place.Free} {k = k} {later = later} named free lost due gone =
+      subst (λ c. SaysEvents style T place.Free (entry k later ∷ []) [] c) (sym (due (free refl)))
+      (said.says_due named said.says_nothing)
+  name_due {a = place.Name} {k = k} {later = later} named free lost due gone =
+      subst (λ c. SaysEvents style T place.Name (entry k later ∷ []) [] c) (sym (gone (lost (λ e. cc)))) said.says_lost
+  name_due {a = place.Lost} {k = k} {later = later} named free lost due gone =
+      subst (λ c. SaysEvents style T place.Lost (entry k later ∷ []) [] c) (sym (gone (lost (λ e. cc)))) said.says_lost
+
+  -- the name
+  pub name_said : {a b : Place} (x : Tree) → (a ≡ place.Name) × (b ≡ place.Free)
+      → SaysEvents style T a (leaf x ∷ []) (Token.key (key_text x) ∷ []) b
+  name_said {a = place.Free} x is = absurd (let e = is.0 in cc)
+  name_said {a = place.Lost} x is = absurd (let e = is.0 in cc)
+  name_said {a = place.Name} x is =
+      subst (λ b. SaysEvents style T place.Name (leaf x ∷ []) (Token.key (key_text x) ∷ []) b) (sym is.1)
+      (said.says_name said.says_nothing)
+
+  -- a value without parts
+  pub leaf_said : {a b : Place} (v : Tree) → (a ≢ place.Name) × (b ≡ a) → (ts : List Token)
+      → AreTokensOf (LeafSays v) ts → SaysEvents style T a (leaf v ∷ []) ts b
+  leaf_said {a = place.Name} v is ts t = absurd (is.0 refl)
+  leaf_said {a = place.Lost} v is ts t =
+      subst (λ b. SaysEvents style T place.Lost (leaf v ∷ []) ts b) (sym is.1) said.says_lost
+  leaf_said {a = place.Free} v is ts t =
+      subst (λ b. SaysEvents style T place.Free (leaf v ∷ []) ts b) (sym is.1)
+      (subst (λ l. SaysEvents style T place.Free (leaf v ∷ []) l place.Free)
+      (append-nil (json_tokens t.0) ∙ sym t.2) (said.says_leaf t.0 t.1 said.says_nothing))
+
+  pub raw_said : (s : Option Shape) (b : List ℕ) (ts : List Token)
+      → AreTokensOf (SaysContent (content_of style.raw s) b) ts → SaysEvents style T place.Free (raw s b ∷ []) ts place.Free
+  raw_said s b ts t = subst (λ l. SaysEvents style T place.Free (raw s b ∷ []) l place.Free)
+      (append-nil (json_tokens t.0) ∙ sym t.2) (said.says_raw t.0 t.1 said.says_nothing)
+
+  pub map_said : (k : TypeId) {b : Bool} → gives_names k ≡ b
+      → SaysEvents style T place.Free (map_begins k ∷ []) (map_opens b ∷ []) place.Free
+  map_said k is = subst (λ b. SaysEvents style T place.Free (map_begins k ∷ []) (map_opens b ∷ []) place.Free) is
+      (said.says_map said.says_nothing)
+
+  pub map_end_said : (k : TypeId) {b : Bool} → gives_names k ≡ b
+      → SaysEvents style T place.Free (map_ends k ∷ []) (map_closes b ∷ []) place.Free
+  map_end_said k is = subst (λ b. SaysEvents style T place.Free (map_ends k ∷ []) (map_closes b ∷ []) place.Free) is
+      (said.says_map_end said.says_nothing)
+
+  pub entry_end_said : (k : TypeId) {b : Bool} → gives_names k ≡ b
+      → SaysEvents style T place.Free (entry_ends k ∷ []) (entry_closes b) place.Free
+  entry_end_said k is = subst (λ b. SaysEvents style T place.Free (entry_ends k ∷ []) (entry_closes b) place.Free) is
+      (subst (λ l. SaysEvents style T place.Free (entry_ends k ∷ []) l place.Free)
+      (append-nil (entry_closes (gives_names k))) (said.says_entry_end said.says_nothing))
+
+  pub field_said : (types : List Field) (next f : ℕ) (n : List ℕ) → n ≡ name_text (field_name (slice_get types f))
+      → (zs : List Token) → AbsentTokens style T types next f zs
+      → SaysEvents style T place.Free (present types next f ∷ []) (zs ++ Token.key n ∷ []) place.Free
+  field_said types next f n is zs p =
+      subst (λ n. SaysEvents style T place.Free (present types next f ∷ []) (zs ++ Token.key n ∷ []) place.Free)
+      (sym is) (said.says_field zs p said.says_nothing)
+
+  pub struct_end_said : (types : List Field) (next : ℕ) (zs : List Token)
+      → AbsentTokens style T types next (length types) zs
+      → SaysEvents style T place.Free (struct_ends types next ∷ []) (zs ++ Token.end_object ∷ []) place.Free
+  struct_end_said types next zs p = said.says_struct_end zs p said.says_nothing
+
+-- nothing is written
+pub none_written : {E : Type 0} {u : Unit {0}} {old : Written} {P : List Token → Type 0} → P []
+    → WritesSome {E = E} (Ok u) old old P
+none_written {old = old} p = record { tokens = ([], p, sym (append-nil old.tokens)); before = refl }
+
+-- tokens are written behind those of which this holds
+pub some_last : {E F : Type 0} {u : Unit {0}} {r : Result (Unit {0}) F} {old mid new : Written} {xs : List Token}
+    {P R : List Token → Type 0} → WritesSome {E = E} (Ok u) old mid P → WritesTokens r mid new xs
+    → ((zs : List Token) → P zs → R (zs ++ xs)) → WritesSome r old new R
+some_last {xs = xs} {R = R} v w f = some_then v (some_of {P = λ (ts : List Token). ts ≡ xs} w refl)
+    (λ zs ts p e. subst (λ (l : List Token). R (zs ++ l)) (sym e) (f zs p))
+
+-- ---- what a writer is told between two parts
+
+module _ (style : Style) (T : Table) where
+  pub tokens_both : (a b c : Written) (x y : List Event) (r : Result (Unit {0}) (Stop AllocError))
+      → Reaches (TellsTokens style T) a b x (Ok tt) → Reaches (TellsTokens style T) b c y r
+      → Reaches (TellsTokens style T) a c (x ++ y) r
+  tokens_both a b c x y r p q = reached_both (TellsTokens style T)
+      (λ a b c x y r p q. some_then p q (λ xs ys u v. said.says_both style T u v)) a b c x y r p q
+
+  pub tokens_cut : (a b : Written) (x y : List Event) (e : Stop AllocError)
+      → Reaches (TellsTokens style T) a b x (Err e)
+      → Reaches (TellsTokens style T) a b (x ++ y) (Err e)
+  tokens_cut a b x y e p = reached_prefix (TellsTokens style T)
+      (λ a b x y e p. record { tokens = tt; before = p.before }) a b x y e p
+
+-- what three say of a value, if there is one
+pub of_three : {A : Type 0} {P Q R S : A → Type 0} (o : Option A) → IfSome o P → IfSome o Q → IfSome o R
+    → ((x : A) → P x → Q x → R x → S x) → IfSome o S
+of_three None p q r f = tt
+of_three (Some x) p q r f = f x p q r
+
+-- all elements of a list are left
+pub all_elements : {O E : Type 0} (tells : O → O → List Event → Result (Unit {0}) E → Type 0) {T : Table} {e : TypeId}
+    {limit count : ℕ} {vs : Trees} {old : O} {piece rest : List ℕ} → BeginsElements T e limit vs piece rest
+    → tree_count vs ≡ count
+    → ElementsLeft tells T e limit (count - 0) false old old piece rest (elements_told false T e vs)
+all_elements tells {vs = vs} b counted =
+    record { values = vs; begins = b; counted = omega (arith, counted); text = λ new r p. p }

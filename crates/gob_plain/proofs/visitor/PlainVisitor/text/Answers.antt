@@ -1,0 +1,22 @@
+-- The event is said by its tokens.
+use Rattle.std.proofs.Common.{refl}
+use Rattle.gob_value.specs.Tree as Value
+use Rattle.gob_plain.proofs.SomeLaws.{some_of}
+use Rattle.gob_plain.proofs.PlaceLaws.{leaf_said, name_said}
+use Rattle.gob_plain.proofs.visitor.PlainVisitor.text.Goals as goal
+
+pub returns-then-takes_name : goal.returns-then-takes_name
+returns-then-takes_name g c = (
+  refl,
+  refl,
+  some_of c.write_name.ensures
+      (name_said (Value.text c.args.bytes.now) (c.takes_name.ensures.name c.if-takes_name.true)),
+)
+
+pub returns : goal.returns
+returns g c = (
+  refl,
+  refl,
+  some_of c.write_text.ensures (leaf_said (Value.text c.args.bytes.now)
+      (c.takes_name.ensures.other c.if-takes_name.false) _ (_, refl, refl)),
+)

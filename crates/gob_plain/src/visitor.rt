@@ -1,0 +1,294 @@
+//! The tokens of plain JSON, as a visitor is told of a value.
+
+ghost use Rattle.std.specs.Prelude.{◌≡◌, ◌≢◌, true, false};
+ghost use Rattle.gob_plain.specs.declared.visitor.Place.TheVariants as place;
+
+use crate::ints::write_ints;
+use crate::leaf::{
+    write_bytes, write_complex, write_float, write_name, write_signed_name, write_uint_name,
+};
+use crate::opaque::write_guessed;
+use crate::plain::gives_names;
+use crate::style::Style;
+use crate::zeros::write_absent;
+use gob_json_writer::write_text;
+use gob_types::{Field, Fields, Kind, Shape, Shapes, TypeId};
+use gob_walk::{Stop, Visitor};
+use json::Writer;
+use std::alloc::{AllocError, Global};
+
+/// Where a visitor is in what it is told.
+#[derive(Clone, Copy)]
+pub(crate) enum Place {
+    /// Between two parts.
+    Free,
+    /// Before a key that gives a member its name.
+    Name,
+    /// Behind a part that stood in place of a name, which it does in no value: what is written says nothing.
+    Lost,
+}
+
+/// Tells a writer of JSON what it is told of a value.
+#[derive(Drop)]
+pub(crate) struct Plain<'a, S: Shapes> {
+    /// Where strings are made.
+    pub(crate) alloc: Global,
+    /// The types by which absent fields have zeros.
+    pub(crate) shapes: &'a S,
+    /// How values are written.
+    pub(crate) style: Style<'a>,
+    /// Where it is.
+    pub(crate) place: Place,
+    /// What is told.
+    pub(crate) out: Writer,
+}
+
+/// Nothing is made once of a struct's fields.
+#[derive(Drop)]
+pub(crate) struct NoHeads;
+
+impl Place {
+    // Whether a name is due; then the next part is behind it.
+    #[inline(always)]
+    fn takes_name(&mut self) -> bool
+        ensures name { result ≡ true → (self.old ≡ place.Name) × (self.new ≡ place.Free) }
+        ensures other { result ≡ false → (self.old ≢ place.Name) × (self.new ≡ self.old) }
+    {
+        if let Place::Name = *self {
+            *self = Place::Free;
+            return true;
+        }
+        false
+    }
+
+    // A name is due, where this is between two parts.
+    #[inline(always)]
+    fn expects_name(&mut self)
+        ensures free { self.old ≡ place.Free → self.new ≡ place.Name }
+        ensures lost { self.old ≡ place.Lost → self.new ≡ place.Lost }
+    {
+        if let Place::Free = *self {
+            *self = Place::Name;
+        }
+    }
+
+    // What comes is no name.
+    #[inline(always)]
+    fn leaves_name(&mut self)
+        ensures free { self.old ≡ place.Free → self.new ≡ place.Free }
+        ensures lost { self.old ≢ place.Free → self.new ≡ place.Lost }
+    {
+        if let Place::Name = *self {
+            *self = Place::Lost;
+        }
+    }
+}
+
+impl<S: Shapes> Visitor for Plain<'_, S> {
+    ghost use Rattle.std.specs.Prelude.{◌≡◌, ⊤};
+    ghost use Rattle.std.proofs.Common.{[], append-nil, refl, subst, sym, ◌∙◌};
+    ghost use Rattle.gob_plain.specs.PlainEvents.{SaysEvents, says_both, says_nothing};
+    ghost use Rattle.gob_plain.specs.WritesPlain.{WritesSome, some_then};
+
+    type Fault = AllocError;
+
+    type Heads = NoHeads;
+
+    ghost tells = { λ old new events result. (new.style ≡ old.style) × (new.shapes.now ≡ old.shapes.now)
+        × WritesSome result old.out new.out
+        (λ ts. SaysEvents old.style (S.table old.shapes.now) old.place events ts new.place) };
+
+    ghost heads_of = { λ k h. ⊤ };
+
+    fn truth(&mut self, truth: bool) -> Result<(), AllocError> {
+        if self.place.takes_name() {
+            return self.out.key("");
+        }
+        self.out.boolean(truth)
+    }
+
+    fn int(&mut self, number: i64) -> Result<(), AllocError> {
+        if self.place.takes_name() {
+            return write_signed_name(number, &mut self.out);
+        }
+        self.out.i64(number)
+    }
+
+    fn uint(&mut self, number: u64) -> Result<(), AllocError> {
+        if self.place.takes_name() {
+            return write_uint_name(number, &mut self.out);
+        }
+        self.out.u64(number)
+    }
+
+    fn float(&mut self, pattern: u64) -> Result<(), AllocError> {
+        if self.place.takes_name() {
+            return self.out.key("");
+        }
+        write_float(pattern, &mut self.out)
+    }
+
+    fn complex(&mut self, real: u64, imaginary: u64) -> Result<(), AllocError> {
+        if self.place.takes_name() {
+            return self.out.key("");
+        }
+        write_complex(real, imaginary, &mut self.out)
+    }
+
+    fn bytes(&mut self, bytes: &[u8]) -> Result<(), AllocError> {
+        if self.place.takes_name() {
+            return self.out.key("");
+        }
+        write_bytes(self.alloc, bytes, &mut self.out)
+    }
+
+    fn text(&mut self, bytes: &[u8]) -> Result<(), AllocError> {
+        if self.place.takes_name() {
+            return write_name(self.alloc, bytes, &mut self.out);
+        }
+        write_text(self.alloc, bytes, &mut self.out)
+    }
+
+    fn nil(&mut self) -> Result<(), AllocError> {
+        if self.place.takes_name() {
+            return self.out.key("");
+        }
+        self.out.null()
+    }
+
+    fn raw(&mut self, shape: &Shape, bytes: &[u8]) -> Result<(), AllocError> {
+        self.place.leaves_name();
+        write_guessed(self.alloc, shape, bytes, self.style.raw, &mut self.out)
+    }
+
+    fn list_begins(&mut self) -> Result<(), AllocError> {
+        self.place.leaves_name();
+        self.out.begin_array()
+    }
+
+    fn element(&mut self, _later: bool) -> Result<(), AllocError> {
+        self.place.leaves_name();
+        Ok(())
+    }
+
+    fn list_ends(&mut self) -> Result<(), AllocError> {
+        self.place.leaves_name();
+        self.out.end_array()
+    }
+
+    fn ints(
+        &mut self,
+        count: u64,
+        body: &[u8],
+        begin: usize,
+        known: bool,
+    ) -> Result<usize, Stop<AllocError>> {
+        self.place.leaves_name();
+        if known {
+            return write_ints::<true>(count, body, begin, &mut self.out);
+        }
+        write_ints::<false>(count, body, begin, &mut self.out)
+    }
+
+    fn map_begins(&mut self, key: TypeId) -> Result<(), AllocError> {
+        self.place.leaves_name();
+        if gives_names(key) {
+            return self.out.begin_object();
+        }
+        self.out.begin_array()
+    }
+
+    fn entry(&mut self, key: TypeId, _later: bool) -> Result<(), AllocError> {
+        self.place.leaves_name();
+        if gives_names(key) {
+            self.place.expects_name();
+            return Ok(());
+        }
+        self.out.begin_array()
+    }
+
+    fn between(&mut self, _key: TypeId) -> Result<(), AllocError> {
+        self.place.leaves_name();
+        Ok(())
+    }
+
+    fn entry_ends(&mut self, key: TypeId) -> Result<(), AllocError> {
+        self.place.leaves_name();
+        if gives_names(key) {
+            return Ok(());
+        }
+        self.out.end_array()
+    }
+
+    fn map_ends(&mut self, key: TypeId) -> Result<(), AllocError> {
+        self.place.leaves_name();
+        if gives_names(key) {
+            return self.out.end_object();
+        }
+        self.out.end_array()
+    }
+
+    fn heads(_kind: &Kind, _count: u64, _known: bool) -> Option<NoHeads> {
+        None
+    }
+
+    fn struct_begins(&mut self) -> Result<(), AllocError> {
+        self.place.leaves_name();
+        self.out.begin_object()
+    }
+
+    fn field(
+        &mut self,
+        _heads: Option<&NoHeads>,
+        types: &Fields,
+        next: u64,
+        number: u64,
+        field: &Field,
+    ) -> Result<(), AllocError> {
+        self.place.leaves_name();
+        write_absent(
+            self.alloc,
+            types.as_slice(),
+            next..number,
+            self.shapes,
+            self.style,
+            &mut self.out,
+        )?;
+        write_name(self.alloc, field.name.as_bytes(), &mut self.out)
+    }
+
+    fn field_ends(&mut self) -> Result<(), AllocError> {
+        self.place.leaves_name();
+        Ok(())
+    }
+
+    fn struct_ends(&mut self, types: &Fields, next: u64) -> Result<(), AllocError> {
+        self.place.leaves_name();
+        let count = types.count();
+        write_absent(
+            self.alloc,
+            types.as_slice(),
+            next..count,
+            self.shapes,
+            self.style,
+            &mut self.out,
+        )?;
+        self.out.end_object()
+    }
+
+    ghost nothing = { λ a. (
+      refl,
+      refl,
+      record { tokens = ([], says_nothing, sym (append-nil a.out.tokens)); before = refl },
+    ) };
+
+    ghost joined = { λ a b c x y r p q. (
+      q.0 ∙ p.0,
+      q.1 ∙ p.1,
+      some_then p.2 q.2 (λ xs ys u v. says_both a.style (S.table a.shapes.now) u
+          (subst (λ w. SaysEvents w (S.table a.shapes.now) b.place y ys c.place) p.0
+          (subst (λ w. SaysEvents b.style (S.table w) b.place y ys c.place) p.1 v))),
+    ) };
+
+    ghost cut = { λ a b x y e p. (p.0, p.1, record { tokens = tt; before = p.2.before }) };
+}

@@ -1,0 +1,105 @@
+//! The text of a value, straight from the bytes that spell it.
+
+ghost use Rattle.std.specs.Prelude.{◌≡◌, [], IfOk, IfSome, string_bytes};
+ghost use Rattle.json.specs.Lex.{tokens};
+ghost use Rattle.json.specs.Print.{print};
+ghost use Rattle.gob_types.specs.Defined.{types};
+ghost use Rattle.gob_plain.specs.BodyText.{IsBodyText};
+ghost use Rattle.gob_plain.specs.declared.visitor.Place.TheVariants as places;
+
+use crate::style::Style;
+use crate::text::{ROOM, plain_text, text_of};
+use crate::visitor::{Place, Plain};
+use gob_json_writer::tape_of;
+use gob_num::Memory;
+use gob_types::{Shapes, Table, TypeId};
+use gob_value::is_whole;
+use gob_walk::{Stop, walk_whole};
+use json::Writer;
+use std::alloc::{AllocError, Global};
+
+// How deep a value may be: each level is a call within a call.
+const MOST_DEPTH: u64 = 1000;
+
+/// The plain JSON of the value of the type that the body spells, no deeper than `depth`, compact, without a line feed,
+/// with `null` for each nil. What a reader of JSON reads there is the JSON that says the value. None says nothing of the
+/// body. It takes as much memory as the text, but where the style says of types what their values are.
+pub fn plain_text_of(
+    alloc: Global,
+    table: &Table,
+    id: TypeId,
+    body: &[u8],
+    depth: u64,
+    style: Style<'_>,
+) -> Result<Option<String>, Memory>
+    ensures { IfOk result (λ found. IfSome found (λ text.
+        IsBodyText style.entry (types table.now) id depth body.now (string_bytes text))) }
+{
+    if style.taken.is_empty() {
+        return Ok(told_text_of(alloc, table, id, body, depth, style)?);
+    }
+    // of which type an opaque value is the walk doesn't tell
+    if !table.kept(id) {
+        return Ok(None);
+    }
+    if !is_whole(table, id, body, depth) {
+        return Ok(None);
+    }
+    let tape = tape_of(alloc, table, id, body)?;
+    Ok(Some(plain_text(alloc, id, &tape, table, style)?))
+}
+
+// It, as a visitor of the body's parts writes it, where the style says nothing of types.
+fn told_text_of<S: Shapes>(
+    alloc: Global,
+    shapes: &S,
+    id: TypeId,
+    body: &[u8],
+    depth: u64,
+    style: Style<'_>,
+) -> Result<Option<String>, AllocError>
+    requires { style.taken.now ≡ [] }
+    ensures { IfOk result (λ found. IfSome found (λ text.
+        IsBodyText style.entry (S.table shapes.now) id depth body.now (string_bytes text))) }
+{
+    let out = Writer::new(Vec::with_capacity(alloc, ROOM)?);
+    let mut plain = Plain {
+        alloc,
+        shapes,
+        style,
+        place: Place::Free,
+        out,
+    };
+    let told = walk_whole::<S, Plain<'_, S>, false>(
+        shapes,
+        id,
+        body,
+        depth.min(MOST_DEPTH),
+        &mut plain,
+    );
+    let Plain {
+        alloc: _,
+        shapes: _,
+        style: _,
+        place,
+        out,
+    } = plain;
+    match told {
+        Ok(()) => Ok(text_if_free(place, out)),
+        Err(Stop::NotWhole) => Ok(None),
+        Err(Stop::Out(fault)) => Err(fault),
+    }
+}
+
+// The text that the writer holds, where it is that of a value.
+fn text_if_free(place: Place, out: Writer) -> Option<String>
+    requires { out.before ≡ [] }
+    ensures free { IfSome result (λ text. place ≡ places.Free) }
+    ensures text { IfSome result (λ text. string_bytes text ≡ print out.tokens) }
+    ensures read { IfSome result (λ text. tokens (string_bytes text) ≡ out.tokens) }
+{
+    match place {
+        Place::Free => Some(text_of(out)),
+        _ => None,
+    }
+}
