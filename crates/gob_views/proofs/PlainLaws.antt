@@ -1,5 +1,6 @@
 -- The lines of values.
-use Rattle.std.proofs.Common.{◌≡◌, ◌∙◌, ℕ, List, [], ◌∷◌, ◌++◌, arith, ap, min, sym, subst}
+use Rattle.std.proofs.Common.{◌≡◌, ◌∙◌, ℕ, List, [], ◌∷◌, ◌++◌, ap, min, sym, subst, Bool, true, false, refl}
+use Rattle.std.specs.Bool.{IsTrue, MatchBool}
 use Rattle.json.specs.Json.{Json}
 use Rattle.json.specs.Lex.{tokens}
 use Rattle.json.specs.Print.{print}
@@ -7,12 +8,9 @@ use Rattle.json.specs.Tree.{json_tokens}
 use Rattle.json_controls.specs.Controls.{shown_text}
 use Rattle.gob_types.specs.Table.{Table}
 use Rattle.gob_types.specs.declared.id.TypeId.{TypeId}
-use Rattle.gob_value.specs.Tree.{Tree}
+use Rattle.gob_value.specs.Whole.{IsWhole}
 use Rattle.gob_value.specs.declared.value.Value.{Value}
-use Rattle.gob_tape.specs.Flat.{Flat}
-use Rattle.gob_tape.specs.Meaning.{Means}
-use Rattle.gob_plain.specs.Filled.{SaysIn}
-use Rattle.gob_stream.specs.Bounds.{deepest, greatest_depth}
+use Rattle.gob_stream.specs.Bounds.{greatest_depth}
 use Rattle.gob_filled.specs.Stream.{FilledItem}
 use Rattle.gob_go.specs.Calls.Reader.{session_of, waits_in}
 use Rattle.gob_go.specs.Calls.Session.{HasBodyNext, IsBetweenItems, limits_of, types_of}
@@ -26,7 +24,7 @@ use Rattle.gob_plain.specs.HeldPlain.{SaysFilled}
 use Rattle.gob_plain.proofs.PublicLaws.{says_unfilled}
 use Rattle.gob_tool.specs.TextsGo.{IsWholeText}
 use Rattle.gob_tool.proofs.Profile.TextLaws.{whole_text}
-use Rattle.gob_views.specs.Machine.Tapes.{IsTapeOf}
+use Rattle.gob_views.specs.Machine.Lines.{IsBodyLine}
 use Rattle.gob_words.specs.Words.{text_of}
 use Rattle.gob_views.specs.Values.{IsChosen, IsLineOf, is_shown, is_left_out, IsPlainLine, SaysStyled}
 use Rattle.gob_views.specs.Values.{shown_json}
@@ -61,6 +59,13 @@ pub left_out_line : {lines : ValueLines} {T : Table} {t : TypeId} {P : Json → 
 left_out_line {lines = lines} {T = T} {t = t} {P = P} other none =
     subst (λ l. IsLineOf lines T t P l) (sym none) (is_left_out other)
 
+-- a body of no type that is chosen
+pub left_out_body : (lines : ValueLines) (T : Table) (t : TypeId) (limit : ℕ) (body line : List ℕ) (whole : Bool)
+    → (IsTrue whole → IsWhole T t limit body) → ¬ IsChosen (text_of lines.only) T t → line ≡ []
+    → MatchBool whole (IsBodyLine lines T t limit body line) (line ≡ [])
+left_out_body lines T t limit body line true is other none = (is refl, left_out_line other none)
+left_out_body lines T t limit body line false is other none = none
+
 -- ---- an item that was given
 pub definition_line : (lines : ValueLines) {T : Table} {given : GoItem} {id : TypeId} {described : Value}
     {line : List ℕ} → given ≡ item.Define id described → line ≡ [] → (i : FilledItem) → ItemMeans T given i
@@ -82,24 +87,16 @@ value_line {lines = lines} {T = T} {id = id} {kept = kept} {line = line} e made 
     by (means_value {w = w} m) = made w m
 
 -- ---- an item that waits as a whole
-pub whole_line : {lines : ValueLines} {T U : Table} {r : GoReader} {id : TypeId} {body line : List ℕ}
-    {used limit : ℕ} {tape : Flat} → IsBetweenItems (session_of r)
-    → HasBodyNext (session_of r) id body used (waits_in r)
-    → T ≡ types_of (session_of r) → U ≡ types_of (session_of r)
-    → limit ≡ min (limits_of (session_of r)).depth greatest_depth
-    → IsTapeOf T id (min limit deepest) body tape
-    → ((v : Tree) → Means tape v → IsLineOf lines U id (SaysStyled lines (λ style. SaysIn style U id v)) line)
+pub whole_line : {lines : ValueLines} {T : Table} {r : GoReader} {id : TypeId} {body line : List ℕ} {used limit : ℕ}
+    → IsBetweenItems (session_of r) → HasBodyNext (session_of r) id body used (waits_in r) → T ≡ types_of (session_of r)
+    → limit ≡ min (limits_of (session_of r)).depth greatest_depth → IsBodyLine lines T id limit body line
     → IsWholeText (IsPlainLine lines) r used line
-whole_line {lines = lines} {r = r} {id = id} {body = body} {line = line} {limit = limit} {tape = tape}
-    between next same also deep t made =
+whole_line {lines = lines} {T = T} {r = r} {id = id} {body = body} {line = line} between next same deep made =
     let S = types_of (session_of r) in
-    let by = subst (λ (T : Table). IsTapeOf T id (min limit deepest) body tape) same t in
-    let v = by.whole.value in
-    let within = by.whole.within in
-    let plain =
-    subst (λ (T : Table). IsLineOf lines T id (SaysStyled lines (λ style. SaysIn style T id v)) line) also
-    (made v by.means) in
-    whole_text (IsPlainLine lines) between next
-    (record { value = v; spelled = by.whole.spelled; within = omega (arith, within, deep) })
+    let L = min (limits_of (session_of r)).depth greatest_depth in
+    let by = subst (λ (T : Table). IsBodyLine lines T id L body line) same
+    (subst (λ (limit : ℕ). IsBodyLine lines T id limit body line) deep made) in
+    let w = by.0 in
+    whole_text (IsPlainLine lines) between next w
     (line_weaker
-    (λ j said. (said.0, said.1, says_unfilled lines.tagged said.0 S id v body j by.whole.spelled said.2)) plain)
+    (λ j said. (said.0, said.1, says_unfilled lines.tagged said.0 S id w.value body j w.spelled said.2)) by.1)

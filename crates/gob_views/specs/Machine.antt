@@ -1,3 +1,3 @@
 -- Where a run stands, item by item. No clause of a public call names these.
-pub mod Tapes
+pub mod Lines
 pub mod Gathered

@@ -7,21 +7,20 @@ ghost use Rattle.json.specs.Print.{print};
 ghost use Rattle.json.specs.Tree.{json_tokens};
 ghost use Rattle.json_controls.specs.Controls.{shown_text};
 ghost use Rattle.gob_types.specs.Defined.{types};
-ghost use Rattle.gob_tape.specs.Meaning.{Means};
-ghost use Rattle.gob_value.specs.Tree.{Tree};
-ghost use Rattle.gob_plain.specs.Filled.{SaysIn};
 ghost use Rattle.gob_filled.specs.Filled as spelled;
 ghost use Rattle.gob_go.specs.Meaning.{IsFilled};
 ghost use Rattle.gob_plain.specs.HeldPlain.{SaysFilled, tagged_json};
 ghost use Rattle.gob_words.specs.Words.{text_of};
+ghost use Rattle.gob_views.specs.Machine.Lines.{IsBodyLine};
 ghost use Rattle.gob_views.specs.Values.{AreTaken, IsChosen, IsLineOf, IsStyleOf, SaysStyled, content_of, shown_json};
 ghost use Rattle.gob_views.specs.Values.{type_name};
 
 use gob_go::Filled;
 use gob_num::Memory;
-use gob_plain::{Content, Filler, Fillers, Nils, Style, Taken, filled_text, plain_text};
-use gob_tape::Tape;
+use gob_plain::{Content, Filler, Fillers, Nils, Style, Taken, filled_text, plain_text_of};
+use gob_stream::Whole;
 use gob_types::{Shapes, Table, TypeId};
+use gob_value::is_whole;
 use gob_words::{OpaqueKind, TypeKind, number_of};
 use json::Writer;
 use json_controls::push_shown;
@@ -70,29 +69,33 @@ pub(crate) fn push_filled_line(
     push_line(typed_text(alloc, json, table, id, lines)?.as_str(), text)
 }
 
-/// Makes the line of the value that a tape means, if its type is chosen, in `text`, which is empty.
-pub(crate) fn push_tape_line(
+/// Makes the line of the value whose whole item this is, in which no interface holds another, if it is one no deeper
+/// than `depth` and its type is chosen, in `text`, which is empty. False says nothing of the item.
+pub(crate) fn push_body_line(
     alloc: Global,
-    id: TypeId,
-    tape: &Tape,
+    item: Whole<'_>,
+    depth: u64,
     table: &Table,
     lines: ValueLines<'_>,
     text: &mut Vec<u8>,
-) -> Result<(), Memory>
+) -> Result<bool, Memory>
     requires { text.old.items ≡ [] }
-    ensures { OnOk result ((v : Tree) → Means tape.now v
-        → IsLineOf lines.entry (types table.now) id
-        (SaysStyled lines.entry (λ style. SaysIn style (types table.now) id v)) text.new.items) }
+    ensures { IfOk result (λ made. MatchBool made (IsBodyLine lines.entry (types table.now) item.entry.id depth
+        item.entry.body.now text.new.items) (text.new.items ≡ [])) }
 {
-    if !is_chosen(lines.only, table, id) {
-        return Ok(());
+    if !is_chosen(lines.only, table, item.id) {
+        return Ok(is_whole(table, item.id, item.body, depth));
     }
-    // a tape means a value
-    let _depth = tape.depth();
     let taken = taken_of(alloc, lines.kinds)?;
     let style = style_of(lines, &taken);
-    let json = plain_text(alloc, id, tape, table, style)?;
-    push_line(typed_text(alloc, json, table, id, lines)?.as_str(), text)
+    let Some(json) = plain_text_of(alloc, table, item.id, item.body, depth, style)? else {
+        return Ok(false);
+    };
+    push_line(
+        typed_text(alloc, json, table, item.id, lines)?.as_str(),
+        text,
+    )?;
+    Ok(true)
 }
 
 /// What is said of types, as values are written by it.

@@ -1,25 +1,21 @@
 //! The run that prints the values of a stream as plain JSON.
 
-ghost use Rattle.std.specs.Prelude.{◌≡◌, [], ℕ, List, Some, IfOk, IfSome, OnOk, MatchOption, min};
+ghost use Rattle.std.specs.Prelude.{◌≡◌, [], ℕ, List, Some, IfOk, OnOk, MatchOption};
 ghost use Rattle.gob_types.specs.Defined.{types};
-ghost use Rattle.gob_types.specs.Ready.{IsReady};
-ghost use Rattle.gob_stream.specs.Bounds.{deepest, within_trees};
+ghost use Rattle.gob_stream.specs.Bounds.{within_trees};
 ghost use Rattle.gob_stream.specs.Calls.Ends.{failed_reads, failed_writes, reader_of, writer_of};
 ghost use Rattle.gob_filled.specs.Stream.{FilledItem};
 ghost use Rattle.gob_go.specs.Meaning.{ItemMeans};
 ghost use Rattle.gob_tool.specs.Showing.{CountsReadFaults, CountsWriteFaults, IsFlushedSince};
 ghost use Rattle.gob_tool.specs.TextsGo.{of_given, of_value, IsWholeText};
-ghost use Rattle.gob_views.specs.Machine.Tapes.{IsTapeOf};
 ghost use Rattle.gob_views.specs.Values.{IsPlainLine, ValuesAnswers};
 
-use crate::value_line::{ValueLines, push_filled_line, push_tape_line};
+use crate::value_line::{ValueLines, push_body_line, push_filled_line};
 use gob_go::{GoItem, GoReader, GoSession};
 use gob_num::Memory;
-use gob_read::{BodyReader, Progress, Stop};
 use gob_stream::{Input, Limits, Output};
-use gob_tape::{Tape, TapeBuilder};
 use gob_tool::{ItemTexts, ToolFault, run_texts};
-use gob_types::{Table, TypeId};
+use gob_types::Table;
 use std::alloc::Global;
 use std::io::{Read, Write};
 
@@ -108,30 +104,9 @@ fn push_whole_line(
         return Ok(None);
     };
     let depth = reader.limits().depth().min(Limits::GREATEST_DEPTH);
-    let Some(tape) = tape_of(alloc, reader.table(), item.id, item.body, depth)? else {
-        return Ok(None);
-    };
-    push_tape_line(alloc, item.id, &tape, reader.table(), lines, text)?;
-    Ok(Some(item.used))
-}
-
-/// Makes the tape of the value of the type that the body spells, if none of its parts is deeper than `depth`. None says
-/// nothing of the body.
-fn tape_of(
-    alloc: Global,
-    table: &Table,
-    id: TypeId,
-    body: &[u8],
-    depth: u64,
-) -> Result<Option<Tape>, Memory>
-    requires { IsReady (types table.now) id }
-    ensures { IfOk result (λ made. IfSome made (λ tape.
-        IsTapeOf (types table.now) id (min depth deepest) body.now tape)) }
-{
-    let mut reader = BodyReader::<TapeBuilder>::new(alloc, id, body.len() as u64, depth)?;
-    match reader.push(alloc, table, body) {
-        Ok(Progress::Done { out, used: _ }) => Ok(Some(out)),
-        Err(Stop::Memory) => Err(Memory),
-        _ => Ok(None),
+    let made = push_body_line(alloc, item, depth, reader.table(), lines, text)?;
+    if made {
+        return Ok(Some(item.used));
     }
+    Ok(None)
 }
