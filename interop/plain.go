@@ -39,6 +39,16 @@ type Maps struct {
 	Nothing map[string]int
 }
 
+// Session has maps whose keys are interfaces, as session stores keep them.
+type Session struct {
+	Values map[interface{}]interface{}
+	Counts map[interface{}]int
+	Empty  map[interface{}]string
+}
+
+// Word is a text of a type of its own.
+type Word string
+
 // Numbers has numbers as large as they come.
 type Numbers struct {
 	Least int64
@@ -48,6 +58,9 @@ type Numbers struct {
 }
 
 func init() {
+	gob.Register(Word(""))
+	gob.Register([]string{})
+	gob.Register(map[interface{}]interface{}{})
 	streams["floats"] = func() {
 		encode(os.Stdout, Floats{
 			Ends: []float64{
@@ -80,6 +93,14 @@ func init() {
 			Inners: map[string]Inner{"\u00e9\"\\": {"n", true}, "\x7f": {}},
 		}, map[string]map[string]bool{"": nil})
 	}
+	streams["session"] = func() {
+		inner := map[interface{}]interface{}{"at": 5, "\u00e9\"": nil}
+		encode(os.Stdout, Session{
+			map[interface{}]interface{}{"user": "ann", Word("lang"): "de", "roles": []string{"a", ""}, "seen": inner},
+			map[interface{}]int{"a": 1, Word("b"): 0}, map[interface{}]string{},
+		}, map[interface{}]interface{}{}, map[interface{}]interface{}{2: "b"},
+			[]map[interface{}]string{{"a": "b"}, {true: "c"}})
+	}
 	streams["numbers"] = func() {
 		var power big.Int
 		power.Exp(big.NewInt(10), big.NewInt(40), nil)
@@ -108,6 +129,7 @@ var decoded = map[string][]interface{}{
 	"zones":        {Zones{}, time.Time{}, time.Time{}},
 	"maps":         {Maps{}, map[string]map[string]bool{}},
 	"numbers":      {Numbers{}, Numbers{}},
+	"session":      {Session{}, map[interface{}]interface{}{}, map[interface{}]interface{}{}, []map[interface{}]string{}},
 }
 
 func printJSON(in io.Reader, kinds []interface{}) {
@@ -157,6 +179,16 @@ func plain(value interface{}) interface{} {
 			Big   *big.Int
 			Bigs  []*big.Int
 		}{v.Least, v.Most, &v.Big, bigs}
+	case Session:
+		return struct{ Values, Counts, Empty interface{} }{plain(v.Values), entries(v.Counts), entries(v.Empty)}
+	case map[interface{}]interface{}:
+		return entries(v)
+	case []map[interface{}]string:
+		var all []interface{}
+		for _, one := range v {
+			all = append(all, entries(one))
+		}
+		return all
 	case Page:
 		return struct {
 			Address string
@@ -164,6 +196,26 @@ func plain(value interface{}) interface{} {
 		}{v.Address.String(), v.Hits}
 	}
 	return value
+}
+
+// The entries of a map whose keys are interfaces: where each is a text an object, and else its pairs.
+func entries(of interface{}) interface{} {
+	object := map[string]interface{}{}
+	var pairs [][2]interface{}
+	names := true
+	for entry := reflect.ValueOf(of).MapRange(); entry.Next(); {
+		key, element := entry.Key().Elem(), plain(entry.Value().Interface())
+		pairs = append(pairs, [2]interface{}{key.Interface(), element})
+		if key.Kind() == reflect.String {
+			object[key.String()] = element
+		} else {
+			names = false
+		}
+	}
+	if names {
+		return object
+	}
+	return pairs
 }
 
 // MarshalJSON gives the bytes that the color is in a gob.

@@ -1,6 +1,7 @@
 // Items as lines of text: those of `gob show --go` and those of `gob values`, byte for byte.
 
 const jsonName = (name) => name.text === null ? `{"hex":"${name.hex}"}` : JSON.stringify(name.text);
+const areDistinct = (names) => new Set(names).size === names.length;
 const pattern = (bits) => `"${bits.toString(16).padStart(16, "0")}"`;
 
 /** What the lines of both commands share: walks over the parts of a value. */
@@ -143,15 +144,42 @@ class PlainLines extends Lines {
 
     // a map whose keys give names to members is an object
     map(node, type) {
-        if (type.key !== 2 && type.key !== 3 && type.key !== 6) return this.pairs(node, type);
+        const names = type.key === 8 ? this.heldNames(node, type) : this.names(node, type);
+        if (names === null) return this.pairs(node, type);
         const batch = this.batch, end = batch.after(node);
-        let out = "{", comma = "";
-        for (let at = node + 1; at < end; comma = ",") {
+        let out = "{", count = 0;
+        for (let at = node + 1; at < end;) {
             const element = batch.after(at);
-            out += `${comma}${this.key(at)}:${this.part(element, type.elem)}`;
+            out += `${count > 0 ? "," : ""}${names[count++]}:${this.part(element, type.elem)}`;
             at = batch.after(element);
         }
         return out + "}";
+    }
+
+    // the names that keys give: where one isn't UTF-8, its name may be that of another
+    names(node, type) {
+        if (type.key !== 2 && type.key !== 3 && type.key !== 6) return null;
+        const batch = this.batch, end = batch.after(node), names = [];
+        let areTexts = true;
+        for (let at = node + 1; at < end; at = batch.after(batch.after(at))) {
+            names.push(this.key(at));
+            areTexts &&= batch.kind(at) !== 6 || batch.textAt(at, this.base) !== null;
+        }
+        return areTexts || areDistinct(names) ? names : null;
+    }
+
+    // the texts that interfaces hold as keys, where no element has parts
+    heldNames(node, type) {
+        const batch = this.batch, end = batch.after(node), names = [];
+        for (let at = node + 1; at < end;) {
+            const element = batch.after(at), kind = batch.kind(element);
+            if (kind === LIST || kind === MAP || kind === STRUCT) return null;
+            const name = this.part(at, type.key);
+            if (name[0] !== '"') return null;
+            names.push(name);
+            at = batch.after(element);
+        }
+        return areDistinct(names) ? names : null;
     }
 
     key(node) {

@@ -33,6 +33,16 @@ says_bare f i e t =
     (λ j. tokens (string_bytes f.text) ≡ json_tokens j) i)
     (sym e) t
 
+-- something is said by what fills it, or null
+filler_said : (f : Filler) (o : Option (Bor (List ℕ))) → f.name ≡ o → IsFiller (Some f) → (j : Json) × SaysFiller f j
+filler_said f None e h = (h.0, says_bare f h.0 e h.1)
+filler_said f (Some name) e h =
+    (json.object (json.member (name_text name.now) h.0 json.no_members), says_named f name h.0 e h.1)
+
+pub some_said : (f : Option Filler) → IsFiller f → (j : Json) × FillerSays (Some f) j
+some_said None h = (json.null, refl)
+some_said (Some f) h = filler_said f f.name refl h
+
 -- ---- the next
 
 pub next_there : {X : Type 0} (xs : List X) (i : ℕ) (x : X) → i < length xs → x ≡ get_or xs i x

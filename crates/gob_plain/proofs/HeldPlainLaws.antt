@@ -1,5 +1,5 @@
 -- What fills the nils of a value says what they hold.
-use Rattle.std.proofs.Common.{◌≡◌, ◌∙◌, ℕ, zero, suc, ◌+◌, ◌<◌, ◌≤◌, Bool, true, false, List, [], ◌∷◌, ◌++◌, length}
+use Rattle.std.proofs.Common.{◌≡◌, ◌∙◌, ℕ, zero, suc, ◌+◌, Bool, true, false, List, [], ◌∷◌, ◌++◌}
 use Rattle.std.proofs.Common.{Option, Some, None, arith, ap, refl, sym, subst, get_or, take, append_assoc, append-nil}
 use Rattle.std.specs.Prelude.{slice_get, string_bytes}
 use Rattle.std.specs.Borrow.{Bor}
@@ -23,7 +23,7 @@ use Rattle.gob_plain.specs.declared.fillers.Filler.{Filler}
 use Rattle.gob_plain.specs.OpaqueText.{content_in}
 use Rattle.gob_plain.specs.Filled.{SaysIn, SaysInWith, shown}
 use Rattle.gob_plain.specs.Plain.{all_null}
-use Rattle.gob_plain.specs.Fillers.{FillerSays, SaysFiller, SaysMaybeNamed, SaysNamed, IsFiller, AreFillers, HasJson}
+use Rattle.gob_plain.specs.Fillers.{FillerSays, SaysFiller, SaysMaybeNamed, SaysNamed, AreFillers, HasJson}
 use Rattle.gob_plain.proofs.NilLaws.{says_as_much}
 use Rattle.gob_filled.specs.Filled as spelled
 use Rattle.gob_filled.specs.Filled.{Fillings, no_filling}

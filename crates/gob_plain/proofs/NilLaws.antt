@@ -17,13 +17,15 @@ use Rattle.gob_value.specs.Tree as Value
 use Rattle.gob_json.specs.Json.{element_type, key_type, struct_fields, field_type}
 use Rattle.gob_plain.specs.declared.style.Style.{Style}
 use Rattle.gob_plain.specs.OpaqueText.{Takes}
-use Rattle.gob_plain.specs.Plain.{IsMapOf, gives_names, nils, nils_of_each, nils_of_members, nils_of_pairs}
+use Rattle.gob_plain.specs.Plain.{IsMapOf, are_named, may_be_named, nils, nils_of_each, nils_of_members}
+use Rattle.gob_plain.specs.Plain.{nils_of_pairs}
 use Rattle.gob_plain.specs.Plain.{nils_of_fields, behind, SaysWith, SayEachWith, SayMembersWith, SayPairsWith}
 use Rattle.gob_plain.specs.Plain.{SayFieldsWith}
 use Rattle.gob_plain.specs.Filled.{zero_by, zero_of, zero_at, put_before, zeros_before, between, fields_filled}
 use Rattle.gob_plain.specs.Filled.{filled, all_filled, pairs_filled, nils_in, nils_of_each_in, nils_of_members_in}
 use Rattle.gob_plain.specs.Filled.{nils_of_pairs_in}
 use Rattle.gob_plain.specs.Filled.{nils_of_fields_in}
+use Rattle.gob_plain.proofs.MapLaws.{named_filled}
 
 -- ---- what other nils say
 
@@ -37,14 +39,14 @@ of_first M N a b f = λ k l. f k (omega (arith, l))
 of_rest : (M N : ℕ → Json → Type 0) (a b : ℕ) → SaysAsMuch (a + b) M N → SaysAsMuch b (behind a M) (behind a N)
 of_rest M N a b f = λ k l. f (a + k) (omega (arith, l))
 
--- a map is an object or an array by the type of its keys
-map_as_much : (M N : ℕ → Json → Type 0) (P P' : Members → Type 0) (Q Q' : Items → Type 0) (named : Bool) (a b : ℕ)
-    (j : Json)
+-- a map is an object or an array by its keys
+map_as_much : (M N : ℕ → Json → Type 0) (P P' : Members → Type 0) (Q Q' : Items → Type 0) (named held : Bool)
+    (a b : ℕ) (j : Json)
     → SaysAsMuch (if named then a else b) M N
     → (SaysAsMuch a M N → (ms : Members) → P ms → P' ms)
-    → (SaysAsMuch b M N → (js : Items) → Q js → Q' js) → IsMapOf named P Q j → IsMapOf named P' Q' j
-map_as_much M N P P' Q Q' true a b j f g h s = (s.0, s.1, g f s.0 s.2)
-map_as_much M N P P' Q Q' false a b j f g h s = (s.0, s.1, h f s.0 s.2)
+    → (SaysAsMuch b M N → (js : Items) → Q js → Q' js) → IsMapOf named held P Q j → IsMapOf named held P' Q' j
+map_as_much M N P P' Q Q' true held a b j f g h s = (s.0, s.1, g f s.0 s.2)
+map_as_much M N P P' Q Q' false held a b j f g h s = (s.0, s.1, h f s.0 s.2)
 
 mutual
   pub says_as_much : (M N : ℕ → Json → Type 0) (how : Takes) (T : Table) (t : TypeId) (v : Tree) (j : Json)
@@ -66,7 +68,7 @@ mutual
       (λ ms. SayMembersWith N how T (element_type (shape_of T t)) ps ms)
       (λ js. SayPairsWith M how T (key_type (shape_of T t)) (element_type (shape_of T t)) ps js)
       (λ js. SayPairsWith N how T (key_type (shape_of T t)) (element_type (shape_of T t)) ps js)
-      (gives_names (key_type (shape_of T t)))
+      (are_named (key_type (shape_of T t)) ps) (may_be_named (key_type (shape_of T t)) ps)
       (nils_of_members T (element_type (shape_of T t)) ps)
       (nils_of_pairs T (key_type (shape_of T t)) (element_type (shape_of T t)) ps) j f
       (λ g ms. members_as_much M N how T (element_type (shape_of T t)) ps ms g)
@@ -205,9 +207,11 @@ mutual
   pub filled_nils : (T : Table) (t : TypeId) (v : Tree) → nils T t (filled T t v) ≡ nils T t v
   filled_nils T t (Value.many vs) = each_filled_nils T (element_type (shape_of T t)) vs
   filled_nils T t (Value.pairs ps) =
-      either_same (gives_names (key_type (shape_of T t)))
-      (members_filled_nils T (key_type (shape_of T t)) (element_type (shape_of T t)) ps)
-      (pairs_filled_nils T (key_type (shape_of T t)) (element_type (shape_of T t)) ps)
+      let k = key_type (shape_of T t) in
+      let e = element_type (shape_of T t) in
+      let all = pairs_filled T k e ps in
+      ap (λ b. if b then nils_of_members T e all else nils_of_pairs T k e all) (named_filled T k e ps)
+      ∙ either_same (are_named k ps) (members_filled_nils T k e ps) (pairs_filled_nils T k e ps)
   filled_nils T t (Value.fields fs) = fields_filled_nils T (struct_fields (shape_of T t)) 0 fs
   filled_nils T t (Value.bool b) = refl
   filled_nils T t (Value.int i) = refl

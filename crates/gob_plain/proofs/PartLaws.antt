@@ -50,12 +50,12 @@ abbrev pub StillSay : (first now : ℕ → Json → Type 0) → (all rest : ℕ)
 StillSay first now all rest = (k : ℕ) (j : Json) → now (rest + k) j → first (all + k) j
 
 -- a part was written, and the nils of it are gone past
-still_on : (first from to : ℕ → Json → Type 0) (all rest part next : ℕ) → rest ≡ part + next
+pub still_on : (first from to : ℕ → Json → Type 0) (all rest part next : ℕ) → rest ≡ part + next
     → StillSay first from all rest → AreBehind part from to → StillSay first to all next
 still_on first from to all rest part next e s b = λ k j h.
     s k j (subst (λ n. from n j) (omega (arith, e)) (b (next + k) j h))
 
-still_end : (first now : ℕ → Json → Type 0) (all rest : ℕ) → rest ≡ 0 → StillSay first now all rest
+pub still_end : (first now : ℕ → Json → Type 0) (all rest : ℕ) → rest ≡ 0 → StillSay first now all rest
     → AreBehind all first now
 still_end first now all rest e s = λ k j h. s k j (subst (λ n. now n j) (omega (arith, e)) h)
 

@@ -3,7 +3,9 @@ use Rattle.std.proofs.Common.{◌-◌}
 use Rattle.std.proofs.Common.{◌≡◌, ◌≢◌, ℕ, List, [], ◌∷◌, ◌++◌, Bool, Option, length}
 use Rattle.std.proofs.Common.{refl, sym, subst, append-nil, ◌∙◌, true}
 use Rattle.std.proofs.Common.{Result, Ok, Err, Some, None, IfSome, arith, false}
-use Rattle.std.specs.Prelude.{slice_get}
+use Rattle.std.specs.Prelude.{◌==◌, slice_get}
+use Rattle.std.specs.Str.{is_utf8}
+use Rattle.std.proofs.lemmas.Str.{is_utf8-from_IsUtf8, IsUtf8-nil}
 use Rattle.std.specs.declared.alloc.AllocError.{AllocError}
 use Rattle.json.specs.Token.{Token}
 use Rattle.json.specs.Tree.{json_tokens}
@@ -24,7 +26,7 @@ use Rattle.gob_plain.specs.declared.visitor.Place.{Place}
 use Rattle.gob_plain.specs.declared.visitor.Place.TheVariants as place
 use Rattle.gob_plain.specs.AbsentFields.{AbsentTokens}
 use Rattle.gob_plain.specs.OpaqueText.{SaysContent, content_of}
-use Rattle.gob_plain.specs.Plain.{gives_names, key_text, name_text}
+use Rattle.gob_plain.specs.Plain.{gives_names, key_text, name_text, text_bytes}
 use Rattle.gob_plain.specs.PlainEvents.{SaysEvents, LeafSays, map_opens, map_closes, entry_closes}
 use Rattle.gob_plain.specs.PlainEvents as said
 use Rattle.gob_plain.specs.WritesPlain.{AreTokensOf, WritesSome}
@@ -61,13 +63,17 @@ module _ {style : Style} {T : Table} where
       subst (λ c. SaysEvents style T place.Lost (entry k later ∷ []) [] c) (sym (gone (lost (λ e. cc)))) said.says_lost
 
   -- the name
-  pub name_said : {a b : Place} (x : Tree) → (a ≡ place.Name) × (b ≡ place.Free)
+  pub name_said : {a b : Place} (x : Tree) → is_utf8 (text_bytes x) ≡ true → (a ≡ place.Name) × (b ≡ place.Free)
       → SaysEvents style T a (leaf x ∷ []) (Token.key (key_text x) ∷ []) b
-  name_said {a = place.Free} x is = absurd (let e = is.0 in cc)
-  name_said {a = place.Lost} x is = absurd (let e = is.0 in cc)
-  name_said {a = place.Name} x is =
+  name_said {a = place.Free} x u is = absurd (let e = is.0 in cc)
+  name_said {a = place.Lost} x u is = absurd (let e = is.0 in cc)
+  name_said {a = place.Name} x u is =
       subst (λ b. SaysEvents style T place.Name (leaf x ∷ []) (Token.key (key_text x) ∷ []) b) (sym is.1)
-      (said.says_name said.says_nothing)
+      (said.says_name u said.says_nothing)
+
+  -- nothing is said any more
+  pub lost_said : {a b : Place} {es : List Event} {ts : List Token} → b ≡ place.Lost → SaysEvents style T a es ts b
+  lost_said {a = a} {es = es} {ts = ts} is = subst (λ b. SaysEvents style T a es ts b) (sym is) said.says_lost
 
   -- a value without parts
   pub leaf_said : {a b : Place} (v : Tree) → (a ≢ place.Name) × (b ≡ a) → (ts : List Token)
@@ -85,10 +91,10 @@ module _ {style : Style} {T : Table} where
   raw_said s b ts t = subst (λ l. SaysEvents style T place.Free (raw s b ∷ []) l place.Free)
       (append-nil (json_tokens t.0) ∙ sym t.2) (said.says_raw t.0 t.1 said.says_nothing)
 
-  pub map_said : (k : TypeId) {b : Bool} → gives_names k ≡ b
+  pub map_said : (k : TypeId) {b : Bool} → (k.0 == 8) ≡ false → gives_names k ≡ b
       → SaysEvents style T place.Free (map_begins k ∷ []) (map_opens b ∷ []) place.Free
-  map_said k is = subst (λ b. SaysEvents style T place.Free (map_begins k ∷ []) (map_opens b ∷ []) place.Free) is
-      (said.says_map said.says_nothing)
+  map_said k apart is = subst (λ b. SaysEvents style T place.Free (map_begins k ∷ []) (map_opens b ∷ []) place.Free) is
+      (said.says_map apart said.says_nothing)
 
   pub map_end_said : (k : TypeId) {b : Bool} → gives_names k ≡ b
       → SaysEvents style T place.Free (map_ends k ∷ []) (map_closes b ∷ []) place.Free
@@ -112,6 +118,10 @@ module _ {style : Style} {T : Table} where
       → AbsentTokens style T types next (length types) zs
       → SaysEvents style T place.Free (struct_ends types next ∷ []) (zs ++ Token.end_object ∷ []) place.Free
   struct_end_said types next zs p = said.says_struct_end zs p said.says_nothing
+
+-- no bytes are UTF-8
+pub empty_utf8 : is_utf8 [] ≡ true
+empty_utf8 = is_utf8-from_IsUtf8 [] IsUtf8-nil
 
 -- nothing is written
 pub none_written : {E : Type 0} {u : Unit {0}} {old : Written} {P : List Token → Type 0} → P []

@@ -1,7 +1,6 @@
 -- What fills the nils that are gone past, and the others.
-use Rattle.std.proofs.Common.{◌≡◌, ◌∙◌, ℕ, ◌+◌, ◌-◌, ◌<◌, ◌≤◌, List, [], ◌∷◌, ◌++◌, length, drop, get_or, Option, Some}
-use Rattle.std.proofs.Common.{None, arith, ap, refl, sym, subst, append_assoc, append-nil}
-use Rattle.std.proofs.lemmas.List.{at_drop_more, drop_all}
+use Rattle.std.proofs.Common.{◌≡◌, ◌∙◌, ℕ, ◌+◌, List, [], ◌∷◌, ◌++◌, Option, Some}
+use Rattle.std.proofs.Common.{None, ap, sym, subst, append_assoc, append-nil}
 use Rattle.gob_plain.specs.declared.fillers.Filler.{Filler}
 use Rattle.gob_plain.specs.Machine.Placing.{AreIn, none_left, nothing_in, filler_in}
 

@@ -1,7 +1,8 @@
 -- Tokens that say what is told of a value are those of JSON that says the value.
 use Rattle.std.proofs.Common.{◌≡◌, ℕ, ◌+◌, List, [], ◌∷◌, ◌++◌, Bool, true, false, Option, refl, sym, ap, ◌∙◌}
 use Rattle.std.proofs.Common.{append_assoc, append-nil, length, subst}
-use Rattle.std.specs.Prelude.{slice_get}
+use Rattle.std.specs.Prelude.{◌==◌, ◌&&◌, slice_get}
+use Rattle.std.specs.Str.{is_utf8}
 use Rattle.json.specs.Json.{Json, Items, Members}
 use Rattle.json.specs.Json as json
 use Rattle.json.specs.Token.{Token}
@@ -22,9 +23,10 @@ use Rattle.gob_plain.specs.declared.visitor.Place.TheVariants as place
 use Rattle.gob_plain.specs.AbsentFields.{AbsentTokens}
 use Rattle.gob_plain.specs.Filled.{SaysIn}
 use Rattle.gob_plain.specs.OpaqueText.{SaysContent, content_in, content_of, said_or, taken_as}
-use Rattle.gob_plain.specs.Plain.{all_null, IsMapOf, gives_names, key_text, name_text}
+use Rattle.gob_plain.specs.Plain.{all_null, are_utf8, gives_names, key_text, name_text, text_bytes}
 use Rattle.gob_plain.specs.PlainEvents.{SaysEvents, LeafSays, map_opens, map_closes, entry_closes}
 use Rattle.gob_plain.specs.PlainEvents as said
+use Rattle.gob_plain.proofs.FormLaws.{all_named, form_other, map_named, map_pairs}
 use Rattle.gob_plain.proofs.StyleLaws.{EachIn, MembersIn, PairsIn, FieldsIn, absent_last, absent_then, element_in}
 use Rattle.gob_plain.proofs.StyleLaws.{entry_in, leaf_in, many_in, map_in, member_in, no_element_in, no_entry_in}
 use Rattle.gob_plain.proofs.StyleLaws.{no_member_in, struct_in}
@@ -79,7 +81,10 @@ module _ (style : Style) (T : Table) (unsaid : style.taken.now ≡ []) where
 
   map_says : {k : TypeId} {es : List Event} {ts : List Token} → Saying (map_begins k ∷ es) ts
       → Left es (map_opens (gives_names k) ∷ []) ts
-  map_says (said.says_map {ts = ts} q) = record { rest = ts; left = q; whole = refl }
+  map_says (said.says_map {ts = ts} p q) = record { rest = ts; left = q; whole = refl }
+
+  map_apart : {k : TypeId} {es : List Event} {ts : List Token} → Saying (map_begins k ∷ es) ts → (k.0 == 8) ≡ false
+  map_apart (said.says_map p q) = p
 
   map_end_says : {k : TypeId} {es : List Event} {ts : List Token} → Saying (map_ends k ∷ es) ts
       → Left es (map_closes (gives_names k) ∷ []) ts
@@ -118,6 +123,7 @@ module _ (style : Style) (T : Table) (unsaid : style.taken.now ≡ []) where
 
   -- a key that gives a name is a leaf
   pub record NameSays (x : Tree) (es : List Event) (ts : List Token) : Type 0 where
+    pub utf8 : is_utf8 (text_bytes x) ≡ true
     pub rest : List Token
     pub left : Saying es rest
     pub whole : ts ≡ Token.key (key_text x) ∷ rest
@@ -129,11 +135,12 @@ module _ (style : Style) (T : Table) (unsaid : style.taken.now ≡ []) where
 
   leaf_name : {x : Tree} {k : TypeId} {es : List Event} {ts : List Token}
       → SaysEvents style T place.Name (leaf x ∷ (between k ∷ es)) ts place.Free → NameSays x es ts
-  leaf_name (said.says_name (said.says_between {ts = ts} q)) = record { rest = ts; left = q; whole = refl }
+  leaf_name (said.says_name u (said.says_between {ts = ts} q)) =
+      record { utf8 = u; rest = ts; left = q; whole = refl }
 
   not_due : {A : Type 0} {e : Event} {es : List Event} {ts : List Token} → ((x : Tree) → e ≡ leaf x → ⊥)
       → SaysEvents style T place.Name (e ∷ es) ts place.Free → A
-  not_due none (said.says_name {x = x} q) = absurd (none x refl)
+  not_due none (said.says_name {x = x} u q) = absurd (none x refl)
 
   name_says : (t : TypeId) (x : Tree) (k : TypeId) (es : List Event) (ts : List Token)
       → SaysEvents style T place.Name (value_told T t x ++ between k ∷ es) ts place.Free → NameSays x es ts
@@ -180,36 +187,37 @@ module _ (style : Style) (T : Table) (unsaid : style.taken.now ≡ []) where
   joined fs bs rest e f = e ∙ ap (λ (l : List Token). fs ++ l) f ∙ sym (append_assoc fs bs rest)
 
   map_so : (t : TypeId) (ps : Pairs) (es : List Event) (ts : List Token) (b : Bool)
-      → gives_names (key_type (shape_of T t)) ≡ b
+      → ((key_type (shape_of T t)).0 == 8) ≡ false → gives_names (key_type (shape_of T t)) ≡ b
       → (l : Left (entries_told false T (key_type (shape_of T t)) (element_type (shape_of T t)) ps ++ es)
       (map_opens (gives_names (key_type (shape_of T t))) ∷ []) ts)
       → (gives_names (key_type (shape_of T t)) ≡ true → MembersSay
-      (λ ms. MembersIn all_null style T (key_type (shape_of T t)) (element_type (shape_of T t)) ps ms) es l.rest)
+      (λ ms. MembersIn all_null style T (key_type (shape_of T t)) (element_type (shape_of T t)) ps ms
+      × (are_utf8 ps ≡ true)) es l.rest)
       → (gives_names (key_type (shape_of T t)) ≡ false → ItemsSay
       (λ js. PairsIn all_null style T (key_type (shape_of T t)) (element_type (shape_of T t)) ps js) es l.rest)
       → ValueSays t (Value.pairs ps) es ts
-  map_so t ps es ts true is l f g =
+  map_so t ps es ts true apart is l f g =
       let i = f is in
       let k = key_type (shape_of T t) in
       let e = element_type (shape_of T t) in
       record {
         said = json.object i.said;
-        says = map_in all_null style T t ps (json.object i.said) (subst (λ b. IsMapOf b
-            (λ ms. MembersIn all_null style T k e ps ms)
-            (λ js. PairsIn all_null style T k e ps js) (json.object i.said)) (sym is) (i.said, refl, i.says));
+        says = map_in all_null style T t ps (json.object i.said)
+            (map_named all_null style T k e ps (json.object i.said) (all_named k ps is i.says.1)
+            (i.said, refl, i.says.0));
         rest = i.rest;
         left = i.left;
         whole = l.whole ∙ ap (λ b. map_opens b ∷ l.rest) is ∙ ap (λ (l : List Token). Token.begin_object ∷ l) i.whole;
       }
-  map_so t ps es ts false isnt l f g =
+  map_so t ps es ts false apart isnt l f g =
       let i = g isnt in
       let k = key_type (shape_of T t) in
       let e = element_type (shape_of T t) in
       record {
         said = json.array i.said;
-        says = map_in all_null style T t ps (json.array i.said) (subst (λ b. IsMapOf b
-            (λ ms. MembersIn all_null style T k e ps ms)
-            (λ js. PairsIn all_null style T k e ps js) (json.array i.said)) (sym isnt) (i.said, refl, i.says));
+        says = map_in all_null style T t ps (json.array i.said)
+            (map_pairs all_null style T k e ps (json.array i.said) (form_other all_null style T k e ps isnt apart)
+            (i.said, refl, i.says));
         rest = i.rest;
         left = i.left;
         whole = l.whole ∙ ap (λ b. map_opens b ∷ l.rest) isnt ∙ ap (λ (l : List Token). Token.begin_array ∷ l) i.whole;
@@ -261,7 +269,7 @@ module _ (style : Style) (T : Table) (unsaid : style.taken.now ≡ []) where
         let k = key_type (shape_of T t) in
         let e = element_type (shape_of T t) in
         let l = map_says p in
-        map_so t ps es ts (gives_names k) refl l (λ is. members_say k e false ps es l.rest is l.left)
+        map_so t ps es ts (gives_names k) (map_apart p) refl l (λ is. members_say k e false ps es l.rest is l.left)
         (λ isnt. pairs_say k e false ps es l.rest isnt l.left)
     value_says t (Value.fields fs) es ts p =
         let l = struct_says p in
@@ -298,11 +306,11 @@ module _ (style : Style) (T : Table) (unsaid : style.taken.now ≡ []) where
 
     members_say : (k e : TypeId) (later : Bool) (ps : Pairs) (es : List Event) (ts : List Token)
         → gives_names k ≡ true → Saying (entries_told later T k e ps ++ es) ts
-        → MembersSay (λ ms. MembersIn all_null style T k e ps ms) es ts
+        → MembersSay (λ ms. MembersIn all_null style T k e ps ms × (are_utf8 ps ≡ true)) es ts
     members_say k e later no_pair es ts is p = let l = map_end_says p in
         record {
           said = json.no_members;
-          says = no_member_in all_null style T k e;
+          says = (no_member_in all_null style T k e, refl);
           rest = l.rest;
           left = l.left;
           whole = l.whole ∙ ap (λ b. map_closes b ∷ l.rest) is;
@@ -320,7 +328,10 @@ module _ (style : Style) (T : Table) (unsaid : style.taken.now ≡ []) where
         let others = members_say k e true ps es end.rest is end.left in
         record {
           said = json.member (key_text x) one.said others.said;
-          says = member_in all_null style T k e x v ps one.said others.said one.says others.says;
+          says = (
+            member_in all_null style T k e x v ps one.said others.said one.says others.says.0,
+            ap (λ b. b && are_utf8 ps) name.utf8 ∙ others.says.1,
+          );
           rest = others.rest;
           left = others.left;
           whole = name.whole ∙ ap (λ (l : List Token). Token.key (key_text x) ∷ l)

@@ -21,11 +21,12 @@ use Rattle.gob_plain.specs.OpaqueText.{Takes, content_in}
 use Rattle.gob_plain.specs.Plain.{nils, nils_of_each, nils_of_members, nils_of_pairs, nils_of_fields}
 use Rattle.gob_plain.specs.Plain.{all_null, behind, SaysWith, SayEachWith, SayMembersWith, SayPairsWith}
 use Rattle.gob_plain.specs.Plain.{SayFieldsWith, SayFields, SaysBoth, name_text, key_text}
-use Rattle.gob_plain.specs.Plain.{gives_names, SaysElementsWith, SaysMapWith, SaysStructWith}
+use Rattle.gob_plain.specs.Plain.{are_named, SaysElementsWith, SaysMapWith, SaysStructWith}
 use Rattle.gob_plain.specs.Filled.{filled, all_filled, pairs_filled, fields_filled, between, zeros_before, put_before}
 use Rattle.gob_plain.specs.Filled.{zero_at, shown_all, shown_pairs, shown_fields, nils_in, SaysInWith, SaysElementsIn}
 use Rattle.gob_plain.specs.Filled.{nils_of_each_in, nils_of_map_in, nils_of_fields_in, SaysMapIn, SaysStructIn}
 use Rattle.gob_plain.specs.AbsentFields.{AbsentTokens, SaysBefore}
+use Rattle.gob_plain.proofs.MapLaws.{filled_alike, named_filled}
 use Rattle.gob_plain.proofs.NilLaws.{zero_with}
 
 -- ---- parts in a style
@@ -67,20 +68,6 @@ element_in N style T e v vs j js = by style.zeros
 
 -- ---- entries
 
-key_filled : (T : Table) (k : TypeId) (x : Tree) → key_text x ≡ key_text (filled T k x)
-key_filled T k (Value.many vs) = refl
-key_filled T k (Value.pairs ps) = refl
-key_filled T k (Value.fields fs) = refl
-key_filled T k (Value.bool b) = refl
-key_filled T k (Value.int i) = refl
-key_filled T k (Value.uint n) = refl
-key_filled T k (Value.float p) = refl
-key_filled T k (Value.complex p q) = refl
-key_filled T k (Value.bytes b) = refl
-key_filled T k (Value.text b) = refl
-key_filled T k Value.nil = refl
-key_filled T k (Value.opaque b) = refl
-
 pub no_member_in : (N : ℕ → Json → Type 0) (style : Style) (T : Table) (k e : TypeId)
     → MembersIn N style T k e no_pair json.no_members
 no_member_in N style T k e = by style.zeros
@@ -101,7 +88,7 @@ member_in N style T k e x v ps j ms = by style.zeros
         (if z then pairs_filled T k e ps else ps) ms
         → SayMembersWith N (content_in style) T e (if z then pairs_filled T k e (pair x v ps) else pair x v ps)
         (json.member (key_text x) j ms)
-    by true p q = (key_filled T k x, p, q)
+    by true p q = (sym (filled_alike T k x).name, p, q)
     by false p q = (refl, p, q)
 
 pub no_entry_in : (N : ℕ → Json → Type 0) (style : Style) (T : Table) (k e : TypeId)
@@ -358,15 +345,11 @@ many_in N style T t vs j = by style.zeros
     by false s = s
 
 pub map_in : (N : ℕ → Json → Type 0) (style : Style) (T : Table) (t : TypeId) (ps : Pairs) (j : Json)
-    → SaysMapIn N (gives_names (key_type (shape_of T t))) style T (key_type (shape_of T t)) (element_type
-    (shape_of T t))
-    ps j
+    → SaysMapIn N style T (key_type (shape_of T t)) (element_type (shape_of T t)) ps j
     → SaysInWith N style T t (Value.pairs ps) j
 map_in N style T t ps j = by style.zeros
   where
-    by : (z : Bool) → SaysMapWith N (gives_names (key_type (shape_of T t))) (content_in style) T (key_type
-        (shape_of T t))
-        (element_type (shape_of T t))
+    by : (z : Bool) → SaysMapWith N (content_in style) T (key_type (shape_of T t)) (element_type (shape_of T t))
         (if z then pairs_filled T (key_type (shape_of T t)) (element_type (shape_of T t)) ps else ps) j
         → SaysWith N (content_in style) T t (if z then filled T t (Value.pairs ps) else Value.pairs ps) j
     by true s = s
@@ -394,16 +377,19 @@ many_nils style T t vs = by style.zeros
 
 pub map_nils : (style : Style) (T : Table) (t : TypeId) (ps : Pairs)
     → nils_in style T t (Value.pairs ps)
-    ≡ nils_of_map_in (gives_names (key_type (shape_of T t))) style T (key_type (shape_of T t))
-    (element_type (shape_of T t)) ps
+    ≡ nils_of_map_in style T (key_type (shape_of T t)) (element_type (shape_of T t)) ps
 map_nils style T t ps = by style.zeros
   where
     by : (z : Bool) → nils T t (if z then filled T t (Value.pairs ps) else Value.pairs ps)
-        ≡ (if gives_names (key_type (shape_of T t)) then nils_of_members T (element_type (shape_of T t))
+        ≡ (if are_named (key_type (shape_of T t)) ps then nils_of_members T (element_type (shape_of T t))
         (if z then pairs_filled T (key_type (shape_of T t)) (element_type (shape_of T t)) ps else ps)
         else nils_of_pairs T (key_type (shape_of T t)) (element_type (shape_of T t))
         (if z then pairs_filled T (key_type (shape_of T t)) (element_type (shape_of T t)) ps else ps))
-    by true = refl
+    by true =
+        let k = key_type (shape_of T t) in
+        let e = element_type (shape_of T t) in
+        let all = pairs_filled T k e ps in
+        ap (λ b. if b then nils_of_members T e all else nils_of_pairs T k e all) (named_filled T k e ps)
     by false = refl
 
 pub struct_nils : (style : Style) (T : Table) (t : TypeId) (fs : Fields)
@@ -463,7 +449,7 @@ member_out N style T k e x v ps name j ms = by style.zeros
         → (name ≡ key_text x) × SaysWith N (content_in style) T e (if z then filled T e v else v) j
         × SayMembersWith (behind (nils T e (if z then filled T e v else v)) N) (content_in style) T e
         (if z then pairs_filled T k e ps else ps) ms
-    by true s = (s.0 ∙ sym (key_filled T k x), s.1, s.2)
+    by true s = (s.0 ∙ (filled_alike T k x).name, s.1, s.2)
     by false s = s
 
 pub member_missing : (N : ℕ → Json → Type 0) (style : Style) (T : Table) (k e : TypeId) (x v : Tree) (ps : Pairs)
@@ -537,14 +523,11 @@ many_out N style T t vs j = by style.zeros
 
 pub map_out : (N : ℕ → Json → Type 0) (style : Style) (T : Table) (t : TypeId) (ps : Pairs) (j : Json)
     → SaysInWith N style T t (Value.pairs ps) j
-    → SaysMapIn N (gives_names (key_type (shape_of T t))) style T (key_type (shape_of T t)) (element_type
-    (shape_of T t))
-    ps j
+    → SaysMapIn N style T (key_type (shape_of T t)) (element_type (shape_of T t)) ps j
 map_out N style T t ps j = by style.zeros
   where
     by : (z : Bool) → SaysWith N (content_in style) T t (if z then filled T t (Value.pairs ps) else Value.pairs ps) j
-        → SaysMapWith N (gives_names (key_type (shape_of T t))) (content_in style) T (key_type (shape_of T t))
-        (element_type (shape_of T t))
+        → SaysMapWith N (content_in style) T (key_type (shape_of T t)) (element_type (shape_of T t))
         (if z then pairs_filled T (key_type (shape_of T t)) (element_type (shape_of T t)) ps else ps) j
     by true s = s
     by false s = s

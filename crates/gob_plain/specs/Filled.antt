@@ -1,6 +1,6 @@
 -- A value with the zeros that Go's encoder leaves out: in each struct of it, what the tidy form drops is put back.
 -- (Go's encoding/gob documentation, Encoding Details, on omitted zero values; docs/FORMAT.md, Tidy form; Plain values.)
-use Rattle.std.specs.Prelude.{ℕ, zero, suc, pos, ◌+◌, ◌-◌, min, Bool, false, List, [], length, Option, Some, None}
+use Rattle.std.specs.Prelude.{ℕ, zero, suc, pos, ◌+◌, ◌-◌, min, false, List, [], length, Option, Some, None}
 use Rattle.std.specs.Prelude.{slice_get, if◌then◌else◌}
 use Rattle.json.specs.Json.{Json}
 use Rattle.gob_types.specs.declared.basic.Basic.TheVariants as basic
@@ -15,9 +15,10 @@ use Rattle.gob_value.specs.Tree as Value
 use Rattle.gob_json.specs.Json.{element_type, key_type, struct_fields, field_type}
 use Rattle.gob_plain.specs.declared.style.Style.{Style}
 use Rattle.gob_plain.specs.OpaqueText.{content_in}
-use Rattle.gob_plain.specs.Plain.{all_null, nils, nils_of_each, nils_of_members, nils_of_pairs, nils_of_fields}
+use Rattle.gob_plain.specs.Plain.{all_null, are_named, nils, nils_of_each, nils_of_members, nils_of_pairs}
+use Rattle.gob_plain.specs.Plain.{nils_of_fields}
 use Rattle.gob_plain.specs.Plain.{SaysWith, SaysElementsWith, SaysMembersWith, SaysPairsWith, SaysMapWith}
-use Rattle.gob_plain.specs.Plain.{SaysStructWith}
+use Rattle.gob_plain.specs.Plain.{SaysTextsWith, SaysStructWith}
 
 -- the zero that a struct drops from a field of this kind: that of a basic type, or a slice without elements
 abbrev pub zero_by : Kind → Option Tree
@@ -105,9 +106,9 @@ nils_of_members_in style T k e ps = nils_of_members T e (shown_pairs style T k e
 abbrev pub nils_of_pairs_in : Style → Table → TypeId → TypeId → Pairs → ℕ
 nils_of_pairs_in style T k e ps = nils_of_pairs T k e (shown_pairs style T k e ps)
 
-abbrev pub nils_of_map_in : Bool → Style → Table → TypeId → TypeId → Pairs → ℕ
-nils_of_map_in named style T k e ps =
-    if named then nils_of_members_in style T k e ps else nils_of_pairs_in style T k e ps
+abbrev pub nils_of_map_in : Style → Table → TypeId → TypeId → Pairs → ℕ
+nils_of_map_in style T k e ps =
+    if are_named k ps then nils_of_members_in style T k e ps else nils_of_pairs_in style T k e ps
 
 abbrev pub nils_of_fields_in : Style → Table → List Field → ℕ → Fields → ℕ
 nils_of_fields_in style T types from fs = nils_of_fields T types (shown_fields style T types from fs)
@@ -130,8 +131,11 @@ SaysMembersIn N style T k e ps j = SaysMembersWith N (content_in style) T e (sho
 abbrev pub SaysPairsIn : (ℕ → Json → Type 0) → Style → Table → TypeId → TypeId → Pairs → Json → Type 0
 SaysPairsIn N style T k e ps j = SaysPairsWith N (content_in style) T k e (shown_pairs style T k e ps) j
 
-abbrev pub SaysMapIn : (ℕ → Json → Type 0) → Bool → Style → Table → TypeId → TypeId → Pairs → Json → Type 0
-SaysMapIn N named style T k e ps j = SaysMapWith N named (content_in style) T k e (shown_pairs style T k e ps) j
+abbrev pub SaysTextsIn : (ℕ → Json → Type 0) → Style → Table → TypeId → TypeId → Pairs → Json → Type 0
+SaysTextsIn N style T k e ps j = SaysTextsWith N (content_in style) T k e (shown_pairs style T k e ps) j
+
+abbrev pub SaysMapIn : (ℕ → Json → Type 0) → Style → Table → TypeId → TypeId → Pairs → Json → Type 0
+SaysMapIn N style T k e ps j = SaysMapWith N (content_in style) T k e (shown_pairs style T k e ps) j
 
 abbrev pub SaysStructIn : (ℕ → Json → Type 0) → Style → Table → List Field → Fields → Json → Type 0
 SaysStructIn N style T types fs j = SaysStructWith N (content_in style) T types (shown_fields style T types 0 fs) j

@@ -1,5 +1,6 @@
 -- The tokens of plain JSON that say what a visitor is told of a value, event by event. (docs/FORMAT.md, Plain values.)
-use Rattle.std.specs.Prelude.{◌≡◌, ℕ, List, [], ◌∷◌, ◌++◌, Bool, true, false, Option, length, slice_get}
+use Rattle.std.specs.Prelude.{◌≡◌, ◌==◌, ℕ, List, [], ◌∷◌, ◌++◌, Bool, true, false, Option, length, slice_get}
+use Rattle.std.specs.Str.{is_utf8}
 use Rattle.std.proofs.Common.{refl, sym, subst, append_assoc}
 use Rattle.json.specs.Json.{Json}
 use Rattle.json.specs.Token.{Token}
@@ -18,7 +19,7 @@ use Rattle.gob_plain.specs.declared.style.Style.{Style}
 use Rattle.gob_plain.specs.AbsentFields.{AbsentTokens}
 use Rattle.gob_plain.specs.declared.opaque.Content.TheVariants as content
 use Rattle.gob_plain.specs.OpaqueText.{SaysContent, content_of}
-use Rattle.gob_plain.specs.Plain.{Says, gives_names, key_text, name_text}
+use Rattle.gob_plain.specs.Plain.{Says, gives_names, key_text, name_text, text_bytes}
 
 -- of a value without parts that isn't opaque, neither its type nor the style tells more
 abbrev pub LeafSays : Tree → Json → Type 0
@@ -38,7 +39,7 @@ entry_closes true = []
 entry_closes false = Token.end_array ∷ []
 
 -- The tokens say the events, which lead from one place to another, where nothing is said of types. Where a part stands
--- in place of a name, which it does in no value, they say nothing.
+-- in place of a name, which it does in no value, and in some maps, they say nothing.
 pub data SaysEvents (style : Style) (T : Table) : Place → List Event → List Token → Place → Type 0 where
   says_nothing : {a : Place} → SaysEvents style T a [] [] a
   says_lost : {a : Place} {es : List Event} {ts : List Token} → SaysEvents style T a es ts place.Lost
@@ -53,7 +54,9 @@ pub data SaysEvents (style : Style) (T : Table) : Place → List Event → List 
       → SaysEvents style T place.Free (element later ∷ es) ts a
   says_list_end : {es : List Event} {ts : List Token} {a : Place} → SaysEvents style T place.Free es ts a
       → SaysEvents style T place.Free (list_ends ∷ es) (Token.end_array ∷ ts) a
-  says_map : {k : TypeId} {es : List Event} {ts : List Token} {a : Place} → SaysEvents style T place.Free es ts a
+  -- where keys are interfaces, an entry may be a member or not
+  says_map : {k : TypeId} {es : List Event} {ts : List Token} {a : Place} → (k.0 == 8) ≡ false
+      → SaysEvents style T place.Free es ts a
       → SaysEvents style T place.Free (map_begins k ∷ es) (map_opens (gives_names k) ∷ ts) a
   says_entry : {k : TypeId} {later : Bool} {es : List Event} {ts : List Token} {a : Place} → gives_names k ≡ false
       → SaysEvents style T place.Free es ts a
@@ -61,7 +64,9 @@ pub data SaysEvents (style : Style) (T : Table) : Place → List Event → List 
   -- where keys give names, a name is due
   says_due : {k : TypeId} {later : Bool} {es : List Event} {ts : List Token} {a : Place} → gives_names k ≡ true
       → SaysEvents style T place.Name es ts a → SaysEvents style T place.Free (entry k later ∷ es) ts a
-  says_name : {x : Tree} {es : List Event} {ts : List Token} {a : Place} → SaysEvents style T place.Free es ts a
+  -- that of a text that isn't UTF-8 may be that of another key
+  says_name : {x : Tree} {es : List Event} {ts : List Token} {a : Place} → is_utf8 (text_bytes x) ≡ true
+      → SaysEvents style T place.Free es ts a
       → SaysEvents style T place.Name (leaf x ∷ es) (Token.key (key_text x) ∷ ts) a
   says_between : {k : TypeId} {es : List Event} {ts : List Token} {a : Place} → SaysEvents style T place.Free es ts a
       → SaysEvents style T place.Free (between k ∷ es) ts a
@@ -114,10 +119,10 @@ module _ (style : Style) (T : Table) where
   says_both (says_list r) q = says_list (says_both r q)
   says_both (says_element r) q = says_element (says_both r q)
   says_both (says_list_end r) q = says_list_end (says_both r q)
-  says_both (says_map r) q = says_map (says_both r q)
+  says_both (says_map p r) q = says_map p (says_both r q)
   says_both (says_entry p r) q = says_entry p (says_both r q)
   says_both (says_due p r) q = says_due p (says_both r q)
-  says_both (says_name r) q = says_name (says_both r q)
+  says_both (says_name p r) q = says_name p (says_both r q)
   says_both (says_between r) q = says_between (says_both r q)
   says_both {c = c} {fs = fs} {us = us} (says_entry_end {k = k} {es = es} {ts = ts} r) q =
       subst (λ (l : List Token). SaysBetween place.Free (entry_ends k ∷ (es ++ fs)) l c)

@@ -1,12 +1,13 @@
 //! Nils that texts of JSON fill.
 
-ghost use Rattle.std.specs.Prelude.{◌≡◌, ◌+◌, Some, slice_get};
+ghost use Rattle.std.specs.Prelude.{◌≡◌, ◌+◌, IfOk, Some, option_map, slice_get, string_bytes};
 ghost use Rattle.json.specs.Json.{Json};
 ghost use Rattle.json.specs.Lex.{tokens};
 ghost use Rattle.json.specs.Tree.{json_tokens};
 ghost use Rattle.gob_json_writer.specs.WritesJson.{WritesTokens};
 ghost use Rattle.gob_plain.specs.Fillers.{AreFillers, FillerSays, HasJson, IsFiller, SaysFiller};
-ghost use Rattle.gob_plain.specs.WritesPlain.{WritesPlain};
+ghost use Rattle.gob_plain.specs.Plain.{said_text};
+ghost use Rattle.gob_plain.specs.WritesPlain.{NamesMember, WritesPlain, WritesSome};
 
 use crate::leaf::write_name;
 use crate::nils::Nils;
@@ -46,6 +47,24 @@ impl Nils for Fillers<'_> {
             }
         }
     }
+
+    fn text_ahead(&self, alloc: Global, ahead: usize) -> Result<Option<String>, AllocError> {
+        let Some(place) = self.passed.checked_add(ahead) else {
+            return Ok(None);
+        };
+        match self.all.get(place) {
+            Some(next) => next_text(alloc, next),
+            None => Ok(None),
+        }
+    }
+
+    fn write_name(&mut self, alloc: Global, out: &mut Writer) -> Result<(), AllocError> {
+        let Some(next) = self.all.get(self.passed) else {
+            return out.key("");
+        };
+        self.passed += 1;
+        write_next_name(alloc, next, out)
+    }
 }
 
 /// Writes what a nil says that this fills, or nothing.
@@ -56,6 +75,56 @@ fn write_next(alloc: Global, next: &Option<Filler<'_>>, out: &mut Writer) -> Res
     match next {
         Some(filler) => write_filler(alloc, filler, out),
         None => out.null(),
+    }
+}
+
+/// Writes the text that a nil says that this fills, or nothing, as the name of a member.
+fn write_next_name(
+    alloc: Global,
+    next: &Option<Filler<'_>>,
+    out: &mut Writer,
+) -> Result<(), AllocError>
+    requires { IsFiller next.now }
+    ensures { WritesSome result out.old out.new (NamesMember (FillerSays (Some next.now))) }
+{
+    match next_text(alloc, next)? {
+        Some(text) => out.key(text.as_str()),
+        None => out.key(""),
+    }
+}
+
+/// The text that a nil says that this fills, or nothing.
+fn next_text(alloc: Global, next: &Option<Filler<'_>>) -> Result<Option<String>, AllocError>
+    ensures { IfOk result (λ text. (j : Json) → FillerSays (Some next.now) j
+        → option_map string_bytes text ≡ said_text j) }
+{
+    match next {
+        Some(filler) => filler_text(alloc, filler),
+        None => Ok(None),
+    }
+}
+
+/// The text that this fills its nil with.
+fn filler_text(alloc: Global, filler: &Filler<'_>) -> Result<Option<String>, AllocError>
+    ensures { IfOk result (λ text. (j : Json) → SaysFiller filler.now j
+        → option_map string_bytes text ≡ said_text j) }
+{
+    match filler.name {
+        Some(_) => Ok(None),
+        None => text_in(alloc, filler.text.as_str()),
+    }
+}
+
+/// The text that the JSON of this text is.
+fn text_in(alloc: Global, text: &str) -> Result<Option<String>, AllocError>
+    ensures { IfOk result (λ said. (j : Json) → tokens text.now ≡ json_tokens j
+        → option_map string_bytes said ≡ said_text j) }
+{
+    let mut scratch = Scratch::new(alloc);
+    let mut reader = Reader::new(text, &mut scratch)?;
+    match reader.next() {
+        Some(Token::String(said)) => Ok(Some(String::from_str(alloc, said)?)),
+        _ => Ok(None),
     }
 }
 

@@ -1,7 +1,8 @@
 //! Parts without parts, and names.
 
-ghost use Rattle.std.specs.Prelude.{◌≡◌, ◌∷◌, []};
+ghost use Rattle.std.specs.Prelude.{◌≡◌, ◌∷◌, ◌++◌, [], IfOk, codes, string_bytes};
 ghost use Rattle.std.specs.Fmt.{decimal, signed_decimal};
+ghost use Rattle.hex.specs.Hex.{encode_lower};
 ghost use Rattle.json.specs.Token.{key};
 ghost use Rattle.gob_read.specs.Leaf.{signed_of};
 ghost use Rattle.gob_value.specs.Tree.{Tree};
@@ -88,11 +89,57 @@ pub(crate) fn write_name(alloc: Global, name: &[u8], out: &mut Writer) -> Result
     match str::from_utf8(name) {
         Ok(name) => out.key(name),
         Err(_) => {
-            let mut text = String::from_str(alloc, "0x")?;
-            text.push_str(hex::encode(alloc, name)?.as_str())?;
+            let text = hex_name(alloc, name)?;
             out.key(text.as_str())
         }
     }
+}
+
+// The text that stands for a name that isn't UTF-8.
+fn hex_name(alloc: Global, name: &[u8]) -> Result<String, AllocError>
+    ensures { IfOk result (λ text. string_bytes text ≡ codes "0x" ++ encode_lower name.now) }
+{
+    let mut text = String::from_str(alloc, "0x")?;
+    text.push_str(hex::encode(alloc, name)?.as_str())?;
+    Ok(text)
+}
+
+/// The name that a key of a map gives a member.
+pub(crate) fn key_name(alloc: Global, part: View<'_>) -> Result<String, AllocError>
+    ensures { IfOk result (λ name. (v : Tree) → Shows part.entry v → string_bytes name ≡ key_text v) }
+{
+    match part.kind() {
+        ValueKind::Str => name_of(alloc, part.bytes()),
+        ValueKind::Int => int_name(alloc, part.numbers().0),
+        ValueKind::Uint => uint_name(alloc, part.numbers().0),
+        _ => Ok(String::new(alloc)),
+    }
+}
+
+// The text of a name.
+fn name_of(alloc: Global, name: &[u8]) -> Result<String, AllocError>
+    ensures { IfOk result (λ text. string_bytes text ≡ name_text name.now) }
+{
+    match str::from_utf8(name) {
+        Ok(name) => String::from_str(alloc, name),
+        Err(_) => hex_name(alloc, name),
+    }
+}
+
+// The signed number that this one spells, in decimal.
+fn int_name(alloc: Global, number: u64) -> Result<String, AllocError>
+    ensures { IfOk result (λ name. string_bytes name ≡ signed_decimal (signed_of number)) }
+{
+    let mut digits = itoa::Buffer::new();
+    String::from_str(alloc, digits.format(to_signed(number)))
+}
+
+// The number in decimal.
+fn uint_name(alloc: Global, number: u64) -> Result<String, AllocError>
+    ensures { IfOk result (λ name. string_bytes name ≡ decimal number) }
+{
+    let mut digits = itoa::Buffer::new();
+    String::from_str(alloc, digits.format(number))
 }
 
 /// Writes the key of a map as the name of a member.

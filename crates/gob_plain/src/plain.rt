@@ -1,19 +1,21 @@
 //! The plain JSON of a value that a tape means, written part by part as the views show it.
 
-ghost use Rattle.std.specs.Prelude.{◌≡◌};
+ghost use Rattle.std.specs.Prelude.{◌≡◌, true};
 ghost use Rattle.gob_types.specs.Defined.{types};
 ghost use Rattle.gob_types.specs.Table.{shape_of};
 ghost use Rattle.gob_json.specs.Json.{element_type, key_type};
+ghost use Rattle.gob_value.specs.Tree.{Pairs};
 ghost use Rattle.gob_tape.specs.Meaning.{Means};
 ghost use Rattle.gob_tape.specs.Seeing.{Gives, elements, alternating, present};
-ghost use Rattle.gob_plain.specs.Plain.{gives_names};
+ghost use Rattle.gob_plain.specs.Plain.{are_bare};
 ghost use Rattle.gob_plain.specs.Filled.{nils_in, nils_of_each_in, nils_of_map_in, nils_of_members_in};
 ghost use Rattle.gob_plain.specs.Filled.{nils_of_pairs_in, nils_of_fields_in, SaysIn, SaysInWith, SaysElementsIn};
 ghost use Rattle.gob_plain.specs.Filled.{SaysMapIn};
-ghost use Rattle.gob_plain.specs.Filled.{SaysMembersIn, SaysPairsIn, SaysStructIn};
+ghost use Rattle.gob_plain.specs.Filled.{SaysMembersIn, SaysPairsIn, SaysStructIn, SaysTextsIn};
 ghost use Rattle.gob_plain.specs.WritesPlain.{WritesNilsOf, WritesPlainOf, Shows};
 
 use crate::leaf::{write_key, write_leaf, write_name};
+use crate::maps::{MapForm, form_of};
 use crate::nils::{Nils, Nulls};
 use crate::opaque::write_opaque;
 use crate::style::Style;
@@ -74,13 +76,6 @@ fn entry_types<S: Shapes>(table: &S, id: TypeId) -> EntryTypes
         key: key_of(table, id),
         element: element_of(table, id),
     }
-}
-
-// Whether the keys of a map give names to members: texts and whole numbers do.
-pub(crate) fn gives_names(key: TypeId) -> bool
-    ensures { result ≡ gives_names key }
-{
-    key.0 == 6 || key.0 == 2 || key.0 == 3
 }
 
 // Writes the part as one of this type.
@@ -163,7 +158,7 @@ fn write_elements<S: Shapes, N: Nils>(
     out.end_array()
 }
 
-// Writes the entries of a map: as an object where the keys give names, else as an array.
+// Writes the entries of a map: as an object where the keys or the texts that fill them name them, else as an array.
 #[cycle(part)]
 fn write_map<S: Shapes, N: Nils>(
     alloc: Global,
@@ -177,14 +172,14 @@ fn write_map<S: Shapes, N: Nils>(
     requires { N.fit nils.old }
     ensures said { WritesNilsOf result out.old out.new (N.says nils.old) (N.says nils.new)
         (λ ps. Gives parts.entry (alternating ps))
-        (nils_of_map_in (gives_names types.key) style.entry (S.table table.now) types.key types.element)
-        (SaysMapIn (N.says nils.old) (gives_names types.key) style.entry (S.table table.now) types.key types.element) }
+        (nils_of_map_in style.entry (S.table table.now) types.key types.element)
+        (SaysMapIn (N.says nils.old) style.entry (S.table table.now) types.key types.element) }
     ensures fit { N.fit nils.new }
 {
-    if gives_names(types.key) {
-        write_members(alloc, parts, types, table, style, nils, out)
-    } else {
-        write_pairs(alloc, parts, types, table, style, nils, out)
+    match form_of(alloc, parts, types.key, nils)? {
+        MapForm::Named => write_members(alloc, parts, types, table, style, nils, out),
+        MapForm::NamedByTexts => write_texts(alloc, parts, types, table, style, nils, out),
+        MapForm::Pairs => write_pairs(alloc, parts, types, table, style, nils, out),
     }
 }
 
@@ -211,6 +206,38 @@ fn write_members<S: Shapes, N: Nils>(
     for part in parts {
         if is_key {
             write_key(alloc, part, out)?;
+        } else {
+            write_part(alloc, part, types.element, table, style, nils, out)?;
+        }
+        is_key = !is_key;
+    }
+    out.end_object()
+}
+
+// Writes an object with a member for each entry, named by the text that fills its key.
+#[cycle(part)]
+fn write_texts<S: Shapes, N: Nils>(
+    alloc: Global,
+    parts: Children<'_>,
+    types: EntryTypes,
+    table: &S,
+    style: Style<'_>,
+    nils: &mut N,
+    out: &mut Writer,
+) -> Result<(), AllocError>
+    requires fit { N.fit nils.old }
+    requires bare { (ps : Pairs) → Gives parts (alternating ps) → are_bare ps ≡ true }
+    ensures said { WritesNilsOf result out.old out.new (N.says nils.old) (N.says nils.new)
+        (λ ps. Gives parts.entry (alternating ps))
+        (nils_of_pairs_in style.entry (S.table table.now) types.key types.element)
+        (SaysTextsIn (N.says nils.old) style.entry (S.table table.now) types.key types.element) }
+    ensures fit { N.fit nils.new }
+{
+    out.begin_object()?;
+    let mut is_key = true;
+    for part in parts {
+        if is_key {
+            nils.write_name(alloc, out)?;
         } else {
             write_part(alloc, part, types.element, table, style, nils, out)?;
         }

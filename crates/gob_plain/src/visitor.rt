@@ -7,8 +7,8 @@ use crate::ints::write_ints;
 use crate::leaf::{
     write_bytes, write_complex, write_float, write_name, write_signed_name, write_uint_name,
 };
+use crate::maps::{gives_names, is_interface};
 use crate::opaque::write_guessed;
-use crate::plain::gives_names;
 use crate::style::Style;
 use crate::zeros::write_absent;
 use gob_json_writer::write_text;
@@ -16,6 +16,7 @@ use gob_types::{Field, Fields, Kind, Shape, Shapes, TypeId};
 use gob_walk::{Stop, Visitor};
 use json::Writer;
 use std::alloc::{AllocError, Global};
+use std::str;
 
 /// Where a visitor is in what it is told.
 #[derive(Clone, Copy)]
@@ -24,7 +25,8 @@ pub(crate) enum Place {
     Free,
     /// Before a key that gives a member its name.
     Name,
-    /// Behind a part that stood in place of a name, which it does in no value: what is written says nothing.
+    /// Behind a part that stood in place of a name, which it does in no value, or in a map that may be an object or an
+    /// array: what is written says nothing.
     Lost,
 }
 
@@ -81,6 +83,14 @@ impl Place {
         if let Place::Name = *self {
             *self = Place::Lost;
         }
+    }
+
+    // What is written says nothing from here on.
+    #[inline(always)]
+    fn gets_lost(&mut self)
+        ensures { self.new ≡ place.Lost }
+    {
+        *self = Place::Lost;
     }
 }
 
@@ -143,10 +153,17 @@ impl<S: Shapes> Visitor for Plain<'_, S> {
     }
 
     fn text(&mut self, bytes: &[u8]) -> Result<(), AllocError> {
-        if self.place.takes_name() {
-            return write_name(self.alloc, bytes, &mut self.out);
+        if !self.place.takes_name() {
+            return write_text(self.alloc, bytes, &mut self.out);
         }
-        write_text(self.alloc, bytes, &mut self.out)
+        match str::from_utf8(bytes) {
+            Ok(name) => self.out.key(name),
+            Err(_) => {
+                // another key may give this name
+                self.place.gets_lost();
+                Ok(())
+            }
+        }
     }
 
     fn nil(&mut self) -> Result<(), AllocError> {
@@ -192,6 +209,10 @@ impl<S: Shapes> Visitor for Plain<'_, S> {
 
     fn map_begins(&mut self, key: TypeId) -> Result<(), AllocError> {
         self.place.leaves_name();
+        if is_interface(key) {
+            self.place.gets_lost();
+            return Ok(());
+        }
         if gives_names(key) {
             return self.out.begin_object();
         }

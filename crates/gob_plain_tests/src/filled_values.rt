@@ -1,4 +1,4 @@
-//! The JSON of values whose nils are filled. What fills them are numbers.
+//! The JSON of values whose nils are filled. What fills them are numbers and texts.
 
 ghost use Rattle.std.specs.Prelude.{◌≡◌, [], IfOk, string_bytes};
 ghost use Rattle.json.specs.Json.{Json};
@@ -16,10 +16,10 @@ use json::Writer;
 use std::alloc::{AllocError, Global};
 use std::test::*;
 
-// What, a stream, the numbers that fill the nils of its last value, each behind its name where one is shown before it,
-// or - where nothing fills the nil, and the JSON. The name ff is one byte, and no UTF-8. Type 65 is a struct P of two
-// interfaces A and B, a slice of interfaces, a map of interfaces by interfaces, or one by texts. An empty line stands
-// between two rows.
+// What, a stream, the numbers that fill the nils of its last value, or the texts, behind a ', each behind its name
+// where one is shown before it, or - where nothing fills the nil, and the JSON. The name ff is one byte, and no UTF-8.
+// Type 65 is a struct P of two interfaces A and B, a slice of interfaces, or of maps, or a map by interfaces or texts.
+// An empty line stands between two rows.
 const ROWS: &str = r#"
 both fields | 1b ff 81 03 01 01 01 50 01 ff 82 00 01 02 01 01 41 01 10 00 01 01 42 01 10 00 00 00
 07 ff 82 01 00 01 00 00 | 1 2 | {"A":1,"B":2}
@@ -35,16 +35,47 @@ keys that are no names | 0e ff 81 04 01 02 ff 82 00 01 10 01 10 00 00
 keys that are names | 0e ff 81 04 01 02 ff 82 00 01 0c 01 10 00 00
 0a ff 82 00 02 01 61 00 01 62 00 | 1 2 - 4 | {"a":1,"b":2}
 
+keys that texts fill | 0e ff 81 04 01 02 ff 82 00 01 10 01 10 00 00
+08 ff 82 00 02 00 00 00 00 | 'b 1 'a - | {"b":1,"a":null}
+
+keys that one text fills | 0e ff 81 04 01 02 ff 82 00 01 10 01 10 00 00
+08 ff 82 00 02 00 00 00 00 | 'a 1 'a 2 | [["a",1],["a",2]]
+
+keys that a text and a number fill | 0e ff 81 04 01 02 ff 82 00 01 10 01 10 00 00
+08 ff 82 00 02 00 00 00 00 | 'a 1 2 'b | [["a",1],[2,"b"]]
+
+keys that a text and nothing fill | 0e ff 81 04 01 02 ff 82 00 01 10 01 10 00 00
+08 ff 82 00 02 00 00 00 00 | 'a 1 - 2 | [["a",1],[null,2]]
+
+keys that a text fills under a name | 0e ff 81 04 01 02 ff 82 00 01 10 01 10 00 00
+08 ff 82 00 02 00 00 00 00 | 'a 1 main.T='b 2 | [["a",1],[{"main.T":"b"},2]]
+
+texts that have escapes | 0e ff 81 04 01 02 ff 82 00 01 10 01 10 00 00
+08 ff 82 00 02 00 00 00 00 | 'a\b 1 'é" 'é | {"a\\b":1,"é\"":"é"}
+
+keys that texts fill, and elements that are none | 0e ff 81 04 01 02 ff 82 00 01 10 01 04 00 00
+08 ff 82 00 02 00 02 00 04 | 'a 'b | {"a":1,"b":2}
+
+keys that texts fill, and elements that have parts | 0f ff 81 04 01 02 ff 82 00 01 10 01 ff 84 00 00
+0c ff 83 02 01 02 ff 84 00 01 04 00 00 07 ff 82 00 01 00 01 02 | 'a | [["a",[1]]]
+
+a map behind another | 0d ff 81 02 01 02 ff 82 00 01 ff 84 00 00 0e ff 83 04 01 02 ff 84 00 01 10 01 10 00 00
+0d ff 82 00 03 01 00 00 01 00 00 01 00 00 | 'a - 2 3 'b 'c | [{"a":null},[[2,3]],{"b":"c"}]
+
 a name, and one that is no UTF-8 | 0c ff 81 02 01 02 ff 82 00 01 10 00 00
 06 ff 82 00 02 00 00 | main.T=1 ff=2 | [{"main.T":1},{"0xff":2}]
 "#;
 
-// The text of the number.
-fn number_text(alloc: Global, number: u64) -> Result<String, Memory>
+// The JSON of the text behind a ', or of the number.
+fn json_text(alloc: Global, word: &str) -> Result<String, Memory>
     ensures { IfOk result (λ text. (j : Json) × (tokens (string_bytes text) ≡ json_tokens j)) }
 {
     let mut out = Writer::new(Vec::new(alloc));
-    out.u64(number)?;
+    if let Some(text) = word.strip_prefix('\'') {
+        out.string(text)?;
+        return Ok(text_of(out));
+    }
+    out.u64(word.parse().unwrap_or(0))?;
     Ok(text_of(out))
 }
 
@@ -59,11 +90,11 @@ fn text_of(out: Writer) -> String
     }
 }
 
-// The name in a word, and the digits behind it.
-fn name_and_digits<'a>(word: &'a str) -> (Option<&'a [u8]>, &'a str) {
+// The name in a word, and what stands behind it.
+fn name_and_rest<'a>(word: &'a str) -> (Option<&'a [u8]>, &'a str) {
     match word.split_once('=') {
-        Some(("ff", digits)) => (Some(&[255]), digits),
-        Some((name, digits)) => (Some(name.as_bytes()), digits),
+        Some(("ff", rest)) => (Some(&[255]), rest),
+        Some((name, rest)) => (Some(name.as_bytes()), rest),
         None => (None, word),
     }
 }
@@ -75,8 +106,8 @@ fn filler_of<'a>(alloc: Global, word: &'a str) -> Result<Option<Filler<'a>>, Mem
     if word == "-" {
         return Ok(None);
     }
-    let (name, digits) = name_and_digits(word);
-    let text = number_text(alloc, digits.parse().unwrap_or(0))?;
+    let (name, rest) = name_and_rest(word);
+    let text = json_text(alloc, rest)?;
     Ok(Some(Filler { name, text }))
 }
 

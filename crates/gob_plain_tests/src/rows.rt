@@ -68,8 +68,6 @@ a map of texts, one of them twice | MAP 0a ff 82 00 02 01 61 02 01 61 04 | {"a":
 
 an empty map of texts | MAP 04 ff 82 00 00 | {}
 
-a map of a text that is no UTF-8 | MAP 07 ff 82 00 01 01 ff 02 | {"0xff":1}
-
 a map of ints | 0e ff 81 04 01 02 ff 82 00 01 04 01 0c 00 00 07 ff 82 00 01 05 01 6d | {"-3":"m"}
 
 a map of uints | 0e ff 81 04 01 02 ff 82 00 01 06 01 02 00 00 0e ff 82 00 01 f8 ff ff ff ff ff ff ff ff
@@ -91,4 +89,22 @@ two fields of one name | 1b ff 81 03 01 01 01 53 01 ff 82 00 01 02 01 01 58 01 0
 2c 01 42 00 | {"X":22,"X":33}
 
 bytes that only their Go type explains | TIME 06 ff 82 00 02 0a 0b | "Cgs="
+"#;
+
+/// So of maps that may be objects or arrays, which their fronts don't tell.
+pub(crate) const MAPS: &str = r#"
+a map of a text that is no UTF-8 | MAP 07 ff 82 00 01 01 ff 02 | {"0xff":1}
+
+a key that is no UTF-8, and the text of its name | MAP 0d ff 82 00 02 01 ff 02 04 30 78 66 66
+04 | [[{"hex":"ff"},1],["0xff",2]]
+
+a key that is no UTF-8, and another name | MAP 0d ff 82 00 02 01 ff 02 04 30 78 66 65 04 | {"0xff":1,"0xfe":2}
+
+a key that is no UTF-8, and a text twice | MAP 0d ff 82 00 03 01 ff 02 01 61 04 01 61
+06 | [[{"hex":"ff"},1],["a",2],["a",3]]
+
+an empty map of interfaces | 0e ff 81 04 01 02 ff 82 00 01 10 01 10 00 00 04 ff 82 00 00 | {}
+
+a map of an interface that holds nothing | 0e ff 81 04 01 02 ff 82 00 01 10 01 10 00 00
+06 ff 82 00 01 00 00 | [[null,null]]
 "#;

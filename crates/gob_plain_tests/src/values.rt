@@ -1,7 +1,7 @@
 //! The JSON of values.
 
 use crate::opaque_rows::{OPAQUE, RAW, SAID_BYTES, SAID_FLOAT, SAID_FRACTION};
-use crate::rows::ROWS;
+use crate::rows::{MAPS, ROWS};
 use crate::zero_rows::ZEROS;
 use gob_num::Memory;
 use gob_plain::{Content, Style, Taken, plain_text, plain_text_of};
@@ -75,6 +75,14 @@ fn is_due(alloc: Global, row: &str, style: Style<'_>) -> Result<bool, Memory> {
     Ok(text.as_str() == due && whole.as_str() == due)
 }
 
+// Whether the row's last value has the row's JSON from a tape, and none from its bytes.
+fn is_due_of_a_tape(alloc: Global, row: &str) -> Result<bool, Memory> {
+    let bytes = bytes_of(alloc, part(row, 1))?;
+    let text = json_of(alloc, &bytes, Style::default())?;
+    let whole = whole_json_of(alloc, &bytes, Style::default())?;
+    Ok(text.as_str() == part(row, 2) && whole.is_empty())
+}
+
 // The style, with zeros or raw.
 fn style_of(zeros: bool, raw: bool) -> Style<'static> {
     Style {
@@ -104,6 +112,14 @@ fn values_have_their_json(rt: HostRuntime) {
     ] {
         let wrong = wrong(rt.alloc(), rows, style);
         assert!(rt; wrong.is_none(), "{wrong:?}");
+    }
+}
+
+#[test]
+fn maps_whose_front_leaves_open_what_they_are_have_their_json(rt: HostRuntime) {
+    for row in MAPS.trim().split("\n\n") {
+        let is_right = is_due_of_a_tape(rt.alloc(), row);
+        assert!(rt; is_right == Ok(true), "{row}");
     }
 }
 

@@ -6,5 +6,5 @@ use Rattle.gob_plain.proofs.leaf.write_name.Goals as goal
 pub returns-in-Ok : goal.returns-in-Ok
 returns-in-Ok c = rw (utf8_name c.args.name.now c.in-Ok.ensures.cases.1) (search rules)
 
-pub returns-in_ok-push_str-in-Err : goal.returns-in_ok-push_str-in-Err
-returns-in_ok-push_str-in-Err c = rw (bytes_name c.args.name.now c.in-Err.ensures.cases.0) (search rules)
+pub returns-in_ok-text-in-Err : goal.returns-in_ok-text-in-Err
+returns-in_ok-text-in-Err c = rw (bytes_name c.args.name.now c.in-Err.ensures.cases.0) (search rules)

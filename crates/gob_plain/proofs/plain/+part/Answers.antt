@@ -1,20 +1,23 @@
 -- Part by part more is written, and less is left.
-use Rattle.std.proofs.Common.{◌≡◌, ◌∙◌, ◌+◌, ◌-◌, ◌^◌, ap, sym, subst, Some, Ok, arith, min, refl, rules}
+use Rattle.std.proofs.Common.{◌≡◌, ◌∙◌, ◌+◌, ◌-◌, ◌^◌, ap, sym, subst, Some, Ok, arith, min, refl, rules, true}
 use Rattle.std.specs.Prelude.{unwrap_or}
 use Rattle.std.specs.declared.alloc.AllocError.{AllocError}
 use Rattle.std.proofs.lemmas.Result.{on_ok_weaker}
 use Rattle.json.specs.Written.{Written}
 use Rattle.gob_types.specs.Table.{shape_of}
+use Rattle.gob_value.specs.Tree.{Pairs}
 use Rattle.gob_tape.specs.declared.kind.ValueKind.TheVariants as kind
 use Rattle.gob_tape.specs.Seeing.{Gives, elements, alternating, present, parts_of}
 use Rattle.gob_json.specs.Json.{element_type}
 use Rattle.gob_json_writer.proofs.TapeLaws.{next_is, none_fewer, still_fewer, as_many, as_pairs, as_fields}
 use Rattle.gob_json_writer.proofs.WrittenLaws.{one_written}
+use Rattle.gob_plain.specs.declared.maps.MapForm.TheVariants as form
 use Rattle.gob_plain.specs.AbsentFields.{AbsentTokens}
 use Rattle.gob_plain.specs.Filled.{nils_in, nils_of_each_in, nils_of_map_in, nils_of_fields_in, SaysInWith}
 use Rattle.gob_plain.specs.Filled.{SaysElementsIn, SaysMapIn, SaysStructIn}
 use Rattle.gob_plain.specs.OpaqueText.{SaysOpaque, content_in}
-use Rattle.gob_plain.specs.Plain.{gives_names}
+use Rattle.gob_plain.specs.Plain.{are_bare}
+use Rattle.gob_plain.specs.Machine.Naming.{FormFits}
 use Rattle.gob_plain.specs.WritesPlain.{WritesSome, AreBehind}
 use Rattle.gob_plain.proofs.StyleLaws.{many_in, map_in, struct_in, many_nils, map_nils, struct_nils}
 use Rattle.gob_plain.proofs.SomeLaws.{some_weaker}
@@ -24,9 +27,13 @@ use Rattle.gob_plain.proofs.PartLaws.{fields_end, fields_passed, members_begun, 
 use Rattle.gob_plain.proofs.PartLaws.{members_end, members_passed, pairs_begun, key_turn, element_turn, pairs_say}
 use Rattle.gob_plain.proofs.PartLaws.{pairs_end, pairs_passed, field_some, field_passed, leaf_says, leaf_passed}
 use Rattle.gob_plain.proofs.PartLaws.{nil_says, nil_passed, opaque_says}
+use Rattle.gob_plain.proofs.TextLaws.{texts_begun, text_turn, named_turn, texts_say, texts_end, texts_passed}
+use Rattle.gob_plain.proofs.FormLaws.{map_named, map_texts, map_pairs, named_nils, other_nils}
 use Rattle.gob_plain.proofs.plain.+part.Goals as goal
 use Rattle.gob_plain.proofs.plain.+part.Goals.{write_members-then-is_key+in_ok-write_key}
 use Rattle.gob_plain.proofs.plain.+part.Goals.{write_members-else-is_key+in_ok-write_part}
+use Rattle.gob_plain.proofs.plain.+part.Goals.{write_texts-then-is_key+in_ok-write_name}
+use Rattle.gob_plain.proofs.plain.+part.Goals.{write_texts-else-is_key+in_ok-write_part}
 use Rattle.gob_plain.proofs.plain.+part.Goals.{write_pairs-then-is_key+in_ok-begin_array-2+in_ok-write_part}
 use Rattle.gob_plain.proofs.plain.+part.Goals.{write_pairs-else-is_key+in_ok-write_part-2+in_ok-end_array}
 
@@ -187,6 +194,138 @@ write_members-returns-clause-said g t c = record {
       (c.loop-part.invariant.written ps h) (next_is c.next.ensures.steps c.in-None.is)) c.end_object.ensures.ok;
 }
 
+pub write_texts-loop-part-init : goal.write_texts-loop-part-init
+write_texts-loop-part-init g t c =
+    let same = c.into_iter-part-iterator.ensures.into_iter_gives in record {
+      next = tt;
+      finite = tt;
+      before = c.in_ok-begin_object.ensures.room.0;
+      fewer = none_fewer same;
+      fit = c.requires.fit;
+      written = λ ps h. texts_begun (g.N.Nils.says c.args.nils.now) ps (one_written c.in_ok-begin_object.ensures)
+          (subst (λ p. Gives p (alternating ps)) (sym same) h) (c.requires.bare ps h);
+    }
+
+pub write_texts-loop-part-preserved : goal.write_texts-loop-part-preserved
+write_texts-loop-part-preserved g t c = record {
+  next = tt;
+  finite = tt;
+  before = elim c.if-is_key.branch [
+    | write_texts-then-is_key+in_ok-write_name w ↦ ap (λ (o : Written). o.before) w.out-is
+        ∙ w.in_ok-write_name.ensures.written.before ∙ c.loop-part.invariant.before
+    | write_texts-else-is_key+in_ok-write_part w ↦ ap (λ (o : Written). o.before) w.out-is
+        ∙ w.in_ok-write_part.ensures.said.written.before ∙ c.loop-part.invariant.before
+  ];
+  fewer = still_fewer c.next.ensures.steps c.in-Some.is c.loop-part.invariant.fewer;
+  fit = elim c.if-is_key.branch [
+    | write_texts-then-is_key+in_ok-write_name w ↦
+        subst g.N.Nils.fit (sym w.nils-is) w.in_ok-write_name.ensures.fit
+    | write_texts-else-is_key+in_ok-write_part w ↦
+        subst g.N.Nils.fit (sym w.nils-is) w.in_ok-write_part.ensures.fit
+  ];
+  written = λ ps h. elim c.if-is_key.branch [
+    | write_texts-then-is_key+in_ok-write_name w ↦
+        texts_say g.N.Nils.says (g.N.Nils.says c.args.nils.now) w.nils-is
+        (text_turn (g.N.Nils.says c.args.nils.now) (g.N.Nils.says c.loop-part.nils)
+        (g.N.Nils.says w.write_name.new.self) w.out-is w.if-is_key.true (c.loop-part.invariant.written ps h)
+        (next_is c.next.ensures.steps c.in-Some.is) w.in_ok-write_name.ensures.written
+        w.in_ok-write_name.ensures.passed)
+    | write_texts-else-is_key+in_ok-write_part w ↦
+        texts_say g.N.Nils.says (g.N.Nils.says c.args.nils.now) w.nils-is
+        (named_turn (g.N.Nils.says c.args.nils.now) (g.N.Nils.says c.loop-part.nils)
+        (g.N.Nils.says w.write_part.new.nils) w.out-is w.if-is_key.false
+        (c.loop-part.invariant.written ps h) (next_is c.next.ensures.steps c.in-Some.is)
+        w.in_ok-write_part.ensures.said)
+  ];
+}
+
+pub write_texts-returns-clause-said : goal.write_texts-returns-clause-said
+write_texts-returns-clause-said g t c = record {
+  written = record {
+    before = c.end_object.ensures.room.0 ∙ c.loop-part.invariant.before;
+    each = λ ps h. texts_end (g.N.Nils.says c.args.nils.now) (g.N.Nils.says c.loop-part.nils)
+        (c.loop-part.invariant.written ps h) (next_is c.next.ensures.steps c.in-None.is)
+        (one_written c.end_object.ensures);
+  };
+  passed = λ ps h. on_ok_weaker c.end_object.result
+      (λ _. texts_passed (g.N.Nils.says c.args.nils.now) (g.N.Nils.says c.loop-part.nils)
+      (c.loop-part.invariant.written ps h) (next_is c.next.ensures.steps c.in-None.is)) c.end_object.ensures.ok;
+}
+
+pub write_map-write_texts-requires : goal.write_map-write_texts-requires
+write_map-write_texts-requires g t c =
+    let style = c.args.style in
+    let T = g.S.Shapes.table c.args.table.now in
+    let k = c.args.types.key in
+    let e = c.args.types.element in
+    let N = g.N.Nils.says c.args.nils.now in
+    let bare : (ps : Pairs) → Gives c.args.parts (alternating ps) → are_bare ps ≡ true =
+    λ ps h. (subst (λ f. FormFits f N style T k e ps) c.in-NamedByTexts.is (c.in_ok-form_of.ensures style T e ps h)).1
+    in search (rules, bare)
+
+pub write_map-returns-in-Named-clause-said : goal.write_map-returns-in-Named-clause-said
+write_map-returns-in-Named-clause-said g t c =
+    let style = c.args.style in
+    let T = g.S.Shapes.table c.args.table.now in
+    let k = c.args.types.key in
+    let e = c.args.types.element in
+    let N = g.N.Nils.says c.args.nils.now in
+    let fits : (ps : Pairs) → Gives c.args.parts (alternating ps) → FormFits form.Named N style T k e ps =
+    λ ps h. subst (λ f. FormFits f N style T k e ps) c.in-Named.is (c.in_ok-form_of.ensures style T e ps h) in
+    record {
+      written = record {
+        before = c.write_members.ensures.said.written.before;
+        each = λ ps h. some_weaker (λ ts p. (p.0, map_named N style T k e ps p.0 (fits ps h) p.1, p.2))
+            (c.write_members.ensures.said.written.each ps h);
+      };
+      passed = λ ps h. on_ok_weaker c.write_members.result
+          (λ b. subst (λ n. AreBehind n N (g.N.Nils.says c.write_members.new.nils))
+          (named_nils style T k e ps (fits ps h)) b)
+          (c.write_members.ensures.said.passed ps h);
+    }
+
+pub write_map-returns-in-NamedByTexts-clause-said : goal.write_map-returns-in-NamedByTexts-clause-said
+write_map-returns-in-NamedByTexts-clause-said g t c =
+    let style = c.args.style in
+    let T = g.S.Shapes.table c.args.table.now in
+    let k = c.args.types.key in
+    let e = c.args.types.element in
+    let N = g.N.Nils.says c.args.nils.now in
+    let fits : (ps : Pairs) → Gives c.args.parts (alternating ps) → FormFits form.NamedByTexts N style T k e ps =
+    λ ps h. subst (λ f. FormFits f N style T k e ps) c.in-NamedByTexts.is (c.in_ok-form_of.ensures style T e ps h) in
+    record {
+      written = record {
+        before = c.write_texts.ensures.said.written.before;
+        each = λ ps h. some_weaker (λ ts p. (p.0, map_texts N style T k e ps p.0 (fits ps h) p.1, p.2))
+            (c.write_texts.ensures.said.written.each ps h);
+      };
+      passed = λ ps h. on_ok_weaker c.write_texts.result
+          (λ b. subst (λ n. AreBehind n N (g.N.Nils.says c.write_texts.new.nils))
+          (other_nils style T k e ps (fits ps h).0) b)
+          (c.write_texts.ensures.said.passed ps h);
+    }
+
+pub write_map-returns-in-Pairs-clause-said : goal.write_map-returns-in-Pairs-clause-said
+write_map-returns-in-Pairs-clause-said g t c =
+    let style = c.args.style in
+    let T = g.S.Shapes.table c.args.table.now in
+    let k = c.args.types.key in
+    let e = c.args.types.element in
+    let N = g.N.Nils.says c.args.nils.now in
+    let fits : (ps : Pairs) → Gives c.args.parts (alternating ps) → FormFits form.Pairs N style T k e ps =
+    λ ps h. subst (λ f. FormFits f N style T k e ps) c.in-Pairs.is (c.in_ok-form_of.ensures style T e ps h) in
+    record {
+      written = record {
+        before = c.write_pairs.ensures.said.written.before;
+        each = λ ps h. some_weaker (λ ts p. (p.0, map_pairs N style T k e ps p.0 (fits ps h) p.1, p.2))
+            (c.write_pairs.ensures.said.written.each ps h);
+      };
+      passed = λ ps h. on_ok_weaker c.write_pairs.result
+          (λ b. subst (λ n. AreBehind n N (g.N.Nils.says c.write_pairs.new.nils))
+          (other_nils style T k e ps (fits ps h).0) b)
+          (c.write_pairs.ensures.said.passed ps h);
+    }
+
 pub write_fields-loop-part-init : goal.write_fields-loop-part-init
 write_fields-loop-part-init g t c =
     let same = c.into_iter-part-iterator.ensures.into_iter_gives in record {
@@ -318,10 +457,9 @@ write_part-returns-in-Pairs-clause-said g t c =
               p.0,
               subst (λ v. SaysInWith N style T c.args.id v p.0) (sym a.is)
                   (map_in N style T c.args.id a.parts p.0
-                  (subst (λ k. SaysMapIn N (gives_names k) style T k (element_type (shape_of T c.args.id)) a.parts p.0)
+                  (subst (λ k. SaysMapIn N style T k (element_type (shape_of T c.args.id)) a.parts p.0)
                   types.key
-                  (subst (λ e. SaysMapIn N (gives_names c.entry_types.result.key) style T c.entry_types.result.key e
-                  a.parts p.0)
+                  (subst (λ e. SaysMapIn N style T c.entry_types.result.key e a.parts p.0)
                   types.element p.1))),
               p.2,
             ))
@@ -332,9 +470,8 @@ write_part-returns-in-Pairs-clause-said g t c =
           let a = as_pairs v (sym c.in-Pairs.is ∙ c.kind.ensures s.0 v s.1) in
           on_ok_weaker c.write_map.result
           (λ b. subst (λ n. AreBehind n N (g.N.Nils.says c.write_map.new.nils))
-          (ap (λ e. nils_of_map_in (gives_names c.entry_types.result.key) style T c.entry_types.result.key e a.parts)
-          types.element
-          ∙ ap (λ k. nils_of_map_in (gives_names k) style T k (element_type (shape_of T c.args.id)) a.parts) types.key
+          (ap (λ e. nils_of_map_in style T c.entry_types.result.key e a.parts) types.element
+          ∙ ap (λ k. nils_of_map_in style T k (element_type (shape_of T c.args.id)) a.parts) types.key
           ∙ sym (map_nils style T c.args.id a.parts)
           ∙ ap (λ v. nils_in style T c.args.id v) (sym a.is)) b)
           (c.write_map.ensures.said.passed a.parts

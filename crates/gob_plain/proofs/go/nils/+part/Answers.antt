@@ -1,5 +1,5 @@
 -- Part by part the nils of more parts are appended, and fewer parts are left.
-use Rattle.std.proofs.Common.{◌≡◌, ◌<◌, ap, arith, sym, subst}
+use Rattle.std.proofs.Common.{ap, arith, sym, subst}
 use Rattle.gob_tape.specs.Seeing.{Gives, nodes_left, parts_of}
 use Rattle.gob_json_writer.proofs.TapeLaws.{fewer_left, next_is}
 use Rattle.gob_plain.proofs.NilPartLaws.{nils_begun, nils_ended, nils_on}

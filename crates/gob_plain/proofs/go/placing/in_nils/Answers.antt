@@ -1,5 +1,5 @@
 -- Nil by nil.
-use Rattle.std.proofs.Common.{◌≡◌, ◌∙◌, ◌+◌, ℕ, List, ◌∷◌, ap, arith, drop, refl, sym, subst}
+use Rattle.std.proofs.Common.{ℕ, List, refl, subst}
 use Rattle.std.proofs.lemmas.List.{at_drop_more, drop_all}
 use Rattle.gob_plain.specs.Machine.Placing.{fillers_left, gaps_left}
 use Rattle.gob_plain.proofs.PlacingLaws.{InSoFar, in_begun, in_ended, in_on}

@@ -1,6 +1,5 @@
 -- Each text is that of JSON that says the value.
 use Rattle.std.proofs.Common.{◌≡◌, ◌∙◌, ◌+◌, ◌∷◌, ◌++◌, List, ap, drop, refl, sym, subst}
-use Rattle.std.specs.Prelude.{string_bytes}
 use Rattle.std.proofs.lemmas.List.{at_drop_more, drop_all}
 use Rattle.gob_types.specs.Defined.{types}
 use Rattle.gob_value.specs.Tree.{Tree}

@@ -10,7 +10,7 @@ use Rattle.gob_json.specs.Json.{integer_json}
 use Rattle.gob_json_writer.specs.WritesJson.{WritesTokens}
 use Rattle.gob_json_writer.proofs.TapeLaws.{integer_token}
 use Rattle.gob_plain.proofs.SomeLaws.{some_of}
-use Rattle.gob_plain.proofs.PlaceLaws.{leaf_said, name_said}
+use Rattle.gob_plain.proofs.PlaceLaws.{empty_utf8, leaf_said, name_said}
 use Rattle.gob_plain.proofs.visitor.PlainVisitor.int.Goals as goal
 
 pub returns-then-takes_name : goal.returns-then-takes_name
@@ -19,7 +19,7 @@ returns-then-takes_name g c =
     (Token.key (signed_decimal c.args.number) ∷ []) = search rules in (
       refl,
       refl,
-      some_of put (name_said (Value.int c.args.number)
+      some_of put (name_said (Value.int c.args.number) empty_utf8
           (c.takes_name.ensures.name c.if-takes_name.true)),
     )
 

@@ -3,7 +3,7 @@ use Rattle.std.proofs.Common.{refl}
 use Rattle.gob_value.specs.Tree as Value
 use Rattle.gob_json_writer.proofs.WrittenLaws.{one_written}
 use Rattle.gob_plain.proofs.SomeLaws.{some_of}
-use Rattle.gob_plain.proofs.PlaceLaws.{leaf_said, name_said}
+use Rattle.gob_plain.proofs.PlaceLaws.{empty_utf8, leaf_said, name_said}
 use Rattle.gob_plain.proofs.visitor.PlainVisitor.uint.Goals as goal
 
 pub returns-then-takes_name : goal.returns-then-takes_name
@@ -11,7 +11,7 @@ returns-then-takes_name g c = (
   refl,
   refl,
   some_of c.write_uint_name.ensures
-      (name_said (Value.uint c.args.number) (c.takes_name.ensures.name c.if-takes_name.true)),
+      (name_said (Value.uint c.args.number) empty_utf8 (c.takes_name.ensures.name c.if-takes_name.true)),
 )
 
 pub returns : goal.returns

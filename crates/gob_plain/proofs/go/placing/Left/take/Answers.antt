@@ -1,5 +1,5 @@
 -- Nothing fills the nil, and all that was left is left; or the next filler does.
-use Rattle.std.proofs.Common.{◌≡◌, ◌∙◌, ◌+◌, ℕ, List, [], ◌∷◌, ap, arith, drop, refl, sym, subst, reverse}
+use Rattle.std.proofs.Common.{◌≡◌, ◌∙◌, ◌+◌, ℕ, List, [], ◌∷◌, ap, arith, drop, sym, subst, reverse}
 use Rattle.std.proofs.lemmas.List.{append-nil, at_drop_more, reverse-append}
 use Rattle.gob_plain.specs.declared.fillers.Filler.{Filler}
 use Rattle.gob_plain.specs.Machine.Placing.{AreIn, nothing_in}
