@@ -1,0 +1,3 @@
+pub mod Copies
+pub mod Counts
+pub mod PartLaws
