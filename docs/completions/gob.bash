@@ -12,7 +12,7 @@ _gob() {
     elif [[ $current == -* ]]; then
         words='--depth --item -h --help'
         case ${COMP_WORDS[1]} in
-        values) words+=' --zeros --raw --tagged --typed --only --as --progress' ;;
+        values) words+=' --zeros --raw --tagged --typed --only --each --as --progress' ;;
         types) words+=' --main --progress' ;;
         explain) words+=' --fault --at' ;;
         verify) words+=' --progress' ;;

@@ -21,6 +21,7 @@ complete -c gob -n '__fish_seen_subcommand_from values' -l raw -d 'Show values o
 complete -c gob -n '__fish_seen_subcommand_from values' -l tagged -d 'Show what an interface holds as {"NAME":value}, by its type'\''s name'
 complete -c gob -n '__fish_seen_subcommand_from values' -l typed -d 'Show each value as {"NAME":value}, by its type'\''s name'
 complete -c gob -n '__fish_seen_subcommand_from values' -l only -x -d 'Show only the values of the type of this name or id'
+complete -c gob -n '__fish_seen_subcommand_from values' -l each -d 'Show each element of a list or a map on a line of its own, in place of the whole value'
 complete -c gob -n '__fish_seen_subcommand_from values' -l as -x -d 'Take the bytes of the type of this id for: time.Time, big.Int, big.Float, big.Rat, uuid, netip.Addr, text or base64'
 complete -c gob -n '__fish_seen_subcommand_from values' -l progress -d 'Say on standard error how far it is'
 complete -c gob -n '__fish_seen_subcommand_from types' -l main -d 'Print a program that reads the stream and prints its values'

@@ -34,6 +34,7 @@ pub record AreLinesOf (view : View) (lines : ValueLines) : Type 0 where
   pub tagged : lines.tagged ≡ view.tagged
   pub typed : lines.typed ≡ view.typed
   pub only : text_of lines.only ≡ text_of view.only
+  pub each : lines.each ≡ view.each
 
 -- which items are explained: the refused one before the one around a byte, where both are asked for
 abbrev pub explained_by : (fault : Bool) → (at : Option ℕ) → Explained

@@ -1,7 +1,7 @@
 //! What is in a stream, for people and for programs that know nothing of gob.
 //!
 //! ```text
-//! {"X":22,"Y":33}                         run_values: a line of plain JSON for each value
+//! {"X":22,"Y":33}                         run_values: a line of plain JSON for each value, or for each of its elements
 //!
 //! // type 65                              run_types: the types, as Go source
 //! type Point struct {

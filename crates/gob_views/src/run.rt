@@ -97,6 +97,7 @@ fn lines_of<'a>(view: &'a View<'_>) -> ValueLines<'a>
         tagged: view.tagged,
         typed: view.typed,
         only: view.only,
+        each: view.each,
     }
 }
 

@@ -13,17 +13,18 @@ ghost use Rattle.gob_plain.specs.HeldPlain.{SaysFilled, tagged_json};
 ghost use Rattle.gob_words.specs.Words.{text_of};
 ghost use Rattle.gob_views.specs.Machine.Lines.{IsBodyLine};
 ghost use Rattle.gob_views.specs.Values.{AreTaken, IsChosen, IsLineOf, IsStyleOf, SaysStyled, content_of, shown_json};
-ghost use Rattle.gob_views.specs.Values.{type_name};
+ghost use Rattle.gob_views.specs.Values.{AreLinesBehind, form_of, line_jsons, parts_form, type_name};
 
 use gob_go::Filled;
 use gob_num::Memory;
 use gob_plain::{Content, Filler, Fillers, Nils, Style, Taken, filled_text, plain_text_of};
 use gob_stream::Whole;
-use gob_types::{Shapes, Table, TypeId};
+use gob_types::{Kind, Shapes, Table, TypeId};
 use gob_value::is_whole;
 use gob_words::{OpaqueKind, TypeKind, number_of};
-use json::Writer;
+use json::{Scratch, Writer};
 use json_controls::push_shown;
+use json_parts::{Form, Parts, text_of};
 use std::alloc::{AllocError, Global};
 
 /// How values are printed as plain JSON, and which.
@@ -43,9 +44,12 @@ pub struct ValueLines<'a> {
     pub typed: bool,
     /// The name or the id of the type whose values alone are printed. None: those of each type are.
     pub only: Option<&'a str>,
+    /// Whether each element of a list, and each pair of a map as `{"key":K,"value":V}`, is printed on a line of its
+    /// own, in place of the whole value.
+    pub each: bool,
 }
 
-/// Makes the line of a value of a stream, if its type is chosen, in `text`, which is empty.
+/// Makes the lines of a value of a stream, if its type is chosen, in `text`, which is empty.
 pub(crate) fn push_filled_line(
     alloc: Global,
     id: TypeId,
@@ -66,10 +70,10 @@ pub(crate) fn push_filled_line(
     let taken = taken_of(alloc, lines.kinds)?;
     let style = style_of(lines, &taken);
     let json = filled_text(alloc, id, value, table, style, lines.tagged)?;
-    push_line(typed_text(alloc, json, table, id, lines)?.as_str(), text)
+    push_lines(alloc, json, table, id, lines, text)
 }
 
-/// Makes the line of the value whose whole item this is, in which no interface holds another, if it is one no deeper
+/// Makes the lines of the value whose whole item this is, in which no interface holds another, if it is one no deeper
 /// than `depth` and its type is chosen, in `text`, which is empty. False says nothing of the item.
 pub(crate) fn push_body_line(
     alloc: Global,
@@ -91,10 +95,7 @@ pub(crate) fn push_body_line(
     let Some(json) = plain_text_of(alloc, table, item.id, item.body, depth, style)? else {
         return Ok(false);
     };
-    push_line(
-        typed_text(alloc, json, table, item.id, lines)?.as_str(),
-        text,
-    )?;
+    push_lines(alloc, json, table, item.id, lines, text)?;
     Ok(true)
 }
 
@@ -161,6 +162,75 @@ fn type_name(table: &Table, id: TypeId) -> &[u8]
     }
 }
 
+/// Appends the lines of the JSON that says a value of this type: one, or one for each of its parts.
+fn push_lines(
+    alloc: Global,
+    json: String,
+    table: &Table,
+    id: TypeId,
+    lines: ValueLines<'_>,
+    text: &mut Vec<u8>,
+) -> Result<(), Memory>
+    requires { (j : Json) × (tokens (string_bytes json) ≡ json_tokens j) }
+    ensures { OnOk result ((j : Json) → string_bytes json ≡ print (json_tokens j)
+        → tokens (string_bytes json) ≡ json_tokens j
+        → AreLinesBehind lines.entry (types table.now) id (line_jsons lines.entry (types table.now) id j)
+        text.old.items text.new.items) }
+{
+    let Some(form) = form_of(lines, table, id) else {
+        return push_json(alloc, json, table, id, lines, text);
+    };
+    let mut scratch = Scratch::new(alloc);
+    let Some(mut parts) = Parts::of(json.as_str(), form, &mut scratch)? else {
+        return push_json(alloc, json, table, id, lines, text);
+    };
+    'parts: while let Some(part) = parts.next(alloc)? {
+        push_json(alloc, part, table, id, lines, text)?;
+    }
+    Ok(())
+}
+
+/// The parts of a value of this type that stand on lines of their own. None where the value stands on one.
+fn form_of(lines: ValueLines<'_>, table: &Table, id: TypeId) -> Option<Form>
+    ensures { result ≡ form_of lines.entry (types table.now) id }
+{
+    if !lines.each {
+        return None;
+    }
+    match table.shape_of(id) {
+        Some(shape) => parts_form(&shape.kind),
+        None => None,
+    }
+}
+
+/// The parts of a value of this kind.
+fn parts_form(kind: &Kind) -> Option<Form>
+    ensures { result ≡ parts_form kind.now }
+{
+    match kind {
+        Kind::Array { .. } | Kind::Slice { .. } => Some(Form::Elements),
+        Kind::Map { .. } => Some(Form::Pairs),
+        Kind::Basic(_) | Kind::Struct { .. } | Kind::Opaque(_) => None,
+    }
+}
+
+/// Appends the line of JSON, under the name of this type where values are typed.
+fn push_json(
+    alloc: Global,
+    json: String,
+    table: &Table,
+    id: TypeId,
+    lines: ValueLines<'_>,
+    text: &mut Vec<u8>,
+) -> Result<(), Memory>
+    requires { (j : Json) × (tokens (string_bytes json) ≡ json_tokens j) }
+    ensures { OnOk result ((j : Json) → string_bytes json ≡ print (json_tokens j)
+        → tokens (string_bytes json) ≡ json_tokens j
+        → AreLinesBehind lines.entry (types table.now) id (j ∷ []) text.old.items text.new.items) }
+{
+    push_line(typed_text(alloc, json, table, id, lines)?.as_str(), text)
+}
+
 /// The JSON, as `{"NAME":value}` by the name of the type where values are typed.
 fn typed_text(
     alloc: Global,
@@ -198,18 +268,6 @@ fn named_text(alloc: Global, json: String, name: &[u8]) -> Result<String, AllocE
     };
     fillers.write_nil(alloc, &mut out)?;
     Ok(text_of(out))
-}
-
-/// The text that the writer holds.
-fn text_of(out: Writer) -> String
-    requires { out.before ≡ [] }
-    ensures text { string_bytes result ≡ print out.tokens }
-    ensures read { tokens (string_bytes result) ≡ out.tokens }
-{
-    match String::from_utf8(out.into_inner()) {
-        Ok(text) => text,
-        Err(_) => unreachable!(),
-    }
 }
 
 /// Appends the JSON as a line. No character of it controls how a terminal shows it.

@@ -19,7 +19,7 @@ use gob_types::Table;
 use std::alloc::Global;
 use std::io::{Read, Write};
 
-/// Writes such a line of plain JSON for each value of a stream of Go's encoder whose type is chosen, and nothing else,
+/// Writes such lines of plain JSON for each value of a stream of Go's encoder whose type is chosen, and nothing else,
 /// and ends with a flush. An interface is shown as what it holds. Ok exactly at the end of a whole stream. Before a
 /// fault is answered the lines of the values before it are written; at `ToolFault::Write` a prefix of them may be. A
 /// flush that fails is that fault where no other came before it. What it takes in memory grows with the types and the
@@ -70,7 +70,7 @@ impl ItemTexts<GoSession> for ValueLines<'_> {
     }
 }
 
-/// Makes the line of an item, if it is a value whose type is chosen, in `text`, which is empty.
+/// Makes the lines of an item, if it is a value whose type is chosen, in `text`, which is empty.
 fn push_item_line(
     alloc: Global,
     item: &GoItem,
@@ -88,7 +88,7 @@ fn push_item_line(
     }
 }
 
-/// Makes the line of the item of a value that waits as a whole, and in which no interface holds another, in `text`,
+/// Makes the lines of the item of a value that waits as a whole, and in which no interface holds another, in `text`,
 /// which is empty, and answers how many bytes the item has. None says nothing of what waits.
 fn push_whole_line(
     alloc: Global,

@@ -7,6 +7,8 @@
 #[cfg(test)]
 mod devices;
 #[cfg(test)]
+mod each;
+#[cfg(test)]
 mod ending;
 #[cfg(test)]
 mod explain;

@@ -12,7 +12,7 @@ use std::test::*;
 
 // Whether this was written, and the run ended by a fault with this line, or without one where the line is empty. A
 // vector that has no memory for what it is given is a writer that fails.
-fn is_so(
+pub(crate) fn is_so(
     alloc: Global,
     ended: Result<(), ToolFault>,
     written: &[u8],
@@ -96,7 +96,7 @@ fn shown(alloc: Global, view: &View<'_>, stream: &str) -> Result<Vec<u8>, AllocE
 }
 
 // A view without options.
-fn usual(alloc: Global, command: ViewCommand) -> View<'static> {
+pub(crate) fn usual(alloc: Global, command: ViewCommand) -> View<'static> {
     View {
         command,
         input: None,
