@@ -25,6 +25,10 @@ pub at_error : {A : Type 0} (P : Result A ToolFault → Type 0) (r : Result A To
 at_error P (Ok u) f e h = absurd e
 at_error P (Err g) f e h = subst (λ f. P (Err f)) (sym e) h
 
+pub fault_at : {A E : Type 0} (P : E → Type 0) (r : Result A E) (e : E) → IsErrAnd r (λ x. x ≡ e) → P e → IfErr r P
+fault_at P (Ok a) e is h = tt
+fault_at P (Err f) e is h = subst P (sym is) h
+
 -- ---- what is counted
 pub prefix_kept : (old mid new : Option (List ℕ)) (all : List ℕ) → AppendsPrefix old mid all → Keeps mid new
     → AppendsPrefix old new all
@@ -103,19 +107,6 @@ flushed_so (Err e) answer failures old new was is noted counted other h =
 
 pub sent_prefix : (old new : Option (List ℕ)) (bytes : List ℕ) → SentPrefix bytes old new → AppendsPrefix old new bytes
 sent_prefix old new bytes s = record { prefix = s.prefix; rest = s.rest; whole = s.whole; out = s.out }
-
--- behind reads that didn't fail
-pub faults_still : (old new : ℕ) (r : Result (Unit {0}) ToolFault) → new ≡ old
-    → ((failures : ℕ) → CountsReadFaults failures failures r) → CountsReadFaults old new r
-faults_still old new r same h = subst (λ n. CountsReadFaults old n r) (sym same) (h old)
-
--- a step counts none
-pub reads_nothing : (failures : ℕ) (e : Fault) → (e ≡ reading.Read → ⊥)
-    → CountsReadFaults failures failures (Err (reading_fault e))
-reads_nothing failures (reading.Refused R) h = refl
-reads_nothing failures reading.Read h = absurd (h refl)
-reads_nothing failures reading.Memory h = refl
-reads_nothing failures reading.Failed h = refl
 
 -- ---- what only the stream that has the wanted type can show
 -- the flush at the end isn't that

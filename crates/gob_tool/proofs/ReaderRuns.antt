@@ -1,55 +1,23 @@
 -- What a reader of a stream has taken, in bytes: how a call goes on from those that were taken before it.
-use Rattle.std.proofs.Common.{◌≡◌, ℕ, ◌+◌, ◌≤◌, arith, List, [], ◌∷◌, ◌++◌, length, take, drop, Option, Some, None}
+use Rattle.std.proofs.Common.{◌≡◌, ℕ, ◌+◌, ◌≤◌, arith, List, [], ◌∷◌, ◌++◌, length, take, drop, Some}
 use Rattle.std.proofs.Common.{◌∙◌, ap, sym, subst, refl, append_assoc, append-nil, length-append, take-append-drop}
 use Rattle.std.proofs.lemmas.List.{length-take-le}
-use Rattle.std.specs.Io.KnownBytes.{Consumes}
 use Rattle.gob_num.proofs.PublicLaws.{append_split}
 use Rattle.gob_types.specs.Base.{base_table}
 use Rattle.gob_types.specs.Table.{Table}
 use Rattle.gob_read.specs.Building.{Building}
-use Rattle.gob_value.specs.Tree.{Tree}
 use Rattle.gob_stream.specs.Bounds.{Bounds, no_deeper}
-use Rattle.gob_stream.specs.Calls.Session.{HasRead, limits_of, taken_of, types_of}
-use Rattle.gob_stream.specs.Item.{StreamItem, ItemMeans}
+use Rattle.gob_stream.specs.Calls.Session.{HasRead, limits_of, types_of}
+use Rattle.gob_stream.specs.Item.{StreamItem}
 use Rattle.gob_stream.specs.Machine.SessionState.{SessionState}
 use Rattle.gob_stream.specs.Stream.{AreItems, IsItem, Stream, and_then, no_more}
 use Rattle.gob_stream.specs.declared.item.Item as declared
 use Rattle.gob_stream.specs.declared.session.Step.{Step}
-use Rattle.gob_stream.proofs.PublicLaws.{counted_some, items_few, one_prefix}
-use Rattle.gob_stream.specs.Calls.Reader.{GivesAllBut, GivesItems, gives_none, gives_one, HasReadFrom, StepsOnFrom}
+use Rattle.gob_stream.proofs.PublicLaws.{one_prefix}
+use Rattle.gob_stream.specs.Calls.Reader.{GivesItems, HasReadFrom, StepsOnFrom}
 use Rattle.gob_stream.specs.Calls.Reader.{TakesItems, most_ahead, room_in, session_of}
 use Rattle.gob_stream.specs.Calls.Reader.{waits_in}
 use Rattle.gob_stream.specs.Calls.Reader.{StreamReader}
-
--- bytes of one length that both come first are the same, where they are known
-same_first : (read now next : Option (List ℕ)) (a b x y : List ℕ) → length a ≡ length b → Consumes read now (a ++ x)
-    → Consumes read next (b ++ y) → Consumes read next (a ++ y)
-same_first None now next a b x y e c d = tt
-same_first (Some z) None next a b x y e c d = absurd c
-same_first (Some z) (Some l) None a b x y e c d = absurd d
-same_first (Some z) (Some l) (Some m) a b x y e c d =
-    let same = append_split a b (x ++ l) (y ++ m) e
-    (sym (append_assoc a x l) ∙ sym c ∙ d ∙ append_assoc b y m) in
-    subst (λ (k : List ℕ). Consumes (Some z) (Some m) (k ++ y)) (sym same.0) d
-
--- what a step gave is an item, or none
-pub record GivesOne {O : Type 0} (means : O → Tree → Type 0) (given : declared.Item O) (more : List StreamItem) : Type
-    0 where
-  pub item : StreamItem
-  pub meant : ItemMeans means given item
-  pub only : more ≡ item ∷ []
-
-pub one_given : {O : Type 0} {means : O → Tree → Type 0} {o : Option (declared.Item O)} {more : List StreamItem}
-    (given : declared.Item O) → o ≡ Some given → GivesItems means o more → GivesOne means given more
-one_given given e gives_none = absurd (cc e)
-one_given {means = means} given e (gives_one {given = g} {i = i} m) =
-    let same : g ≡ given = cc in
-    record { item = i; meant = subst (λ g. ItemMeans means g i) same m; only = refl }
-
-pub none_given : {O : Type 0} {means : O → Tree → Type 0} {o : Option (declared.Item O)} {more : List StreamItem}
-    → ((given : declared.Item O) → o ≡ Some given → ⊥) → GivesItems means o more → more ≡ []
-none_given n gives_none = refl
-none_given n (gives_one {given = g} m) = absurd (n g refl)
 
 -- ---- a stream and what follows it
 record Splits (L : Bounds) (T : Table) (offset : ℕ) (items others : List StreamItem) (b : List ℕ) (V : Table) : Type
@@ -136,24 +104,6 @@ last_item {L = L} {V = V} {i = i} items p =
       whole = s.whole ∙ ap (λ (l : List ℕ). s.prefix ++ l) f.whole;
     }
 
--- no byte gives no item
-pub nothing_given : (L : Bounds) → GivesAllBut L base_table [] []
-nothing_given L = record {
-  prefix = [];
-  rest = [];
-  whole = refl;
-  few = omega arith;
-  gives = record {
-    gives = record {
-      begins = record { prefix = []; rest = []; table = base_table; stream = no_more; whole = refl };
-      longest = λ others b.
-          let few = items_few (λ T U offset i b q. counted_some q) b.stream in
-          omega (arith, few, ap length b.whole, length-append b.prefix b.rest);
-    };
-    table = refl;
-  };
-}
-
 module _ {X O : Type 0} {most : ℕ} (building : Building X O most) where
   -- an input of just those bytes that were read
   pub read_alone : {r : StreamReader X O} {items : List StreamItem} {taken : List ℕ}
@@ -207,51 +157,6 @@ module _ {X O : Type 0} {most : ℕ} (building : Building X O most) where
       → StepsOnFrom building r r' (Some (taken ++ waits_in r)) (Some []) items step
       → StepsBehind r r' items taken step
   steps_behind a t = record { more = t.more; gives = t.gives; behind = takes_behind a t.takes }
-
-  -- of an input it has taken these bytes
-  pub record ReadsTo (r : StreamReader X O) (read now : Option (List ℕ)) (items : List StreamItem) (taken : List ℕ) :
-      Type 0 where
-    pub has : HasReadFrom building r read now items
-    pub same : has.taken ≡ taken
-
-  pub reads_behind : {r r' : StreamReader X O} {read now : Option (List ℕ)} {items more others : List StreamItem}
-      {taken : List ℕ} {used : ℕ} → Consumes read now (taken ++ waits_in r) → TakesBehind r r' items more taken used
-      → HasReadFrom building r' read now others
-      → ReadsTo r' read now (items ++ more) (taken ++ take used (waits_in r))
-  reads_behind {r = r} {r' = r'} {read = read} {now = now} {taken = taken} {used = used} c b q =
-      let z = take used (waits_in r) in
-      record {
-        has = record {
-          taken = taken ++ z;
-          input = subst (λ (l : List ℕ). Consumes read now l)
-              (ap (λ (l : List ℕ). taken ++ l) b.left ∙ sym (append_assoc taken z (waits_in r'))) c;
-          gave = b.gave;
-          end = q.end;
-          room = q.room;
-        };
-        same = refl;
-      }
-
-  -- where more waits the same bytes were taken
-  pub reads_more : {r r' : StreamReader X O} {read now next : Option (List ℕ)} {items : List StreamItem}
-      {taken : List ℕ}
-      → session_of r' ≡ session_of r → (h : HasReadFrom building r read now items) → h.taken ≡ taken
-      → HasReadFrom building r' read next items → ReadsTo r' read next items taken
-  reads_more {r = r} {r' = r'} {read = read} {now = now} {next = next} {items = items} {taken = taken} same h e q =
-      let lengths : length h.taken ≡ length q.taken =
-      sym h.gave.taken ∙ ap (λ s. taken_of s) (sym same) ∙ q.gave.taken in
-      record {
-        has = record {
-          taken = taken;
-          input = subst (λ (l : List ℕ). Consumes read next (l ++ waits_in r')) e
-              (same_first read now next h.taken q.taken (waits_in r) (waits_in r') lengths h.input q.input);
-          gave = subst (λ (l : List ℕ). HasRead building (session_of r') items l) e
-              (subst (λ (s : SessionState X O). HasRead building s items h.taken) (sym same) h.gave);
-          end = q.end;
-          room = q.room;
-        };
-        same = refl;
-      }
 
   -- the session went on by bytes with which these items are whole
   pub record GoesOn {s : SessionState X O} {items : List StreamItem} {taken : List ℕ}

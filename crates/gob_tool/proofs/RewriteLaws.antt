@@ -10,7 +10,7 @@ use Rattle.gob_stream.specs.Bounds.{Bounds}
 use Rattle.gob_stream.specs.Item.{StreamItem}
 use Rattle.gob_stream.specs.Outcome.{BeginsWithStream, strict}
 use Rattle.gob_stream.specs.Stream.{IsItem, Stream, and_then, no_more}
-use Rattle.gob_stream.proofs.PublicLaws.{one_more, one_prefix, one_table}
+use Rattle.gob_stream.proofs.PublicLaws.{one_more, one_prefix}
 use Rattle.gob_tool.specs.Answering.{AppendsPrefix}
 use Rattle.gob_tool.specs.Machine.Rewritten.{IsLastOfStream, IsTidied, IsTidyItem}
 use Rattle.gob_tool.specs.Rewriting.{AreItemsTidied, no_item, and_item, HasTidyStream, RewriteAnswers}
@@ -19,6 +19,7 @@ use Rattle.gob_tool.specs.Texts.{HaveTexts, no_texts, texts_then, from_item, fro
 use Rattle.gob_tool.specs.declared.fault.ToolFault.{ToolFault}
 use Rattle.gob_tool.proofs.LinesStay.{stream_keeps}
 use Rattle.gob_tool.proofs.ReaderRuns.{last_item}
+use Rattle.gob_tool.proofs.ShowLaws.{same_behind}
 use Rattle.gob_tool.proofs.TextLaws.{runs_begun}
 use Rattle.gob_tool.proofs.TidyStays.{form_stands, tidies_on}
 
@@ -104,13 +105,10 @@ texts_stream (texts_then {items = items} i more h b m) = stream_on (texts_stream
 of_stream : {L : Bounds} {bytes : List ℕ} {P : List ℕ → Type 0} (items : List StreamItem)
     (b : BeginsWithStream base_table L bytes items) → OfTexts strict IsTidied L bytes P items
     → HasTidyStream L b.table items P
-of_stream {L = L} {bytes = bytes} {P = P} items b o =
+of_stream {L = L} {P = P} items b o =
     let s = texts_stream o.texts in
     let g = s.begins in
-    let one = one_table L bytes items g.table b.table
-    (record { prefix = g.prefix; rest = g.rest; stream = g.stream; whole = g.whole })
-    (record { prefix = b.prefix; rest = b.rest; stream = b.stream; whole = b.whole }) in
-    subst (λ (T : Table). HasTidyStream L T items P) one
+    subst (λ (T : Table). HasTidyStream L T items P) (same_behind g b)
     (record { tidy = s.tidy; tidied = s.tidied; bytes = o.text; stream = s.stream; holds = o.holds })
 
 pub rewritten_so : (L : Bounds) (bytes : List ℕ) (now old new : Option (List ℕ)) (r : Result (Unit {0}) ToolFault)

@@ -4,6 +4,7 @@ use Rattle.std.proofs.Common.{append-nil, append_assoc, arith, min, ◌≤◌}
 use Rattle.std.specs.Io.KnownBytes.{Appends}
 use Rattle.gob_types.specs.Base.{base_table}
 use Rattle.gob_types.specs.Table.{Table}
+use Rattle.gob_types.proofs.PublicLaws.{Keeps}
 use Rattle.gob_types.specs.declared.id.TypeId.{TypeId}
 use Rattle.gob_value.specs.Whole.{IsWhole}
 use Rattle.gob_value.specs.declared.value.Value.{Value}
@@ -36,7 +37,7 @@ lines_append T [] others = refl
 lines_append T (i ∷ items) others = ap (λ (l : List ℕ). line T i ++ l) (lines_append T items others)
     ∙ sym (append_assoc (line T i) (lines T items) (lines T others))
 
-meant : {given : declared.Item Value} {i : StreamItem} → ItemMeans tree_building.means given i → item_view given ≡ i
+pub meant : {given : declared.Item Value} {i : StreamItem} → ItemMeans tree_building.means given i → item_view given ≡ i
 meant {given = given} {i = i} m =
     let one : item_view given ∷ [] ≡ i ∷ [] = views_meant (mean_more m mean_none) in
     cc
@@ -45,25 +46,40 @@ is_line : {T : Table} {i : StreamItem} {text : List ℕ} → IsLine T i text →
 is_line {T = T} (from_item m l) = l ∙ ap (λ i. line T i) (meant m)
 is_line (from_value l) = l
 
+-- the types behind items are the same, wherever a stream of them stands
+pub same_behind : {L : Bounds} {bytes : List ℕ} {items : List StreamItem}
+    (c b : BeginsWithStream base_table L bytes items) → c.table ≡ b.table
+same_behind {L = L} {bytes = bytes} {items = items} c b =
+    one_table L bytes items c.table b.table
+    (record { prefix = c.prefix; rest = c.rest; stream = c.stream; whole = c.whole })
+    (record { prefix = b.prefix; rest = b.rest; stream = b.stream; whole = b.whole })
+
+-- the first of some items begin the bytes too, and their types are kept
+pub begins_first : {L : Bounds} {bytes : List ℕ} (items others : List StreamItem)
+    (b : BeginsWithStream base_table L bytes (items ++ others))
+    → (c : BeginsWithStream base_table L bytes items) × Keeps c.table b.table
+begins_first items others b =
+    let t = first_items items others b.stream in (
+      record {
+        prefix = t.prefix;
+        rest = t.rest ++ b.rest;
+        table = t.table;
+        stream = t.stream;
+        whole = b.whole ∙ ap (λ l. l ++ b.rest) t.whole ∙ append_assoc t.prefix t.rest b.rest;
+      },
+      t.keeps,
+    )
+
 -- by the types behind all of them
 all_lines : {L : Bounds} {bytes : List ℕ} {items : List StreamItem} {text : List ℕ}
     → HaveTexts strict IsLine L bytes items text → (b : BeginsWithStream base_table L bytes items)
     → text ≡ lines b.table items
 all_lines no_texts b = refl
 all_lines {L = L} {bytes = bytes} (texts_then {items = items} {text = text} i more h c m) b =
-    let one : c.table ≡ b.table = one_table L bytes (items ++ i ∷ []) c.table b.table
-    (record { prefix = c.prefix; rest = c.rest; stream = c.stream; whole = c.whole })
-    (record { prefix = b.prefix; rest = b.rest; stream = b.stream; whole = b.whole }) in
-    let t = first_items items (i ∷ []) b.stream in
-    let before : BeginsWithStream base_table L bytes items = record {
-      prefix = t.prefix;
-      rest = t.rest ++ b.rest;
-      table = t.table;
-      stream = t.stream;
-      whole = b.whole ∙ ap (λ l. l ++ b.rest) t.whole ∙ append_assoc t.prefix t.rest b.rest;
-    } in
-    ap (λ l. l ++ more) (all_lines h before ∙ sym (lines_stay t.stream t.keeps))
-    ∙ ap (λ l. lines b.table items ++ l) (is_line m ∙ ap (λ T. line T i) one ∙ sym (append-nil (line b.table i)))
+    let t = begins_first items (i ∷ []) b in
+    ap (λ l. l ++ more) (all_lines h t.0 ∙ sym (lines_stay t.0.stream t.1))
+    ∙ ap (λ l. lines b.table items ++ l)
+    (is_line m ∙ ap (λ T. line T i) (same_behind c b) ∙ sym (append-nil (line b.table i)))
     ∙ sym (lines_append b.table items (i ∷ []))
 
 of_lines : {L : Bounds} {bytes : List ℕ} {P : List ℕ → Type 0} (items : List StreamItem)

@@ -31,9 +31,10 @@ use Rattle.gob_tool.specs.Answering.{AppendsPrefix, BeginsOutcome, EndsWhole, Ru
 use Rattle.gob_tool.specs.Ending.{EndsRun, ends_so, flush_fails}
 use Rattle.gob_tool.specs.Fault.{reading_fault}
 use Rattle.gob_tool.specs.Machine.Texts.{AppendsTexts, AreNextTexts, bounds_of, MakesNext, MakesOnward, MakesTexts}
-use Rattle.gob_tool.specs.Machine.Texts.{CountsFaults, SendsLarge, SendsNone, TextGiven, WritesNext, WritesSo}
-use Rattle.gob_tool.specs.Texts.{HaveTexts, no_texts, texts_then, from_item, from_value, IsGiven, IsTextBy}
-use Rattle.gob_tool.specs.Texts.{IsWholeText, OfTexts, TextsAnswersIn}
+use Rattle.gob_tool.specs.Machine.Texts.{CountsFaults, SendsLarge, SendsNone, stops_item, stops_reading, StopsNext}
+use Rattle.gob_tool.specs.Machine.Texts.{TextGiven, WritesNext, WritesSo}
+use Rattle.gob_tool.specs.Texts.{AnswersOrStops, answers, stops_at, from_item, from_value, HaveTexts, IsGiven}
+use Rattle.gob_tool.specs.Texts.{IsStopBy, IsTextBy, IsWholeText, no_texts, OfTexts, texts_then, TextsAnswersIn}
 use Rattle.gob_tool.specs.declared.fault.ToolFault.{ToolFault}
 use Rattle.gob_tool.specs.declared.fault.ToolFault.TheVariants as fault
 use Rattle.gob_tool.proofs.EndLaws.{all_kept, prefix_kept}
@@ -77,6 +78,16 @@ module _ {Told : Type 0} (G : Grammar Told) where
       given = record { prefix = []; rest = []; whole = refl; few = omega arith; gives = nothing };
       holds = h;
     };
+  }
+
+  -- all of what was read begins with it
+  pub ended_begins : {L : Bounds} {bytes : List ℕ} {now : Option (List ℕ)} {P Q : Table → List Told → Type 0}
+      → EndsWhole G L bytes now P → ((T : Table) (items : List Told) → P T items → Q T items)
+      → BeginsOutcome G L bytes Q
+  ended_begins {bytes = bytes} w f = record {
+    items = w.items;
+    begins = record { prefix = bytes; rest = []; table = w.table; stream = w.stream; whole = sym (append-nil bytes) };
+    holds = f w.table w.items w.holds;
   }
 
   begun_as : {L : Bounds} {bytes : List ℕ} {P Q : Table → List Told → Type 0} → BeginsOutcome G L bytes P
@@ -252,46 +263,69 @@ module _ {X I Told : Type 0} (d : Stepping X I Told) where
   no_memory {r = r} {read = read} {now = now} {items = items} gives h = λ bytes known.
       ahead_in d r read now (types_behind d h) bytes h.taken h.input (gives items h.taken h.gave) h.room known
 
-module _ {X I Told : Type 0} (d : Stepping X I Told) (Is : Table → Told → List ℕ → Type 0) where
+module _ {X I Told : Type 0} (d : Stepping X I Told) (Is : Table → Told → List ℕ → Type 0)
+    (Stop : Table → Told → ToolFault → Type 0) where
   -- ---- at the error that a `?` returns
   pub next_at : (r r' : ReaderOf X I) (read now : Option (List ℕ)) (given : List Told) (old new : Option (List ℕ))
       (res : Result (Unit {0}) ToolFault) (f : ToolFault) → IsErrAnd res (λ x. x ≡ f)
-      → WritesNext d Is r r' read now given old new (Err f) → WritesNext d Is r r' read now given old new res
+      → WritesNext d Is Stop r r' read now given old new (Err f) → WritesNext d Is Stop r r' read now given old new res
   next_at r r' read now given old new (Ok u) f is h = absurd is
   next_at r r' read now given old new (Err g) f is h =
-      subst (λ f. WritesNext d Is r r' read now given old new (Err f)) (sym is) h
+      subst (λ f. WritesNext d Is Stop r r' read now given old new (Err f)) (sym is) h
 
-  pub makes_at : (r r' : ReaderOf X I) (T : Table) (read now : Option (List ℕ)) (given : List Told) (made : List ℕ)
-      (res : Result (Unit {0}) Fault) (e : Fault) → IsErrAnd res (λ x. x ≡ e)
-      → StopsBy d (session_of r) T read now given e → MakesNext d Is r r' read now given made res
-  makes_at r r' T read now given made (Ok u) e is h = absurd is
-  makes_at r r' T read now given made (Err f) e is h =
-      (T, subst (λ e. StopsBy d (session_of r) T read now given e) (sym is) h)
+  pub makes_at : (r r' : ReaderOf X I) (read now : Option (List ℕ)) (given : List Told) (made : List ℕ)
+      (res : Result (Unit {0}) ToolFault) (f : ToolFault) → IsErrAnd res (λ x. x ≡ f)
+      → StopsNext d Stop r r' read now given f → MakesNext d Is Stop r r' read now given made res
+  makes_at r r' read now given made (Ok u) f is h = absurd is
+  makes_at r r' read now given made (Err g) f is h = subst (λ f. StopsNext d Stop r r' read now given f) (sym is) h
 
   pub next_still : (r q r' : ReaderOf X I) (read now : Option (List ℕ)) (given : List Told)
       (old mid new : Option (List ℕ)) (res : Result (Unit {0}) ToolFault) → q ≡ r → mid ≡ old
       → ((read now : Option (List ℕ)) (given : List Told) → HasReadBy d q read now given
-      → WritesNext d Is q r' read now given mid new res) → HasReadBy d r read now given
-      → WritesNext d Is r r' read now given old new res
+      → WritesNext d Is Stop q r' read now given mid new res) → HasReadBy d r read now given
+      → WritesNext d Is Stop r r' read now given old new res
   next_still r q r' read now given old mid new res same kept f h =
-      subst (λ (o : Option (List ℕ)). WritesNext d Is r r' read now given o new res) kept
-      (subst (λ (q : ReaderOf X I). HasReadBy d q read now given → WritesNext d Is q r' read now given mid new res) same
-      (f read now given) h)
+      subst (λ (o : Option (List ℕ)). WritesNext d Is Stop r r' read now given o new res) kept
+      (subst (λ (q : ReaderOf X I). HasReadBy d q read now given → WritesNext d Is Stop q r' read now given mid new res)
+      same (f read now given) h)
 
+  -- ---- the ends
+  pub answers_under : (L M : Bounds) (bytes : List ℕ) (now old new : Option (List ℕ)) (r : Result (Unit {0}) ToolFault)
+      → L ≡ M → AnswersOrStops d.grammar Is Stop (d.within L) bytes now old new r
+      → AnswersOrStops d.grammar Is Stop (d.within M) bytes now old new r
+  answers_under L M bytes now old new r same h =
+      subst (λ (L : Bounds). AnswersOrStops d.grammar Is Stop (d.within L) bytes now old new r) same h
+
+  -- what stopped it
+  pub step_stopped : {r r' : ReaderOf X I} {read now : Option (List ℕ)} {given : List Told} {f : ToolFault}
+      (start out : Option (List ℕ)) → StopsNext d Stop r r' read now given f → (bytes : List ℕ) → read ≡ Some bytes
+      → OfTexts d.grammar Is (bounds_of d r) bytes (Appends start out) given
+      → AnswersOrStops d.grammar Is Stop (bounds_of d r) bytes now start out (Err f)
+  step_stopped {r = r} {now = now} {given = given} start out (stops_reading T e s) bytes known o =
+      let L = bounds_of d r in
+      answers (shown_stops d.grammar L T given bytes now
+      (λ T items. OfTexts d.grammar Is L bytes (Appends start out) items)
+      (λ T items. OfTexts d.grammar Is L bytes (AppendsPrefix start out) items) e (s bytes known) o)
+  step_stopped {now = now} {given = given} {f = f} start out (stops_item i h stands between same stop) bytes known o =
+      let b = begun d stands.gives bytes h known in
+      let there = stands.settled (given ++ i ∷ []) h.taken h.gave between in
+      subst (λ (M : Bounds). AnswersOrStops d.grammar Is Stop (d.within M) bytes now start out (Err f)) same
+      (stops_at given i b.0
+      (subst (λ (M : Bounds). OfTexts d.grammar Is (d.within M) bytes (Appends start out) given) (sym same) o)
+      (subst (λ T. Stop T i f) (sym (b.1 ∙ there)) stop))
+
+module _ {X I Told : Type 0} (d : Stepping X I Told) (Is : Table → Told → List ℕ → Type 0) where
   texts_as : {L : Bounds} {bytes : List ℕ} {P Q : List ℕ → Type 0} → ((text : List ℕ) → P text → Q text)
       → (T : Table) (items : List Told) → OfTexts d.grammar Is L bytes P items → OfTexts d.grammar Is L bytes Q items
   texts_as f T items o = record { text = o.text; texts = o.texts; holds = f o.text o.holds }
 
   -- ---- the ends
-  pub runs_under : (L M : Bounds) (bytes : List ℕ) (now : Option (List ℕ)) (P C : List ℕ → Type 0)
-      (r : Result (Unit {0}) ToolFault) → L ≡ M
-      → RunAnswersIn d.grammar (d.within L) bytes now (λ T items. OfTexts d.grammar Is (d.within L) bytes P items)
-      (λ T items. OfTexts d.grammar Is (d.within L) bytes C items) r
-      → RunAnswersIn d.grammar (d.within M) bytes now (λ T items. OfTexts d.grammar Is (d.within M) bytes P items)
-      (λ T items. OfTexts d.grammar Is (d.within M) bytes C items) r
-  runs_under L M bytes now P C r same h = subst (λ (L : Bounds). RunAnswersIn d.grammar (d.within L) bytes now
-      (λ T items. OfTexts d.grammar Is (d.within L) bytes P items)
-      (λ T items. OfTexts d.grammar Is (d.within L) bytes C items) r) same h
+  -- no fault of its own stops it
+  pub unstopped : {L : Bounds} {bytes : List ℕ} {now old new : Option (List ℕ)} {r : Result (Unit {0}) ToolFault}
+      → AnswersOrStops d.grammar Is (IsStopBy d (λ T given f. ⊥)) L bytes now old new r
+      → TextsAnswersIn d.grammar Is L bytes now old new r
+  unstopped (answers h) = h
+  unstopped (stops_at items i begins o stop) = absurd stop.stops
 
   pub texts_ended : (L : Bounds) (bytes : List ℕ) (now old mid new : Option (List ℕ))
       (answer result : Result (Unit {0}) ToolFault) → Keeps mid new → EndsRun answer result
@@ -305,16 +339,8 @@ module _ {X I Told : Type 0} (d : Stepping X I Told) (Is : Table → Told → Li
       (texts_as (λ text a. Appends-kept old mid new text a k)) (texts_as (λ text a. prefix_kept old mid new text a k)))
   texts_ended L bytes now old mid new answer result k (flush_fails o e) h =
       subst (λ r. TextsAnswersIn d.grammar Is L bytes now old new r) (sym e)
-      (whole (subst (λ r. TextsAnswersIn d.grammar Is L bytes now old mid r) o h))
-    where
-      whole : EndsWhole d.grammar L bytes now (λ T items. OfTexts d.grammar Is L bytes (Appends old mid) items)
-          → BeginsOutcome d.grammar L bytes (λ T items. OfTexts d.grammar Is L bytes (AppendsPrefix old new) items)
-      whole w = record {
-        items = w.items;
-        begins = record
-            { prefix = bytes; rest = []; table = w.table; stream = w.stream; whole = sym (append-nil bytes) };
-        holds = texts_as (λ text a. all_kept old mid new text a k) w.table w.items w.holds;
-      }
+      (ended_begins d.grammar (subst (λ r. TextsAnswersIn d.grammar Is L bytes now old mid r) o h)
+      (texts_as (λ text a. all_kept old mid new text a k)))
 
 module _ {X I Told : Type 0} (d : Stepping X I Told) {Is : Table → Told → List ℕ → Type 0} where
   -- ---- from item to item
@@ -591,3 +617,19 @@ module _ {X I Told : Type 0} (d : Stepping X I Told) where
         between = between;
         types = refl;
       }
+
+  pub item_stops : {r r' : ReaderOf X I} {read now : Option (List ℕ)} {given : List Told} {step : Step I}
+      {stops : Table → I → ToolFault → Type 0} {f : ToolFault} (kept : I) → StepsOnBy d r r' read now given step
+      → step.item ≡ Some kept → StandsBy d (session_of r') → IfSome step.item (λ _. d.between (session_of r'))
+      → d.limits (session_of r') ≡ d.limits (session_of r) → stops (types (d.table (session_of r'))) kept f
+      → StopsNext d (IsStopBy d stops) r r' read now given f
+  item_stops {r = r} {r' = r'} {read = read} {now = now} {given = given} {stops = stops} {f = f} kept st is stands
+      between same stop =
+      by st.takes.after (subst (λ (o : Option I). IfSome o (λ _. d.between (session_of r'))) is between)
+      (subst (λ (o : Option I). GivesItemsOf (d.means (types (d.table (session_of r')))) o st.more) is st.gives)
+    where
+      by : {more : List Told} → HasReadBy d r' read now (given ++ more) → d.between (session_of r')
+          → GivesItemsOf (d.means (types (d.table (session_of r')))) (Some kept) more
+          → StopsNext d (IsStopBy d stops) r r' read now given f
+      by h between (gives_one {i = i} m) =
+          stops_item i h stands between same (record { given = kept; means = m; stops = stop })

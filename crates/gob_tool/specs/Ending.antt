@@ -10,11 +10,7 @@ pub data EndsRun : Result (Unit {0}) ToolFault → Result (Unit {0}) ToolFault �
   flush_fails : {answer result : Result (Unit {0}) ToolFault} → answer ≡ Ok tt → result ≡ Err fault.Write
       → EndsRun answer result
 
--- before the end of a run, a read or a write failed exactly where the fault says so
-abbrev pub CountsOnlyReads : (failures failures' : ℕ) → Result (Unit {0}) ToolFault → Type 0
-CountsOnlyReads failures failures' (Err fault.Read) = failures' ≡ counts_up failures 1
-CountsOnlyReads failures failures' _ = failures' ≡ failures
-
+-- before the end of a run, a write failed exactly where the fault says so
 abbrev pub CountsOnlyWrites : {A : Type 0} → (failures failures' : ℕ) → Result A ToolFault → Type 0
 CountsOnlyWrites failures failures' (Err fault.Write) = failures' ≡ counts_up failures 1
 CountsOnlyWrites failures failures' _ = failures' ≡ failures

@@ -1,6 +1,7 @@
 -- What a run answers that receives the values of a stream as values of a wanted type, and what it has written then.
 -- (docs/LIBRARY.md, Matching and receiving; docs/FORMAT.md, The program: this project's own.)
-use Rattle.std.specs.Prelude.{◌≡◌, ℕ, ◌⊎◌, List, [], ◌∷◌, ◌++◌, Option, Some, None, Result, Ok, Err}
+use Rattle.std.specs.Global.{Global}
+use Rattle.std.specs.Prelude.{◌≡◌, ℕ, ◌⊎◌, List, [], ◌∷◌, ◌++◌, Option, Some, None, Result, Err, Vec}
 use Rattle.std.specs.Io.KnownBytes.{Appends}
 use Rattle.gob_types.specs.declared.id.TypeId.{TypeId}
 use Rattle.gob_types.specs.Base.{base_table}
@@ -11,18 +12,17 @@ use Rattle.gob_match.specs.declared.step.Step.{Step}
 use Rattle.gob_match.specs.Clashing.{IsLeastClash}
 use Rattle.gob_match.specs.Matching.{Match}
 use Rattle.gob_match.specs.Received.{Receives}
-use Rattle.gob_stream.specs.declared.fault.Refusal.{Refusal}
 use Rattle.gob_stream.specs.Bounds.{Bounds}
-use Rattle.gob_stream.specs.Calls.Reader.{GivesAllBut}
 use Rattle.gob_stream.specs.Devices.{counts_up}
 use Rattle.gob_stream.specs.Item.{StreamItem, defines, puts}
-use Rattle.gob_stream.specs.Outcome.{BeginsWithStream, LongestStream, Outcome, refused}
+use Rattle.gob_stream.specs.Outcome.{BeginsWithStream, LongestStream, Outcome, refused, strict}
 use Rattle.gob_stream.specs.Reading.{SomeTaken}
 use Rattle.gob_stream.specs.Stream.{Stream}
 use Rattle.gob_tool.specs.declared.fault.ToolFault.{ToolFault}
 use Rattle.gob_tool.specs.declared.fault.ToolFault.TheVariants as fault
+use Rattle.gob_tool.specs.Answering.{AppendsPrefix, RunAnswersIn}
 use Rattle.gob_tool.specs.Line.{line}
-use Rattle.gob_tool.specs.Showing.{AppendsPrefix, MayCount}
+use Rattle.gob_tool.specs.Showing.{MayCount}
 
 -- the type of the first value among the items
 abbrev pub first_type : List StreamItem → Option TypeId
@@ -57,22 +57,6 @@ pub record HasTakenItems (T U : Table) (u : TypeId) (items : List StreamItem) (P
   pub received : AreReceived T U u items lines
   pub holds : P lines
 
--- the bytes are the stream of some items, all of them were read, and this holds of the lines
-pub record ReceivesWhole (L : Bounds) (bytes : List ℕ) (now : Option (List ℕ)) (U : Table) (u : TypeId)
-    (P : List ℕ → Type 0) : Type 0 where
-  pub items : List StreamItem
-  pub table : Table
-  pub stream : Stream base_table L items bytes table
-  pub end : now ≡ Some []
-  pub received : HasTakenItems table U u items P
-
--- the bytes are refused so, and this holds of the lines of the items before the refusal
-pub record IsRefusedBehind (L : Bounds) (bytes : List ℕ) (R : Refusal) (U : Table) (u : TypeId) (P : List ℕ → Type 0) :
-    Type 0 where
-  pub items : List StreamItem
-  pub outcome : Outcome base_table L bytes items (refused R)
-  pub received : HasTakenItems outcome.gives.begins.table U u items P
-
 -- the bytes begin with the stream of some items and of a value whose type clashes with the wanted one, on this path
 -- of the fewest steps and for this reason, and this holds of the lines of the items before it
 pub record ClashesBehind (L : Bounds) (bytes : List ℕ) (U : Table) (u : TypeId) (path : List Step)
@@ -84,38 +68,15 @@ pub record ClashesBehind (L : Bounds) (bytes : List ℕ) (U : Table) (u : TypeId
   pub received : HasTakenItems begins.table U u items P
   pub clash : IsLeastClash begins.table U id u path reason
 
--- this holds of the lines of the items of the longest stream that the bytes begin with
-pub record ReceivesGiven (L : Bounds) (bytes : List ℕ) (U : Table) (u : TypeId) (P : List ℕ → Type 0) : Type 0 where
-  pub items : List StreamItem
-  pub given : LongestStream base_table L bytes items
-  pub received : HasTakenItems given.begins.table U u items P
-
--- this holds of the lines of the items of some stream that the bytes begin with
-pub record ReceivesPrefix (L : Bounds) (bytes : List ℕ) (U : Table) (u : TypeId) (P : List ℕ → Type 0) : Type 0 where
-  pub items : List StreamItem
-  pub begins : BeginsWithStream base_table L bytes items
-  pub received : HasTakenItems begins.table U u items P
-
--- of these bytes all but the last ones were taken, of which no more waited than what is read ahead; this holds of the
--- lines of all items that those taken give
-pub record ReceivesTaken (L : Bounds) (bytes : List ℕ) (U : Table) (u : TypeId) (P : List ℕ → Type 0) : Type 0 where
-  pub items : List StreamItem
-  pub table : Table
-  pub given : GivesAllBut L table items bytes
-  pub received : HasTakenItems table U u items P
-
 -- how the part of the run behind the wanted stream ends, over an input with these bytes left, where `Whole` holds of
--- the lines that were to go out, or `Cut` after a failed write
-abbrev pub Receiving : Bounds → (bytes : List ℕ) → (now : Option (List ℕ)) → Table → TypeId
-    → (Whole Cut : List ℕ → Type 0) → Result (Unit {0}) ToolFault → Type 0
-Receiving L bytes now U u Whole Cut (Ok _) = ReceivesWhole L bytes now U u Whole
-Receiving L bytes now U u Whole Cut (Err (fault.Refused R)) = IsRefusedBehind L bytes R U u Whole
-Receiving L bytes now U u Whole Cut (Err (fault.Clash path reason)) = ClashesBehind L bytes U u path.items reason Whole
-Receiving L bytes now U u Whole Cut (Err fault.Read) = SomeTaken bytes now (λ taken. ReceivesGiven L taken U u Whole)
-Receiving L bytes now U u Whole Cut (Err fault.Write) = ReceivesPrefix L bytes U u Cut
-Receiving L bytes now U u Whole Cut (Err fault.Memory) = SomeTaken bytes now (λ read. ReceivesTaken L read U u Whole)
-Receiving L bytes now U u Whole Cut (Err (fault.Wanted R)) = ⊥
-Receiving L bytes now U u Whole Cut (Err fault.NoWantedType) = ⊥
+-- the lines that were to go out, or `Cut` after a failed write: as any run, or at a value whose type clashes
+pub data Receiving (L : Bounds) (bytes : List ℕ) (now : Option (List ℕ)) (U : Table) (u : TypeId)
+    (Whole Cut : List ℕ → Type 0) : Result (Unit {0}) ToolFault → Type 0 where
+  receives : {r : Result (Unit {0}) ToolFault}
+      → RunAnswersIn strict L bytes now (λ T items. HasTakenItems T U u items Whole)
+      (λ T items. HasTakenItems T U u items Cut) r → Receiving L bytes now U u Whole Cut r
+  clashes : {path : Vec Step Global} {reason : ClashReason} → ClashesBehind L bytes U u path.items reason Whole
+      → Receiving L bytes now U u Whole Cut (Err (fault.Clash path reason))
 
 -- nothing was written, and nothing was read of the input with these bytes left
 pub record Untouched (bytes : List ℕ) (now old new : Option (List ℕ)) : Type 0 where

@@ -2,7 +2,7 @@
 -- which texts are those of an item, by the types behind it.
 -- (docs/FORMAT.md, The program: this project's own.)
 use Rattle.std.specs.Prelude.{◌≡◌, ℕ, ◌≤◌, List, [], ◌∷◌, ◌++◌, length, take, Option, Some, None}
-use Rattle.std.specs.Prelude.{Result}
+use Rattle.std.specs.Prelude.{Result, Err}
 use Rattle.std.specs.Io.KnownBytes.{Appends}
 use Rattle.gob_types.specs.Defined.{types}
 use Rattle.gob_types.specs.Table.{Table}
@@ -46,6 +46,16 @@ TextsAnswersIn G Is L bytes now old new result = RunAnswersIn G L bytes now
     (λ T items. OfTexts G Is L bytes (Appends old new) items)
     (λ T items. OfTexts G Is L bytes (AppendsPrefix old new) items) result
 
+-- they did, or a fault stopped the run at an item, and those of the items before it went out
+pub data AnswersOrStops {Told : Type 0} (G : Grammar Told) (Is : Table → Told → List ℕ → Type 0)
+    (Stop : Table → Told → ToolFault → Type 0) (L : Bounds) (bytes : List ℕ) (now old new : Option (List ℕ))
+    : Result (Unit {0}) ToolFault → Type 0 where
+  answers : {r : Result (Unit {0}) ToolFault} → TextsAnswersIn G Is L bytes now old new r
+      → AnswersOrStops G Is Stop L bytes now old new r
+  stops_at : {f : ToolFault} (items : List Told) (i : Told) (begins : BeginsIn G L bytes (items ++ i ∷ []))
+      → OfTexts G Is L bytes (Appends old new) items → Stop begins.table i f
+      → AnswersOrStops G Is Stop L bytes now old new (Err f)
+
 -- ---- texts, as they are made of what a session hands out
 -- the text of an item: of one that was handed out, or of a value in which no interface holds another
 pub data IsTextBy {X I Told : Type 0} (d : Stepping X I Told) (of_item : Table → I → List ℕ → Type 0)
@@ -54,6 +64,13 @@ pub data IsTextBy {X I Told : Type 0} (d : Stepping X I Told) (of_item : Table �
       → IsTextBy d of_item of_value T i text
   from_value : {id : TypeId} {v : Tree} {text : List ℕ} → of_value T id v text
       → IsTextBy d of_item of_value T (d.told (puts id v)) text
+
+-- the fault stops the run at an item that was handed out
+pub record IsStopBy {X I Told : Type 0} (d : Stepping X I Told) (of_item : Table → I → ToolFault → Type 0) (T : Table)
+    (i : Told) (f : ToolFault) : Type 0 where
+  pub given : I
+  pub means : d.means T given i
+  pub stops : of_item T given f
 
 -- the item that a session handed out is one of what it read, and its types are those of the table
 pub record IsGiven {X I Told : Type 0} (d : Stepping X I Told) (T : Table) (given : I) : Type 0 where

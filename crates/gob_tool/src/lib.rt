@@ -27,6 +27,7 @@ mod run;
 mod sending;
 mod show;
 mod take;
+mod text_steps;
 mod texts;
 mod tidied;
 mod wanted;

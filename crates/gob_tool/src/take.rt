@@ -1,29 +1,29 @@
 //! The run that receives the values of a stream as values of a type of another.
 
-ghost use Rattle.std.specs.Prelude.{◌≡◌, ◌<◌, ℕ, List, Option, Some, IfErr, OnOk, length};
+ghost use Rattle.std.specs.Prelude.{◌≡◌, ◌<◌, ℕ, List, Some, IfErr};
 ghost use Rattle.std.specs.Io.KnownBytes.{Appends};
 ghost use Rattle.gob_types.specs.Defined.{types};
 ghost use Rattle.gob_types.specs.Ready.{IsReady};
 ghost use Rattle.gob_stream.specs.Bounds.{within_trees};
 ghost use Rattle.gob_stream.specs.Calls.Ends.{failed_reads, failed_writes, reader_of, writer_of};
-ghost use Rattle.gob_stream.specs.Calls.Session.{limits_of, types_of};
-ghost use Rattle.gob_stream.specs.Calls.Reader.{session_of, waits_in};
 ghost use Rattle.gob_tool.specs.Fault.{IsOfWanted};
 ghost use Rattle.gob_tool.specs.Ending.{CountsOnlyWrites};
-ghost use Rattle.gob_tool.specs.Machine.Receiver.{IsReceiver, IsSameReceiver};
 ghost use Rattle.gob_tool.specs.Showing.{AppendsPrefix, CountsReadFaults, CountsWriteFaults, IsFlushedSince};
 ghost use Rattle.gob_tool.specs.Taking.{CountsTakeReads, Receiving, TakeAnswers};
 
-use crate::end::{end_run, flush_before_waiting};
+use crate::end::end_run;
 use crate::fault::ToolFault;
-use crate::received::take_next;
-use crate::receiver::Receiver;
+use crate::receiver::{LastMatch, Receiver};
+use crate::texts::write_items;
 use crate::wanted::read_wanted;
 use gob_read::TreeBuilder;
-use gob_stream::{Input, Limits, Output, StreamReader};
+use gob_stream::{Input, Limits, Output, Session, StreamReader};
 use gob_types::{Table, TypeId};
 use std::alloc::Global;
 use std::io::{Read, Write};
+
+// A tree is made of no value that waits as a whole.
+const MOST_BUILT: usize = 0;
 
 /// Receives each value of a stream as a value of the wanted type, which is that of the first value of `wanted`, a
 /// stream of its own, and writes the JSON lines of what is received, under the wanted type. Definitions write nothing.
@@ -94,12 +94,9 @@ fn take_values<R: Read, W: Write>(
     ensures own { IfErr result (λ fault. IsOfWanted fault → ⊥) }
     ensures writes { CountsOnlyWrites (failed_writes output.old) (failed_writes output.new) result }
 {
-    let mut reader = StreamReader::<TreeBuilder>::new(alloc, limits)?;
-    let mut receiver = Receiver::new(wanted, wanted_id);
-    let mut line = Vec::new(alloc);
-    'values: while reader.fill(input)? {
-        take_next(alloc, &mut reader, &mut receiver, &mut line, output)?;
-        flush_before_waiting(&reader, output)?;
-    }
-    Ok(())
+    let receiver = Receiver::<'_, MOST_BUILT> { wanted, wanted_id };
+    let kept = LastMatch::new(alloc);
+    write_items::<Session<TreeBuilder>, R, W, Receiver<'_, MOST_BUILT>>(
+        alloc, input, output, limits, &receiver, kept,
+    )
 }

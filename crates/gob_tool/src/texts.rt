@@ -1,18 +1,22 @@
 //! The run that writes a text of each item of a stream.
 
-ghost use Rattle.std.specs.Prelude.{◌≡◌, ◌≢◌, ℕ, ◌<◌, List, [], length, Option, Some, true, false, IfErr, IfOk};
+ghost use Rattle.std.specs.Prelude.{◌≡◌, ◌≢◌, ℕ, ◌<◌, List, [], length, Option, Some, true, false, IfErr, IfOk, OnOk};
+ghost use Rattle.gob_types.specs.Defined.{types};
+ghost use Rattle.gob_types.specs.Table.{Table as Types};
 ghost use Rattle.gob_stream.specs.Calls.Ends.{failed_reads, failed_writes, reader_of, writer_of};
 ghost use Rattle.gob_stream.specs.Calls.ReaderOf.{HasReadBy, session_of, waits_in};
 ghost use Rattle.gob_tool.specs.Ending.{CountsOnlyWrites};
+ghost use Rattle.gob_tool.specs.Fault.{IsOfWanted};
 ghost use Rattle.gob_tool.specs.Showing.{CountsReadFaults, CountsWriteFaults, IsFlushedSince};
-ghost use Rattle.gob_tool.specs.Texts.{IsTextBy, TextsAnswersIn};
-ghost use Rattle.gob_tool.specs.Machine.Texts.{AppendsTexts, CountsFaults, HasReadSome, MakesNext, SendsLarge};
+ghost use Rattle.gob_tool.specs.Texts.{AnswersOrStops, IsStopBy, IsTextBy, TextsAnswersIn};
+ghost use Rattle.gob_tool.specs.Machine.Texts.{AppendsTexts, CountsFaults, HasReadSome, SendsLarge};
 ghost use Rattle.gob_tool.specs.Machine.Texts.{SendsNone, WritesNext};
 
 use crate::end::{end_run, flush_before_waiting};
 use crate::fault::ToolFault;
+use crate::text_steps::{EachAlone, TextSteps};
 use gob_num::Memory;
-use gob_stream::{Fault, Input, Limits, Output, ReaderOf, Step, Steps, WriteFault};
+use gob_stream::{Input, Limits, Output, ReaderOf, Steps, WriteFault};
 use gob_types::Table;
 use std::alloc::Global;
 use std::io::{Read, Write};
@@ -106,79 +110,90 @@ pub fn run_texts<S: Steps, R: Read, W: Write, M: ItemTexts<S>>(
     ensures writes { CountsWriteFaults (failed_writes output.old) (failed_writes output.new) result }
     ensures flushed { IsFlushedSince (failed_writes output.old) output.new }
 {
-    let answer = write_items::<S, R, W, M>(alloc, input, output, limits, texts);
+    let alone = EachAlone { texts };
+    let answer = write_items::<S, R, W, EachAlone<'_, M>>(alloc, input, output, limits, &alone, ());
     end_run(answer, output)
 }
 
-/// Writes the texts.
-fn write_items<S: Steps, R: Read, W: Write, M: ItemTexts<S>>(
+/// Writes the texts. `kept` is what is kept before the first item.
+pub(crate) fn write_items<S: Steps, R: Read, W: Write, M: TextSteps<S>>(
     alloc: Global,
     input: &mut Input<R>,
     output: &mut Output<W>,
     limits: Limits,
     texts: &M,
+    mut kept: M::Kept,
 ) -> Result<(), ToolFault>
+    requires fits { (T : Types) → M.fits texts.now kept T }
     ensures written { (bytes : List ℕ) → R.remaining (reader_of input.old) ≡ Some bytes
-        → TextsAnswersIn S.stepping.grammar (IsTextBy S.stepping (M.of_item texts.now) (M.of_value texts.now))
-        (S.stepping.within limits) bytes (R.remaining (reader_of input.new))
-        (W.contents (writer_of output.old)) (W.contents (writer_of output.new)) result }
+        → AnswersOrStops S.stepping.grammar (IsTextBy S.stepping (M.of_item texts.now) (M.of_value texts.now))
+        (IsStopBy S.stepping (M.stops texts.now)) (S.stepping.within limits) bytes
+        (R.remaining (reader_of input.new)) (W.contents (writer_of output.old)) (W.contents (writer_of output.new))
+        result }
     ensures reads { CountsReadFaults (failed_reads input.old) (failed_reads input.new) result }
+    ensures own { IfErr result (λ fault. IsOfWanted fault → ⊥) }
     ensures writes { CountsOnlyWrites (failed_writes output.old) (failed_writes output.new) result }
 {
     let mut reader = ReaderOf::<S>::new(alloc, limits)?;
     let mut gathered = Vec::new(alloc);
-    let mut room = Vec::new(alloc);
     'items: while reader.fill(input)? {
-        write_next(alloc, &mut reader, texts, &mut gathered, &mut room, output)?;
+        write_next(alloc, &mut reader, texts, &mut kept, &mut gathered, output)?;
         flush_before_waiting(&reader, output)?;
     }
     Ok(())
 }
 
-/// Takes some of the bytes that wait, and writes the texts of the items that are whole with them. `gathered` and `room`
-/// are for those that are made; that of a large item goes out while it is made.
-fn write_next<S: Steps, W: Write, M: ItemTexts<S>>(
+/// Takes some of the bytes that wait, and writes the texts of the items that are whole with them. `gathered` is for
+/// those that are made; others go out while they are made.
+fn write_next<S: Steps, W: Write, M: TextSteps<S>>(
     alloc: Global,
     reader: &mut ReaderOf<S>,
     texts: &M,
+    kept: &mut M::Kept,
     gathered: &mut Vec<u8>,
-    room: &mut Vec<u8>,
     output: &mut Output<W>,
 ) -> Result<(), ToolFault>
     requires some { 0 < length (waits_in reader.old) }
     requires so_far { HasReadSome S.stepping reader.old }
+    requires fits { M.fits texts.now kept.old (types (S.stepping.table (session_of reader.old))) }
     ensures written { (read now : Option (List ℕ)) (given : List S.Told)
         → HasReadBy S.stepping reader.old read now given
-        → WritesNext S.stepping (IsTextBy S.stepping (M.of_item texts.now) (M.of_value texts.now)) reader.old reader.new
-        read now given (W.contents (writer_of output.old)) (W.contents (writer_of output.new)) result }
+        → WritesNext S.stepping (IsTextBy S.stepping (M.of_item texts.now) (M.of_value texts.now))
+        (IsStopBy S.stepping (M.stops texts.now)) reader.old reader.new read now given
+        (W.contents (writer_of output.old)) (W.contents (writer_of output.new)) result }
+    ensures fits { OnOk result (M.fits texts.now kept.new (types (S.stepping.table (session_of reader.new)))) }
     ensures unread { IfErr result (λ fault. fault ≢ ToolFault.Read) }
+    ensures own { IfErr result (λ fault. IsOfWanted fault → ⊥) }
     ensures limits { S.stepping.limits (session_of reader.new) ≡ S.stepping.limits (session_of reader.old) }
     ensures writes { CountsOnlyWrites (failed_writes output.old) (failed_writes output.new) result }
 {
-    if send_large(alloc, reader, texts, output)? {
+    if send_large(alloc, reader, texts, kept, output)? {
         return Ok(());
     }
-    write_gathered(alloc, reader, texts, gathered, room, output)
+    write_gathered(alloc, reader, texts, kept, gathered, output)
 }
 
-/// Writes the text of the large item of a value that waits as a whole, if there is one whose text can be sent, and goes
-/// past it. False where there is none; nothing has changed then.
-fn send_large<S: Steps, W: Write, M: ItemTexts<S>>(
+/// Writes the text of the item of a value that waits as a whole, if there is one whose text can be sent, and goes past
+/// it. False where there is none; nothing has changed then but what is kept.
+fn send_large<S: Steps, W: Write, M: TextSteps<S>>(
     alloc: Global,
     reader: &mut ReaderOf<S>,
     texts: &M,
+    kept: &mut M::Kept,
     output: &mut Output<W>,
 ) -> Result<bool, WriteFault>
+    requires { M.fits texts.now kept.old (types (S.stepping.table (session_of reader.old))) }
     ensures sent { (read now : Option (List ℕ)) (given : List S.Told) → HasReadBy S.stepping reader.old read now given
         → SendsLarge S.stepping (IsTextBy S.stepping (M.of_item texts.now) (M.of_value texts.now)) reader.old reader.new
         read now given (W.contents (writer_of output.old)) (W.contents (writer_of output.new)) result }
+    ensures fits { M.fits texts.now kept.new (types (S.stepping.table (session_of reader.new))) }
     ensures same { SendsNone reader.old reader.new (failed_writes output.old) (failed_writes output.new)
         (W.contents (writer_of output.old)) (W.contents (writer_of output.new)) result }
     ensures limits { S.stepping.limits (session_of reader.new) ≡ S.stepping.limits (session_of reader.old) }
     ensures fault { IfErr result (λ fault. fault ≡ WriteFault.Write) }
     ensures counted { CountsFaults (failed_writes output.old) (failed_writes output.new) result }
 {
-    let Some(Sent { used, sent }) = texts.send_whole(alloc, reader, output) else {
+    let Some(Sent { used, sent }) = texts.send_whole(alloc, reader, kept, output) else {
         return Ok(false);
     };
     reader.pass(used);
@@ -187,29 +202,32 @@ fn send_large<S: Steps, W: Write, M: ItemTexts<S>>(
 }
 
 /// Takes some of the bytes that wait, and writes the texts of the items that are whole with them, which are made in
-/// `gathered` before they go out together. Those before a fault go out before it is answered. `room` is for a text that
-/// is being made.
-fn write_gathered<S: Steps, W: Write, M: ItemTexts<S>>(
+/// `gathered` before they go out together. Those before a fault go out before it is answered.
+fn write_gathered<S: Steps, W: Write, M: TextSteps<S>>(
     alloc: Global,
     reader: &mut ReaderOf<S>,
     texts: &M,
+    kept: &mut M::Kept,
     gathered: &mut Vec<u8>,
-    room: &mut Vec<u8>,
     output: &mut Output<W>,
 ) -> Result<(), ToolFault>
     requires some { 0 < length (waits_in reader.old) }
     requires so_far { HasReadSome S.stepping reader.old }
+    requires fits { M.fits texts.now kept.old (types (S.stepping.table (session_of reader.old))) }
     ensures written { (read now : Option (List ℕ)) (given : List S.Told)
         → HasReadBy S.stepping reader.old read now given
-        → WritesNext S.stepping (IsTextBy S.stepping (M.of_item texts.now) (M.of_value texts.now)) reader.old reader.new
-        read now given (W.contents (writer_of output.old)) (W.contents (writer_of output.new)) result }
+        → WritesNext S.stepping (IsTextBy S.stepping (M.of_item texts.now) (M.of_value texts.now))
+        (IsStopBy S.stepping (M.stops texts.now)) reader.old reader.new read now given
+        (W.contents (writer_of output.old)) (W.contents (writer_of output.new)) result }
+    ensures fits { OnOk result (M.fits texts.now kept.new (types (S.stepping.table (session_of reader.new)))) }
     ensures unread { IfErr result (λ fault. fault ≢ ToolFault.Read) }
+    ensures own { IfErr result (λ fault. IsOfWanted fault → ⊥) }
     ensures limits { S.stepping.limits (session_of reader.new) ≡ S.stepping.limits (session_of reader.old) }
     ensures writes { CountsOnlyWrites (failed_writes output.old) (failed_writes output.new) result }
 {
     gathered.clear();
-    match pass_texts(alloc, reader, texts, gathered, room) {
-        Ok(false) => write_step(alloc, reader, texts, gathered, output),
+    match pass_texts(alloc, reader, texts, kept, gathered) {
+        Ok(false) => write_step(alloc, reader, texts, kept, gathered, output),
         Ok(true) => Ok(output.send_all(gathered)?),
         Err(memory) => {
             output.send_all(gathered)?;
@@ -219,32 +237,35 @@ fn write_gathered<S: Steps, W: Write, M: ItemTexts<S>>(
 }
 
 /// Goes past the items of values that wait as a whole, one behind another, in which no interface holds another, and
-/// appends their texts, until enough bytes are gathered. Whether there was one; else nothing has changed. After
-/// [`Memory`] the texts of the items that were passed stand there. `room` is for a text that is being made.
-fn pass_texts<S: Steps, M: ItemTexts<S>>(
+/// appends their texts, until enough bytes are gathered. Whether there was one; else nothing has changed but what is
+/// kept. After [`Memory`] the texts of the items that were passed stand there.
+fn pass_texts<S: Steps, M: TextSteps<S>>(
     alloc: Global,
     reader: &mut ReaderOf<S>,
     texts: &M,
+    kept: &mut M::Kept,
     gathered: &mut Vec<u8>,
-    room: &mut Vec<u8>,
 ) -> Result<bool, Memory>
     requires so_far { HasReadSome S.stepping reader.old }
+    requires fits { M.fits texts.now kept.old (types (S.stepping.table (session_of reader.old))) }
     ensures passed { (read now : Option (List ℕ)) (given : List S.Told) → HasReadBy S.stepping reader.old read now given
         → AppendsTexts S.stepping (IsTextBy S.stepping (M.of_item texts.now) (M.of_value texts.now)) reader.old
         reader.new read now given gathered.old.items gathered.new.items }
+    ensures fits { M.fits texts.now kept.new (types (S.stepping.table (session_of reader.new))) }
     ensures onward { IfOk result (λ passed. passed ≡ true
         → S.stepping.taken (session_of reader.old) < S.stepping.taken (session_of reader.new)) }
     ensures none { IfOk result (λ passed. passed ≡ false
         → (reader.new ≡ reader.old) × (gathered.new.items ≡ gathered.old.items)) }
     ensures limits { S.stepping.limits (session_of reader.new) ≡ S.stepping.limits (session_of reader.old) }
 {
+    let mut room = Vec::new(alloc);
     let mut passed = false;
     'items: while gathered.len() < MOST_GATHERED {
         room.clear();
-        let Some(used) = texts.push_whole(alloc, reader, room)? else {
+        let Some(used) = texts.whole_text(alloc, reader, kept, &mut room)? else {
             break;
         };
-        gathered.extend_from_slice(room)?;
+        gathered.extend_from_slice(&room)?;
         reader.pass(used);
         passed = true;
     }
@@ -253,50 +274,30 @@ fn pass_texts<S: Steps, M: ItemTexts<S>>(
 
 /// Takes some of the bytes that wait by a step, and writes the text of the item that is whole with them, which is made
 /// in `text`, which is empty.
-fn write_step<S: Steps, W: Write, M: ItemTexts<S>>(
+fn write_step<S: Steps, W: Write, M: TextSteps<S>>(
     alloc: Global,
     reader: &mut ReaderOf<S>,
     texts: &M,
+    kept: &mut M::Kept,
     text: &mut Vec<u8>,
     output: &mut Output<W>,
 ) -> Result<(), ToolFault>
     requires some { 0 < length (waits_in reader.old) }
     requires so_far { HasReadSome S.stepping reader.old }
+    requires fits { M.fits texts.now kept.old (types (S.stepping.table (session_of reader.old))) }
     requires empty { text.old.items ≡ [] }
     ensures written { (read now : Option (List ℕ)) (given : List S.Told)
         → HasReadBy S.stepping reader.old read now given
-        → WritesNext S.stepping (IsTextBy S.stepping (M.of_item texts.now) (M.of_value texts.now)) reader.old reader.new
-        read now given (W.contents (writer_of output.old)) (W.contents (writer_of output.new)) result }
+        → WritesNext S.stepping (IsTextBy S.stepping (M.of_item texts.now) (M.of_value texts.now))
+        (IsStopBy S.stepping (M.stops texts.now)) reader.old reader.new read now given
+        (W.contents (writer_of output.old)) (W.contents (writer_of output.new)) result }
+    ensures fits { OnOk result (M.fits texts.now kept.new (types (S.stepping.table (session_of reader.new)))) }
     ensures unread { IfErr result (λ fault. fault ≢ ToolFault.Read) }
+    ensures own { IfErr result (λ fault. IsOfWanted fault → ⊥) }
     ensures limits { S.stepping.limits (session_of reader.new) ≡ S.stepping.limits (session_of reader.old) }
     ensures writes { CountsOnlyWrites (failed_writes output.old) (failed_writes output.new) result }
 {
-    step_text(alloc, reader, texts, text)?;
+    texts.step_text(alloc, reader, kept, text)?;
     output.send_all(text)?;
-    Ok(())
-}
-
-/// Takes some of the bytes that wait by a step, and makes in `text`, which is empty, the text of the item that is whole
-/// with them.
-fn step_text<S: Steps, M: ItemTexts<S>>(
-    alloc: Global,
-    reader: &mut ReaderOf<S>,
-    texts: &M,
-    text: &mut Vec<u8>,
-) -> Result<(), Fault>
-    requires some { 0 < length (waits_in reader.old) }
-    requires so_far { HasReadSome S.stepping reader.old }
-    requires empty { text.old.items ≡ [] }
-    ensures made { (read now : Option (List ℕ)) (given : List S.Told) → HasReadBy S.stepping reader.old read now given
-        → MakesNext S.stepping (IsTextBy S.stepping (M.of_item texts.now) (M.of_value texts.now)) reader.old reader.new
-        read now given text.new.items result }
-    ensures unread { IfErr result (λ fault. fault ≢ Fault.Read) }
-    ensures limits { S.stepping.limits (session_of reader.new) ≡ S.stepping.limits (session_of reader.old) }
-{
-    let Step { item, .. } = reader.step(alloc)?;
-    let Some(item) = item else {
-        return Ok(());
-    };
-    texts.push_item(alloc, item, reader.table(), text)?;
     Ok(())
 }

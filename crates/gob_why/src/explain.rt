@@ -4,7 +4,7 @@ ghost use Rattle.std.specs.Prelude.{◌≡◌, ◌≢◌, ◌++◌, ℕ, List, I
 ghost use Rattle.gob_stream.specs.Bounds.{AreLimits, deepest, within_trees};
 ghost use Rattle.gob_stream.specs.Calls.Ends.{failed_reads, failed_writes, reader_of, writer_of};
 ghost use Rattle.gob_go.specs.Calls.Session.{limits_of, types_of};
-ghost use Rattle.gob_tool.specs.Ending.{CountsOnlyReads, CountsOnlyWrites};
+ghost use Rattle.gob_tool.specs.Ending.{CountsOnlyWrites};
 ghost use Rattle.gob_tool.specs.Showing.{CountsReadFaults, CountsWriteFaults, IsFlushedSince};
 ghost use Rattle.gob_why.specs.Explain.{ExplainAnswers};
 ghost use Rattle.gob_why.specs.Machine.Keeping.{ExplainsAll, ExplainsPiece, HasReadKept, HasReadSome, TellsRefused};

@@ -1,7 +1,8 @@
 -- Where a run stands that writes texts of items. For private clauses.
-use Rattle.std.specs.Prelude.{◌≡◌, ℕ, ◌<◌, ◌≤◌, Bool, true, false, List, [], ◌++◌, Option, Some, None}
+use Rattle.std.specs.Prelude.{◌≡◌, ℕ, ◌<◌, ◌≤◌, Bool, true, false, List, [], ◌∷◌, ◌++◌, Option, Some, None}
 use Rattle.std.specs.Prelude.{Result, Ok, Err}
 use Rattle.std.specs.Io.KnownBytes.{Appends}
+use Rattle.gob_types.specs.Defined.{types}
 use Rattle.gob_types.specs.Table.{Table}
 use Rattle.gob_stream.specs.Bounds.{Bounds}
 use Rattle.gob_stream.specs.Calls.ReaderOf.{HasReadBy, StopsBy, session_of}
@@ -12,8 +13,8 @@ use Rattle.gob_stream.specs.Stepping.{StandsBy, Stepping}
 use Rattle.gob_stream.specs.declared.fault.Fault.{Fault}
 use Rattle.gob_stream.specs.declared.fault.WriteFault.{WriteFault}
 use Rattle.gob_stream.specs.declared.reader_of.ReaderOf.{ReaderOf}
-use Rattle.gob_tool.specs.Answering.{AppendsPrefix, RunAnswersIn}
-use Rattle.gob_tool.specs.Texts.{HaveTexts, OfTexts}
+use Rattle.gob_tool.specs.Fault.{reading_fault}
+use Rattle.gob_tool.specs.Texts.{AnswersOrStops, HaveTexts, OfTexts}
 use Rattle.gob_tool.specs.declared.fault.ToolFault.{ToolFault}
 
 -- what its grammar keeps to of the limits
@@ -66,11 +67,20 @@ abbrev pub AppendsTexts : {X I Told : Type 0} → Stepping X I Told → (Is : Ta
 AppendsTexts d Is r r' read now given old new =
     (made : List ℕ) × MakesTexts d Is r r' read now given made × (new ≡ old ++ made)
 
+-- why it went no further: what the reader met, or a fault at the item behind those that were given
+pub data StopsNext {X I Told : Type 0} (d : Stepping X I Told) (Stop : Table → Told → ToolFault → Type 0)
+    (r r' : ReaderOf X I) (read now : Option (List ℕ)) (given : List Told) : ToolFault → Type 0 where
+  stops_reading : (T : Table) (e : Fault) → StopsBy d (session_of r) T read now given e
+      → StopsNext d Stop r r' read now given (reading_fault e)
+  stops_item : {f : ToolFault} (i : Told) → HasReadBy d r' read now (given ++ i ∷ []) → StandsBy d (session_of r')
+      → d.between (session_of r') → d.limits (session_of r') ≡ d.limits (session_of r)
+      → Stop (types (d.table (session_of r'))) i f → StopsNext d Stop r r' read now given f
+
 abbrev pub MakesNext : {X I Told : Type 0} → Stepping X I Told → (Is : Table → Told → List ℕ → Type 0)
-    → (r r' : ReaderOf X I) → (read now : Option (List ℕ)) → List Told → (made : List ℕ) → Result (Unit {0}) Fault
-    → Type 0
-MakesNext d Is r r' read now given made (Ok _) = MakesOnward d Is r r' read now given made
-MakesNext d Is r r' read now given made (Err e) = (T : Table) × StopsBy d (session_of r) T read now given e
+    → (Stop : Table → Told → ToolFault → Type 0) → (r r' : ReaderOf X I) → (read now : Option (List ℕ)) → List Told
+    → (made : List ℕ) → Result (Unit {0}) ToolFault → Type 0
+MakesNext d Is Stop r r' read now given made (Ok _) = MakesOnward d Is r r' read now given made
+MakesNext d Is Stop r r' read now given made (Err f) = StopsNext d Stop r r' read now given f
 
 -- the text of what a step gave
 abbrev pub TextGiven : {I : Type 0} → (of_item : Table → I → List ℕ → Type 0) → Table → Option I → (made : List ℕ)
@@ -80,15 +90,13 @@ TextGiven of_item T (Some given) made = of_item T given made
 
 -- the texts went out, or a prefix of them
 abbrev pub WritesNext : {X I Told : Type 0} → Stepping X I Told → (Is : Table → Told → List ℕ → Type 0)
-    → (r r' : ReaderOf X I) → (read now : Option (List ℕ)) → List Told → (old new : Option (List ℕ))
-    → Result (Unit {0}) ToolFault → Type 0
-WritesNext d Is r r' read now given old new (Ok _) = (made : List ℕ) × MakesOnward d Is r r' read now given made
-    × Appends old new made
-WritesNext d Is r r' read now given old new (Err f) = (bytes : List ℕ) → read ≡ Some bytes → (start : Option (List ℕ))
-    → OfTexts d.grammar Is (bounds_of d r) bytes (Appends start old) given
-    → RunAnswersIn d.grammar (bounds_of d r) bytes now
-    (λ T items. OfTexts d.grammar Is (bounds_of d r) bytes (Appends start new) items)
-    (λ T items. OfTexts d.grammar Is (bounds_of d r) bytes (AppendsPrefix start new) items) (Err f)
+    → (Stop : Table → Told → ToolFault → Type 0) → (r r' : ReaderOf X I) → (read now : Option (List ℕ)) → List Told
+    → (old new : Option (List ℕ)) → Result (Unit {0}) ToolFault → Type 0
+WritesNext d Is Stop r r' read now given old new (Ok _) = (made : List ℕ)
+    × MakesOnward d Is r r' read now given made × Appends old new made
+WritesNext d Is Stop r r' read now given old new (Err f) = (bytes : List ℕ) → read ≡ Some bytes
+    → (start : Option (List ℕ)) → OfTexts d.grammar Is (bounds_of d r) bytes (Appends start old) given
+    → AnswersOrStops d.grammar Is Stop (bounds_of d r) bytes now start new (Err f)
 
 -- the text went out, or a prefix of it; or nothing has changed
 abbrev pub SendsLarge : {X I Told : Type 0} → Stepping X I Told → (Is : Table → Told → List ℕ → Type 0)

@@ -1,6 +1,6 @@
 use Rattle.gob_stream.specs.Calls.Ends.{failed_writes, reader_of, writer_of}
 use Rattle.gob_tool.specs.Texts.{IsTextBy}
-use Rattle.gob_tool.proofs.TextLaws.{texts_ended}
+use Rattle.gob_tool.proofs.TextLaws.{texts_ended, unstopped}
 use Rattle.gob_tool.proofs.texts.run_texts.Goals as goal
 
 pub returns-clause-written : goal.returns-clause-written
@@ -11,7 +11,8 @@ returns-clause-written g c = λ bytes known.
     texts_ended D Is (D.within c.args.limits) bytes
     (g.R.Read.remaining (reader_of answer.new.input)) (g.W.Write.contents (writer_of c.args.output.now))
     (g.W.Write.contents (writer_of answer.new.output)) (g.W.Write.contents (writer_of c.end_run.new.output))
-    answer.result c.end_run.result c.end_run.ensures.bytes c.end_run.ensures.ends (answer.ensures.written bytes known)
+    answer.result c.end_run.result c.end_run.ensures.bytes c.end_run.ensures.ends
+    (unstopped D Is (answer.ensures.written bytes known))
 
 pub returns-clause-writes : goal.returns-clause-writes
 returns-clause-writes g c =

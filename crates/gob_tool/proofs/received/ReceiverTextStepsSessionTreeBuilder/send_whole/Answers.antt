@@ -1,0 +1,53 @@
+-- What is received of the value that waits is made, and its line is sent.
+use Rattle.std.proofs.Common.{arith, refl, subst, sym}
+use Rattle.gob_types.specs.Defined.{Defined, types}
+use Rattle.gob_types.specs.Ready.{IsReady}
+use Rattle.gob_match.specs.Matching.{Match}
+use Rattle.gob_match.specs.ReceivedWhole.{ReceivesWhole}
+use Rattle.gob_stream.specs.Item.{puts}
+use Rattle.gob_tool.specs.Line.{line}
+use Rattle.gob_tool.specs.Machine.Receiver.{KeepsKnown}
+use Rattle.gob_tool.proofs.ShowLaws.{next_whole}
+use Rattle.gob_tool.proofs.TakeRuns.{value_received}
+use Rattle.gob_tool.proofs.received.ReceiverTextStepsSessionTreeBuilder.send_whole.Goals as goal
+
+pub receive_whole-requires : goal.receive_whole-requires
+receive_whole-requires g c =
+    let same = sym c.table.ensures in (
+      omega arith,
+      (
+        subst (λ (D : Defined). KeepsKnown (types D) (types c.args.self.now.wanted.now) c.args.self.now.wanted_id
+            c.args.kept.now) same c.requires.known,
+        (
+          subst (λ (D : Defined). IsReady (types D) c.in_ok-item.item.id) same c.in_ok-item.ensures.next.may.ready,
+          c.requires.ready,
+        ),
+      ),
+    )
+
+pub returns-clause-sent : goal.returns-clause-sent
+returns-clause-sent g c =
+    let item = c.in_ok-item.item in
+    let w = c.in_ok-item.ensures in
+    let depth = c.line_depth-depth.result in
+    let receiver = c.args.self.now in
+    let U = types receiver.wanted.now in
+    let u = receiver.wanted_id in
+    let T = types c.table.result.now in
+    let v = subst (λ (D : Defined). ReceivesWhole (types D) U item.id u depth item.body.now c.deref.result.now)
+    c.table.ensures (subst (ReceivesWhole T U item.id u depth item.body.now) (sym c.deref.ensures.value)
+    (c.receive_whole.ensures.received c.if-not-receive_whole.false)) in
+    let m = subst (λ (D : Defined). Match (types D) U item.id u) c.table.ensures
+    (c.receive_whole.ensures.matched c.if-not-receive_whole.false) in (
+      line U (puts u v.made),
+      record {
+        id = item.id;
+        value = v.value;
+        item = next_whole (omega (arith, c.line_depth-depth.ensures)) w.between w.next
+            (record { value = v.value; spelled = v.spelled; within = v.within });
+        is = value_received item.id v.value v.made m v.receives refl;
+      },
+      c.send_item-sent.ensures.sent (record
+          { value = v.made; spelled = v.made_spelled; within = v.made_within }),
+      c.send_item-sent.ensures.counted,
+    )
