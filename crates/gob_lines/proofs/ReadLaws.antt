@@ -107,7 +107,7 @@ all_read f xs js all mid now each h e =
 
 -- ---- the parts of a field
 
-nested : (a b t2 t3 t4 now : List Token) → t2 ≡ a ++ t3 → t3 ≡ b ++ t4 → t4 ≡ Token.end_array ∷ now
+pub nested : (a b t2 t3 t4 now : List Token) → t2 ≡ a ++ t3 → t3 ≡ b ++ t4 → t4 ≡ Token.end_array ∷ now
     → t2 ≡ (a ++ (b ++ Token.end_array ∷ [])) ++ now
 nested a b t2 t3 t4 now e2 e3 e4 =
     e2 ∙ ap (λ (l : List Token). a ++ l)

@@ -43,7 +43,7 @@ use Rattle.gob_json.proofs.LeafLaws.{pattern_bytes}
 use Rattle.gob_lines.specs.Laws.{FewFields, HaveFewFields}
 
 -- the token of a signed number
-integer_token : (i : ℤ) → Token.number (signed_decimal i) ∷ [] ≡ json_tokens (outline (integer_json i))
+pub integer_token : (i : ℤ) → Token.number (signed_decimal i) ∷ [] ≡ json_tokens (outline (integer_json i))
 integer_token (pos n) = refl
 integer_token (negsuc n) = refl
 
@@ -64,15 +64,15 @@ both {b = b} {c = c} f e r = record {
 
 -- ---- tokens
 
-abbrev first : List Token → Token
+abbrev pub first : List Token → Token
 first [] = Token.null
 first (t ∷ ts) = t
 
-abbrev behind : List Token → List Token
+abbrev pub behind : List Token → List Token
 behind [] = []
 behind (t ∷ ts) = ts
 
-abbrev text_of : Token → List ℕ
+abbrev pub text_of : Token → List ℕ
 text_of (Token.key s) = s
 text_of (Token.string s) = s
 text_of (Token.number s) = s
@@ -90,17 +90,17 @@ abbrev is_string : Token → Bool
 is_string (Token.string s) = true
 is_string _ = false
 
-false_is_not_true : false ≡ true → ⊥
+pub false_is_not_true : false ≡ true → ⊥
 false_is_not_true e = grind arith
 
-abbrev J : Data → List Token
+abbrev pub J : Data → List Token
 J d = json_tokens (outline d)
 
-abbrev JS : Items → List Token
+abbrev pub JS : Items → List Token
 JS js = items_tokens (items_outline js)
 
 -- no value's JSON begins with the end of an array
-not_end : (d : Data) (m y x : List Token) → Token.end_array ∷ x ≡ (J d ++ m) ++ y → ⊥
+pub not_end : (d : Data) (m y x : List Token) → Token.end_array ∷ x ≡ (J d ++ m) ++ y → ⊥
 not_end null m y x h = false_is_not_true (sym (ap (λ l. is_end (first l)) h))
 not_end (boolean b) m y x h = false_is_not_true (sym (ap (λ l. is_end (first l)) h))
 not_end (number n) m y x h = false_is_not_true (sym (ap (λ l. is_end (first l)) h))
@@ -108,18 +108,18 @@ not_end (string s) m y x h = false_is_not_true (sym (ap (λ l. is_end (first l))
 not_end (array js) m y x h = false_is_not_true (sym (ap (λ l. is_end (first l)) h))
 not_end (object ms) m y x h = false_is_not_true (sym (ap (λ l. is_end (first l)) h))
 
-regroup : (b p x c q y : List Token) → (b ++ p) ++ x ≡ (c ++ q) ++ y → b ++ (p ++ x) ≡ c ++ (q ++ y)
+pub regroup : (b p x c q y : List Token) → (b ++ p) ++ x ≡ (c ++ q) ++ y → b ++ (p ++ x) ≡ c ++ (q ++ y)
 regroup b p x c q y e = sym (append_assoc b p x) ∙ e ∙ append_assoc c q y
 
 -- two parts one behind another, an end, and what stands behind
-flat : (a b e m x : List Token) → ((a ++ (b ++ e)) ++ m) ++ x ≡ a ++ (b ++ (e ++ (m ++ x)))
+pub flat : (a b e m x : List Token) → ((a ++ (b ++ e)) ++ m) ++ x ≡ a ++ (b ++ (e ++ (m ++ x)))
 flat a b e m x =
     append_assoc (a ++ (b ++ e)) m x ∙ append_assoc a (b ++ e) (m ++ x)
     ∙ ap (λ (l : List Token). a ++ l) (append_assoc b e (m ++ x))
 
 -- ---- what has no parts
 
-are_bytes : (s : List ℕ) → AreBytes s → IsBytes s
+pub are_bytes : (s : List ℕ) → AreBytes s → IsBytes s
 are_bytes [] h i = omega arith
 are_bytes (b ∷ s) h zero = h.0
 are_bytes (b ∷ s) h (suc i) = are_bytes s h.1 i
@@ -128,18 +128,18 @@ abbrev pub decoded : Result (List ℕ) FromHexError → List ℕ
 decoded (Ok b) = b
 decoded (Err e) = []
 
-hex_once : (s t : List ℕ) → IsBytes s → IsBytes t → encode_lower s ≡ encode_lower t → s ≡ t
+pub hex_once : (s t : List ℕ) → IsBytes s → IsBytes t → encode_lower s ≡ encode_lower t → s ≡ t
 hex_once s t p q e =
     ap decoded (sym (decode_of-encode_lower s p) ∙ ap decode_of e ∙ decode_of-encode_lower t q)
 
-hex_said : (s t : List ℕ) (x y : List Token) → IsBytes s → IsBytes t → J (hex_json s) ++ x ≡ J (hex_json t) ++ y
+pub hex_said : (s t : List ℕ) (x y : List Token) → IsBytes s → IsBytes t → J (hex_json s) ++ x ≡ J (hex_json t) ++ y
     → SaidOnce s t x y
 hex_said s t x y p q h = record {
   value = hex_once s t p q (ap (λ l. text_of (first l)) h);
   rest = ap behind h;
 }
 
-pattern_said : (p q : ℕ) (x y : List Token) → p < 2 ^ 64 → q < 2 ^ 64
+pub pattern_said : (p q : ℕ) (x y : List Token) → p < 2 ^ 64 → q < 2 ^ 64
     → J (pattern_json p) ++ x ≡ J (pattern_json q) ++ y → SaidOnce p q x y
 pattern_said p q x y f g h =
     let r = hex_said (to_be_bytes w64 p) (to_be_bytes w64 q) x y (pattern_bytes p) (pattern_bytes q) h in
@@ -148,7 +148,7 @@ pattern_said p q x y f g h =
       rest = r.rest;
     }
 
-object_said : (k : List ℕ) (s t : List ℕ) (x y : List Token) → IsBytes s → IsBytes t
+pub object_said : (k : List ℕ) (s t : List ℕ) (x y : List Token) → IsBytes s → IsBytes t
     → J (object (member k (hex_json s) no_members)) ++ x ≡ J (object (member k (hex_json t) no_members)) ++ y
     → SaidOnce s t x y
 object_said k s t x y p q h = record {
@@ -156,7 +156,7 @@ object_said k s t x y p q h = record {
   rest = ap (λ l. behind (behind (behind (behind l)))) h;
 }
 
-abbrev text_as : Bool → List ℕ → Data
+abbrev pub text_as : Bool → List ℕ → Data
 text_as b s = if b then string s else object (member (codes "hex") (hex_json s) no_members)
 
 text_at : (a b : Bool) (s t : List ℕ) (x y : List Token) → IsBytes s → IsBytes t
@@ -166,11 +166,11 @@ text_at true false s t x y p q h = absurd (false_is_not_true (sym (ap (λ l. is_
 text_at false true s t x y p q h = absurd (false_is_not_true (ap (λ l. is_string (first l)) h))
 text_at false false s t x y p q h = object_said (codes "hex") s t x y p q h
 
-text_said : (s t : List ℕ) (x y : List Token) → IsBytes s → IsBytes t
+pub text_said : (s t : List ℕ) (x y : List Token) → IsBytes s → IsBytes t
     → J (text_json s) ++ x ≡ J (text_json t) ++ y → SaidOnce s t x y
 text_said s t x y p q h = text_at (is_utf8 s) (is_utf8 t) s t x y p q h
 
-int_said : (i j : ℤ) (x y : List Token) {b c : List ℕ} → IsSigned i b → IsSigned j c
+pub int_said : (i j : ℤ) (x y : List Token) {b c : List ℕ} → IsSigned i b → IsSigned j c
     → J (integer_json i) ++ x ≡ J (integer_json j) ++ y → SaidOnce i j x y
 int_said i j x y p q h =
     let f = signed_fits p in
@@ -185,14 +185,14 @@ int_said i j x y p q h =
 -- ---- by the kind of the type
 
 -- the JSON of a value of a type of this kind
-abbrev kind_json : Table → Kind → Tree → Data
+abbrev pub kind_json : Table → Kind → Tree → Data
 kind_json T k (Value.many vs) = array (elements_json T (unwrap_or (elem_named k) no_type) vs)
 kind_json T k (Value.pairs ps) =
     array (pairs_json T (unwrap_or (key_named k) no_type) (unwrap_or (elem_named k) no_type) ps)
 kind_json T k (Value.fields fs) = array (fields_json T (unwrap_or (fields_named k) []) fs)
 kind_json T k v = value_json T no_type v
 
-of_kind : (T : Table) (t : TypeId) (s : Shape) (v : Tree) → shape_of T t ≡ Some s
+pub of_kind : (T : Table) (t : TypeId) (s : Shape) (v : Tree) → shape_of T t ≡ Some s
     → value_json T t v ≡ kind_json T s.kind v
 of_kind T t s (Value.bool b) e = refl
 of_kind T t s (Value.int i) e = refl
@@ -207,11 +207,11 @@ of_kind T t s (Value.pairs ps) e = ap (λ o. array (pairs_json T (key_type o) (e
 of_kind T t s (Value.fields fs) e = ap (λ o. array (fields_json T (struct_fields o) fs)) e
 of_kind T t s (Value.opaque b) e = refl
 
-abbrev field_data : Table → List Field → ℕ → Tree → Data
+abbrev pub field_data : Table → List Field → ℕ → Tree → Data
 field_data T types f v = triple_json (natural_json f) (text_json (field_name (slice_get types f)))
     (value_json T (field_type (slice_get types f)) v)
 
-number_small : (types : List Field) (f : ℕ) (e : Field) → length types < 2 ^ 64 → slice_get types f ≡ Some e
+pub number_small : (types : List Field) (f : ℕ) (e : Field) → length types < 2 ^ 64 → slice_get types f ≡ Some e
     → f < 2 ^ 64
 number_small types f e small i = let within = slice_get_within types f e i in omega arith
 

@@ -1,6 +1,7 @@
 //! What is wrong with a line, and where.
 
 ghost use Rattle.std.specs.Prelude.{◌≡◌};
+ghost use Rattle.gob_lines.specs.Reads.{IsWrong};
 
 use crate::path::Step;
 use gob_num::Memory;
@@ -153,7 +154,9 @@ impl LineFault {
     }
 
     // The fault of a value that a step leads to, as one of the value around it.
-    pub(crate) fn within(self, step: Step) -> LineFault {
+    pub(crate) fn within(self, step: Step) -> LineFault
+        ensures { IsWrong result → IsWrong self }
+    {
         match self {
             LineFault::Wrong(Wrong { at, due, path }) => {
                 let mut path = path;
@@ -166,7 +169,9 @@ impl LineFault {
     }
 
     // The fault of the value of this field, as one of the struct.
-    pub(crate) fn within_field(self, alloc: Global, name: &Name) -> LineFault {
+    pub(crate) fn within_field(self, alloc: Global, name: &Name) -> LineFault
+        ensures { IsWrong result → IsWrong self }
+    {
         match Vec::from_slice(alloc, name.as_bytes()) {
             Ok(bytes) => self.within(Step::Field(Name::new(bytes))),
             Err(_) => self,

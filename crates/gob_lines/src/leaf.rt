@@ -1,9 +1,9 @@
 //! What has no parts, read from the tokens of a line: numbers, bytes, text and the patterns of floats.
 
 ghost use Rattle.std.specs.Prelude.{◌≡◌, ◌≢◌, ◌↔◌, ◌∷◌, ◌^◌, ◌<◌, IsTrue, ℕ, ℤ, List, None, FitsSigned};
-ghost use Rattle.std.specs.Prelude.{IfErr, IfOk, IfSome, OnOk, decimal};
+ghost use Rattle.std.specs.Prelude.{IfErr, IfOk, IfSome, Ok, OnOk, decimal};
 ghost use Rattle.hex.specs.declared.error.FromHexError.TheVariants as hex_error;
-ghost use Rattle.hex.specs.Hex.{IsBytes, encode_lower};
+ghost use Rattle.hex.specs.Hex.{IsBytes, decode_of, encode_lower};
 ghost use Rattle.std.specs.Int.{to_be_bytes, w64};
 ghost use Rattle.std.specs.Prelude as truth;
 ghost use Rattle.std.specs.Fmt.{signed_decimal};
@@ -11,9 +11,14 @@ ghost use Rattle.json.specs.Token as token;
 ghost use Rattle.serde_json.specs.Data.{null, boolean};
 ghost use Rattle.gob_types.specs.declared.id.TypeId.{TypeId};
 ghost use Rattle.gob_types.specs.Table.{Table};
+ghost use Rattle.gob_types.specs.declared.kind.Kind.TheVariants as kind;
+ghost use Rattle.gob_value.specs.Bytes.{HoldsBytes};
+ghost use Rattle.gob_value.specs.Spelling.{SpellsAs};
+ghost use Rattle.gob_value.specs.Tree.{Tree};
 ghost use Rattle.gob_value.specs.View.{view};
 ghost use Rattle.gob_json.specs.Json.{hex_json, text_json, opaque_json, pattern_json, pair_json};
 ghost use Rattle.gob_json.specs.Json.{natural_json, integer_json, value_json};
+ghost use Rattle.gob_lines.specs.Complete.{ReadsIt};
 ghost use Rattle.gob_lines.specs.Reads.{Reads, IsWrong};
 
 use crate::fault::{Due, LineFault};
@@ -127,6 +132,7 @@ pub(crate) fn read_int(alloc: Global, tokens: &mut Reader<'_>) -> Result<i64, Li
     ensures ok { IfOk result (λ i. Reads (integer_json i) tokens.old tokens.new) }
     ensures none { IfErr result (λ f. IsWrong f → (i : ℤ) (rest : List token.Token)
         → FitsSigned w64 i → Reads (integer_json i) tokens.old rest → ⊥) }
+    ensures fits { IfOk result (λ i. FitsSigned w64 i) }
 {
     let at = tokens.offset();
     if let Some(Token::Number(text)) = tokens.next() {
@@ -142,6 +148,7 @@ pub(crate) fn read_uint(alloc: Global, tokens: &mut Reader<'_>) -> Result<u64, L
     ensures ok { IfOk result (λ n. Reads (natural_json n) tokens.old tokens.new) }
     ensures none { IfErr result (λ f. IsWrong f → (n : ℕ) (rest : List token.Token)
         → n < 2 ^ 64 → Reads (natural_json n) tokens.old rest → ⊥) }
+    ensures fits { IfOk result (λ n. n < 2 ^ 64) }
 {
     let at = tokens.offset();
     if let Some(Token::Number(text)) = tokens.next() {
@@ -155,6 +162,7 @@ pub(crate) fn read_uint(alloc: Global, tokens: &mut Reader<'_>) -> Result<u64, L
 /// The bytes of which this is the text in lower case hexadecimal.
 fn bytes_of(alloc: Global, text: &str) -> Result<Option<Vec<u8>>, LineFault>
     ensures ok { IfOk result (λ found. IfSome found (λ bytes. encode_lower bytes.items ≡ text.now)) }
+    ensures decoded { IfOk result (λ found. IfSome found (λ bytes. decode_of text.now ≡ Ok bytes.items)) }
     ensures none { IfOk result (λ found. found ≡ None → (b : List ℕ) → IsBytes b → encode_lower b ≢ text.now) }
     ensures memory { IfErr result (λ f. IsWrong f → ⊥) }
 {
@@ -186,6 +194,8 @@ pub(crate) fn read_hex(alloc: Global, tokens: &mut Reader<'_>) -> Result<Vec<u8>
     ensures ok { IfOk result (λ bytes. Reads (hex_json bytes.items) tokens.old tokens.new) }
     ensures none { IfErr result (λ f. IsWrong f → (b : List ℕ) (rest : List token.Token)
         → IsBytes b → Reads (hex_json b) tokens.old rest → ⊥) }
+    ensures only { IfOk result (λ bytes. (b : List ℕ) (rest : List token.Token)
+        → IsBytes b → Reads (hex_json b) tokens.old rest → (bytes.items ≡ b) × (tokens.new ≡ rest)) }
 {
     let at = tokens.offset();
     if let Some(Token::String(text)) = tokens.next() {
@@ -220,6 +230,7 @@ pub(crate) fn read_pattern(alloc: Global, tokens: &mut Reader<'_>) -> Result<u64
     ensures ok { IfOk result (λ p. Reads (pattern_json p) tokens.old tokens.new) }
     ensures none { IfErr result (λ f. IsWrong f → (p : ℕ) (rest : List token.Token)
         → p < 2 ^ 64 → Reads (pattern_json p) tokens.old rest → ⊥) }
+    ensures fits { IfOk result (λ p. p < 2 ^ 64) }
 {
     let at = tokens.offset();
     if let Some(Token::String(text)) = tokens.next() {
@@ -232,7 +243,10 @@ pub(crate) fn read_pattern(alloc: Global, tokens: &mut Reader<'_>) -> Result<u64
 
 /// Reads the two patterns of a complex number.
 pub(crate) fn read_complex(alloc: Global, tokens: &mut Reader<'_>) -> Result<(u64, u64), LineFault>
-    ensures { IfOk result (λ p. Reads (pair_json (pattern_json p.0) (pattern_json p.1)) tokens.old tokens.new) }
+    ensures read { IfOk result (λ p. Reads (pair_json (pattern_json p.0) (pattern_json p.1)) tokens.old tokens.new) }
+    ensures whole { (p q : ℕ) (rest : List token.Token) → p < 2 ^ 64 → q < 2 ^ 64
+        → Reads (pair_json (pattern_json p) (pattern_json q)) tokens.old rest
+        → ReadsIt (λ x. x) result tokens.new (p, q) rest }
 {
     take_array(alloc, tokens)?;
     let real = read_pattern(alloc, tokens)?;
@@ -243,7 +257,9 @@ pub(crate) fn read_complex(alloc: Global, tokens: &mut Reader<'_>) -> Result<(u6
 
 /// Reads text: a string, or an object that has bytes that are no UTF-8.
 pub(crate) fn read_text(alloc: Global, tokens: &mut Reader<'_>) -> Result<Vec<u8>, LineFault>
-    ensures { IfOk result (λ bytes. Reads (text_json bytes.items) tokens.old tokens.new) }
+    ensures read { IfOk result (λ bytes. Reads (text_json bytes.items) tokens.old tokens.new) }
+    ensures whole { (b : List ℕ) (rest : List token.Token) → IsBytes b → Reads (text_json b) tokens.old rest
+        → ReadsIt (λ bytes. bytes.items) result tokens.new b rest }
 {
     let at = tokens.offset();
     match tokens.next() {
@@ -263,7 +279,9 @@ pub(crate) fn read_text(alloc: Global, tokens: &mut Reader<'_>) -> Result<Vec<u8
 
 /// Reads the bytes of an opaque value.
 pub(crate) fn read_opaque(alloc: Global, tokens: &mut Reader<'_>) -> Result<Vec<u8>, LineFault>
-    ensures { IfOk result (λ bytes. Reads (opaque_json bytes.items) tokens.old tokens.new) }
+    ensures read { IfOk result (λ bytes. Reads (opaque_json bytes.items) tokens.old tokens.new) }
+    ensures whole { (b : List ℕ) (rest : List token.Token) → IsBytes b → Reads (opaque_json b) tokens.old rest
+        → ReadsIt (λ bytes. bytes.items) result tokens.new b rest }
 {
     let at = tokens.offset();
     match tokens.next() {
@@ -295,7 +313,11 @@ pub(crate) fn read_basic(
     basic: gob_types::Basic,
     tokens: &mut Reader<'_>,
 ) -> Result<Value, LineFault>
-    ensures { IfOk result (λ v. (T : Table) (t : TypeId) → Reads (value_json T t (view v)) tokens.old tokens.new) }
+    ensures read { IfOk result (λ v. (T : Table) (t : TypeId)
+        → Reads (value_json T t (view v)) tokens.old tokens.new) }
+    ensures whole { (T : Table) (t : TypeId) (v : Tree) (b : List ℕ) (rest : List token.Token)
+        → SpellsAs T (kind.Basic basic) v b → HoldsBytes v → Reads (value_json T t v) tokens.old rest
+        → ReadsIt view result tokens.new v rest }
 {
     match basic {
         gob_types::Basic::Bool => Ok(Value::Bool(read_bool(alloc, tokens)?)),

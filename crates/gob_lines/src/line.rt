@@ -3,6 +3,9 @@
 ghost use Rattle.std.specs.Prelude.{◌≡◌, ℕ, List, IfOk};
 ghost use Rattle.json.specs.Lex as json;
 ghost use Rattle.gob_types.specs.Defined.{types};
+ghost use Rattle.gob_types.specs.declared.id.TypeId.{TypeId};
+ghost use Rattle.gob_value.specs.Tree.{Tree};
+ghost use Rattle.gob_lines.specs.Complete.{LeavesNone, ReadsPut, SaysPut};
 ghost use Rattle.gob_lines.specs.Tells.{Tells, TellsTokens};
 
 use crate::definition::read_shape;
@@ -48,7 +51,9 @@ pub fn read_line(
     line: &str,
     scratch: &mut Scratch,
 ) -> Result<Line, LineFault>
-    ensures { IfOk result (λ said. Tells (types table.now) line.now said) }
+    ensures tells { IfOk result (λ said. Tells (types table.now) line.now said) }
+    ensures whole { (id : TypeId) (v : Tree) → SaysPut (types table.now) depth (json.tokens line.now) id v
+        → ReadsPut result id v }
 {
     let mut tokens = Reader::new(line, scratch)?;
     match read_whole(alloc, table, depth, &mut tokens) {
@@ -64,8 +69,10 @@ fn read_whole(
     depth: u64,
     tokens: &mut Reader<'_>,
 ) -> Result<Line, LineFault>
-    ensures { IfOk result (λ said. (text : List ℕ)
+    ensures tells { IfOk result (λ said. (text : List ℕ)
         → tokens.old ≡ json.tokens text → Tells (types table.now) text said) }
+    ensures whole { (id : TypeId) (v : Tree) → SaysPut (types table.now) depth tokens.old id v
+        → ReadsPut result id v }
 {
     let said = read_item(alloc, table, depth, tokens)?;
     if matches!(said, Line::Unready { .. }) {
@@ -85,7 +92,9 @@ fn read_item(
     depth: u64,
     tokens: &mut Reader<'_>,
 ) -> Result<Line, LineFault>
-    ensures { IfOk result (λ said. TellsTokens (types table.now) tokens.old said tokens.new) }
+    ensures tells { IfOk result (λ said. TellsTokens (types table.now) tokens.old said tokens.new) }
+    ensures whole { (id : TypeId) (v : Tree) → SaysPut (types table.now) depth tokens.old id v
+        → ReadsPut result id v × LeavesNone result tokens.new }
 {
     let at = tokens.offset();
     match tokens.next() {

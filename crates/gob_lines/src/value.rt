@@ -1,10 +1,14 @@
 //! A value of any type, read from the tokens of a line part by part: the functions call one another down the value.
 
-ghost use Rattle.std.specs.Prelude.{◌≡◌, ◌+◌, ◌<◌, ◌^◌, IfOk, IfSome, OnOk, Some, slice_get};
+ghost use Rattle.std.specs.Prelude.{◌≡◌, ◌≢◌, ◌+◌, ◌<◌, ◌≤◌, ◌^◌, List, length, IfErr, IfOk, IfSome, OnOk};
+ghost use Rattle.std.specs.Prelude.{None, Some, slice_get};
+ghost use Rattle.json.specs.Token.{Token};
 ghost use Rattle.serde_json.specs.Data.{array};
-ghost use Rattle.gob_value.specs.Tree.{Tree};
+ghost use Rattle.gob_value.specs.Tree.{Fields, Pairs, Tree, Trees};
 ghost use Rattle.gob_value.specs.View.{view, views, pair_views, field_views};
 ghost use Rattle.gob_json.specs.Json.{value_json, elements_json, pairs_json, fields_json, text_json};
+ghost use Rattle.gob_lines.specs.Complete.{AreFieldsReadable, ArePairsReadable, AreReadable, IsReadable};
+ghost use Rattle.gob_lines.specs.Complete.{PassesIt, ReadsIt};
 ghost use Rattle.gob_lines.specs.Reads.{Reads};
 
 use crate::fault::{Due, LineFault};
@@ -25,7 +29,9 @@ pub(crate) fn read_value<S: Shapes>(
     depth: u64,
     tokens: &mut Reader<'_>,
 ) -> Result<Value, LineFault>
-    ensures { IfOk result (λ v. Reads (value_json (S.table table.now) id (view v)) tokens.old tokens.new) }
+    ensures read { IfOk result (λ v. Reads (value_json (S.table table.now) id (view v)) tokens.old tokens.new) }
+    ensures whole { (v : Tree) (rest : List Token) → IsReadable (S.table table.now) id depth v
+        → Reads (value_json (S.table table.now) id v) tokens.old rest → ReadsIt view result tokens.new v rest }
 {
     let at = tokens.offset();
     if depth == 0 {
@@ -56,7 +62,8 @@ pub(crate) fn read_value<S: Shapes>(
 
 /// The value of these elements, where they are as many as are due. Their array stands at this offset.
 fn counted(alloc: Global, elements: Vec<Value>, due: u64, at: usize) -> Result<Value, LineFault>
-    ensures { IfOk result (λ v. view v ≡ Tree.many (views elements.items)) }
+    ensures value { IfOk result (λ v. view v ≡ Tree.many (views elements.items)) }
+    ensures none { IfErr result (λ _. length elements.items ≢ due) }
 {
     if elements.len() as u64 != due {
         return Err(LineFault::due(alloc, at, Due::Elements(due)));
@@ -73,8 +80,11 @@ fn read_elements<S: Shapes>(
     depth: u64,
     tokens: &mut Reader<'_>,
 ) -> Result<Vec<Value>, LineFault>
-    ensures { IfOk result (λ vs.
+    ensures read { IfOk result (λ vs.
         Reads (array (elements_json (S.table table.now) id (views vs.items))) tokens.old tokens.new) }
+    ensures whole { (vs : Trees) (rest : List Token) → AreReadable (S.table table.now) id depth vs
+        → Reads (array (elements_json (S.table table.now) id vs)) tokens.old rest
+        → ReadsIt (λ read. views read.items) result tokens.new vs rest }
 {
     take_array(alloc, tokens)?;
     let mut elements = Vec::new(alloc);
@@ -98,8 +108,11 @@ fn read_pairs<S: Shapes>(
     depth: u64,
     tokens: &mut Reader<'_>,
 ) -> Result<Vec<(Value, Value)>, LineFault>
-    ensures { IfOk result (λ ps.
+    ensures read { IfOk result (λ ps.
         Reads (array (pairs_json (S.table table.now) key_id id (pair_views ps.items))) tokens.old tokens.new) }
+    ensures whole { (ps : Pairs) (rest : List Token) → ArePairsReadable (S.table table.now) key_id id depth ps
+        → Reads (array (pairs_json (S.table table.now) key_id id ps)) tokens.old rest
+        → ReadsIt (λ read. pair_views read.items) result tokens.new ps rest }
 {
     take_array(alloc, tokens)?;
     let mut pairs = Vec::new(alloc);
@@ -128,8 +141,11 @@ fn read_fields<S: Shapes>(
     depth: u64,
     tokens: &mut Reader<'_>,
 ) -> Result<Vec<(u64, Value)>, LineFault>
-    ensures { IfOk result (λ fs.
+    ensures read { IfOk result (λ fs.
         Reads (array (fields_json (S.table table.now) types.now (field_views fs.items))) tokens.old tokens.new) }
+    ensures whole { (fs : Fields) (rest : List Token) → AreFieldsReadable (S.table table.now) types.now 0 depth fs
+        → Reads (array (fields_json (S.table table.now) types.now fs)) tokens.old rest
+        → ReadsIt (λ read. field_views read.items) result tokens.new fs rest }
 {
     take_array(alloc, tokens)?;
     let mut fields = Vec::new(alloc);
@@ -156,6 +172,7 @@ fn read_fields<S: Shapes>(
 fn field_from(types: &[Field], next: u64, number: u64) -> Option<&Field>
     ensures found { IfSome result (λ field. slice_get types.now number ≡ Some field.now) }
     ensures small { IfSome result (λ _. number + 1 < 2 ^ 64) }
+    ensures lost { result ≡ None → next ≤ number → slice_get types.now number ≡ None }
 {
     if number < next {
         return None;
@@ -165,7 +182,9 @@ fn field_from(types: &[Field], next: u64, number: u64) -> Option<&Field>
 
 /// Takes the name of a field.
 fn take_name(alloc: Global, name: &[u8], tokens: &mut Reader<'_>) -> Result<(), LineFault>
-    ensures { OnOk result (Reads (text_json name.now) tokens.old tokens.new) }
+    ensures read { OnOk result (Reads (text_json name.now) tokens.old tokens.new) }
+    ensures whole { (rest : List Token) → Reads (text_json name.now) tokens.old rest
+        → PassesIt result tokens.new rest }
 {
     let at = tokens.offset();
     let found = read_text(alloc, tokens)?;

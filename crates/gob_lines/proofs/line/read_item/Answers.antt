@@ -1,16 +1,20 @@
-use Rattle.std.proofs.Common.{codes, rules}
+use Rattle.std.proofs.Common.{[], ◌∷◌, ◌∙◌, ap, arith, codes, rules, subst, sym}
 use Rattle.std.specs.Prelude.{decimal}
 use Rattle.json.specs.Token.{Token}
 use Rattle.json.specs.Tree.{json_tokens}
 use Rattle.serde_json.specs.Written.{outline}
+use Rattle.gob_types.specs.declared.id.TypeId.{TypeId}
 use Rattle.gob_types.specs.Defined.{types}
+use Rattle.gob_types.specs.Ready.{IsReady}
 use Rattle.gob_value.specs.View.{view}
 use Rattle.gob_json.specs.Json.{value_json}
+use Rattle.gob_lines.proofs.PutLaws.{fault_puts, put_front}
 use Rattle.gob_lines.proofs.ReadLaws.{two_members}
+use Rattle.gob_lines.proofs.UniqueLaws.{behind}
 use Rattle.gob_lines.proofs.line.read_item.Goals as goal
 
-pub returns-in_ok-take_object_end-in-Some-Key-type : goal.returns-in_ok-take_object_end-in-Some-Key-type
-returns-in_ok-take_object_end-in-Some-Key-type c =
+pub returns-in_ok-take_object_end-in-Some-Key-type-clause-tells : goal.returns-in_ok-take_object_end-in-Some-Key-type-clause-tells
+returns-in_ok-take_object_end-in-Some-Key-type-clause-tells c =
     let object = rw c.in-Some-BeginObject.field-0-is at c.in-Some-BeginObject.ensures.value in
     let key = rw c.in-Some-Key-type.field-0-is at c.in-Some-Key-type.ensures.value in
     let named = rw c.in-Some-Key-type.is-type at key in
@@ -20,5 +24,62 @@ returns-in_ok-take_object_end-in-Some-Key-type c =
       two_members (codes "type") (codes "value") (Token.number (decimal id)) (json_tokens (outline value))
           _ _ _ _ _ _ _ object named c.in_ok-read_uint-in-Some-Key-type.ensures.ok
           c.in_ok-take_key-in-Some-Key-type.ensures.ok
-          c.in_ok-value-in-Some-Key-type.ensures c.in_ok-take_object_end-in-Some-Key-type.ensures.ok,
+          c.in_ok-value-in-Some-Key-type.ensures.read c.in_ok-take_object_end-in-Some-Key-type.ensures.ok,
+    )
+
+pub returns-then-not-kept-clause-whole : goal.returns-then-not-kept-clause-whole
+returns-then-not-kept-clause-whole c = λ id v says.
+    let object = rw c.in-Some-BeginObject.field-0-is at c.in-Some-BeginObject.ensures.value in
+    let key = rw c.in-Some-Key-type.field-0-is at c.in-Some-Key-type.ensures.value in
+    let named = rw c.in-Some-Key-type.is-type at key in
+    let n = c.in_ok-read_uint-in-Some-Key-type.field-0 in
+    let stands = put_front n says object named c.in_ok-read_uint-in-Some-Key-type.ensures.fits
+    c.in_ok-read_uint-in-Some-Key-type.ensures.ok in
+    let ready = subst (λ (t : TypeId). IsReady (types c.args.table.now) t) (sym stands.same) says.ready in
+    let kept = c.kept.ensures.1 ready in
+    let lost = c.if-not-kept.true in
+    grind (arith, kept, lost)
+
+pub returns-in_err-value-in-Some-Key-type-clause-whole : goal.returns-in_err-value-in-Some-Key-type-clause-whole
+returns-in_err-value-in-Some-Key-type-clause-whole c = λ id v says.
+    let object = rw c.in-Some-BeginObject.field-0-is at c.in-Some-BeginObject.ensures.value in
+    let key = rw c.in-Some-Key-type.field-0-is at c.in-Some-Key-type.ensures.value in
+    let named = rw c.in-Some-Key-type.is-type at key in
+    let n = c.in_ok-read_uint-in-Some-Key-type.field-0 in
+    let stands = put_front n says object named c.in_ok-read_uint-in-Some-Key-type.ensures.fits
+    c.in_ok-read_uint-in-Some-Key-type.ensures.ok in
+    let there = ap behind (sym c.in_ok-take_key-in-Some-Key-type.ensures.ok ∙ stands.stand) in
+    fault_puts c.from_residual-in_err-value-in-Some-Key-type.result c.in_err-value-in-Some-Key-type.field-0.0 id v
+    c.read_value.new.tokens c.from_residual-in_err-value-in-Some-Key-type.ensures.1
+    (c.in_err-value-in-Some-Key-type.ensures.whole v (Token.end_object ∷ []) stands.readable there)
+
+pub returns-in_err-take_object_end-in-Some-Key-type-clause-whole :
+    goal.returns-in_err-take_object_end-in-Some-Key-type-clause-whole
+returns-in_err-take_object_end-in-Some-Key-type-clause-whole c = λ id v says.
+    let object = rw c.in-Some-BeginObject.field-0-is at c.in-Some-BeginObject.ensures.value in
+    let key = rw c.in-Some-Key-type.field-0-is at c.in-Some-Key-type.ensures.value in
+    let named = rw c.in-Some-Key-type.is-type at key in
+    let n = c.in_ok-read_uint-in-Some-Key-type.field-0 in
+    let stands = put_front n says object named c.in_ok-read_uint-in-Some-Key-type.ensures.fits
+    c.in_ok-read_uint-in-Some-Key-type.ensures.ok in
+    let there = ap behind (sym c.in_ok-take_key-in-Some-Key-type.ensures.ok ∙ stands.stand) in
+    let value = c.in_ok-value-in-Some-Key-type.ensures.whole v (Token.end_object ∷ []) stands.readable there in
+    fault_puts c.from_residual-in_err-take_object_end-in-Some-Key-type.result
+    c.in_err-take_object_end-in-Some-Key-type.field-0.0 id v c.take_object_end.new.tokens
+    c.from_residual-in_err-take_object_end-in-Some-Key-type.ensures.1
+    (λ w. c.in_err-take_object_end-in-Some-Key-type.ensures.none w [] value.1)
+
+pub returns-in_ok-take_object_end-in-Some-Key-type-clause-whole :
+    goal.returns-in_ok-take_object_end-in-Some-Key-type-clause-whole
+returns-in_ok-take_object_end-in-Some-Key-type-clause-whole c = λ id v says.
+    let object = rw c.in-Some-BeginObject.field-0-is at c.in-Some-BeginObject.ensures.value in
+    let key = rw c.in-Some-Key-type.field-0-is at c.in-Some-Key-type.ensures.value in
+    let named = rw c.in-Some-Key-type.is-type at key in
+    let n = c.in_ok-read_uint-in-Some-Key-type.field-0 in
+    let stands = put_front n says object named c.in_ok-read_uint-in-Some-Key-type.ensures.fits
+    c.in_ok-read_uint-in-Some-Key-type.ensures.ok in
+    let there = ap behind (sym c.in_ok-take_key-in-Some-Key-type.ensures.ok ∙ stands.stand) in
+    let value = c.in_ok-value-in-Some-Key-type.ensures.whole v (Token.end_object ∷ []) stands.readable there in (
+      (stands.same, value.0),
+      ap behind (sym c.in_ok-take_object_end-in-Some-Key-type.ensures.ok ∙ value.1),
     )
