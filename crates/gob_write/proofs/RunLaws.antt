@@ -3,6 +3,7 @@ use Rattle.std.proofs.Common.{◌≡◌, ◌≢◌, ℕ, ◌+◌, ◌≤◌, Lis
 use Rattle.std.proofs.Common.{Err, refl, sym, ap, subst, ◌∙◌, inl, inr, length-append}
 use Rattle.std.specs.Prelude.{IsErrAnd}
 use Rattle.std.specs.Io.KnownBytes.{Appends, Keeps}
+use Rattle.std.specs.Str.{IsUtf8}
 use Rattle.std.proofs.KnownBytes.{Appends-nil, Appends-trans, Appends-kept, Keeps-refl, Keeps-trans}
 use Rattle.gob_types.specs.Base.{base_table}
 use Rattle.gob_types.specs.Table.{Table}
@@ -14,9 +15,9 @@ use Rattle.gob_stream.specs.declared.waiting.Waiting.{Waiting}
 use Rattle.gob_write.specs.Faults.{CountsReads, IsNoRead}
 use Rattle.gob_write.specs.Lines.{AreLines, no_line, one_more, first_line, behind_line, IsLeft, NextLine, Waits}
 use Rattle.gob_write.specs.Says.{HasWrittenLines, WroteLine, wrote_nothing, wrote_said, LineAnswers, RefusesLine}
-use Rattle.gob_write.specs.Says.{WroteSome}
-use Rattle.gob_write.specs.Running.{SayStream, say_nothing, say_no_more, say_one_more, WroteLines, IsAll, IsNext}
-use Rattle.gob_write.specs.Running.{IsSome, IsLongNext, RefusesNext, CutsNext, WriteLinesAnswers}
+use Rattle.gob_write.specs.Says.{SaysNoValue, WroteSome}
+use Rattle.gob_write.specs.Running.{SayStream, say_nothing, say_no_more, say_one_more, WroteLines, IsAll}
+use Rattle.gob_write.specs.Running.{IsSome, IsLongNext, IsWrongNext, RefusesNext, CutsNext, WriteLinesAnswers}
 use Rattle.gob_write.specs.declared.fault.LinesFault.{LinesFault}
 use Rattle.gob_write.specs.declared.fault.LinesFault.TheVariants as fault
 use Rattle.gob_write.specs.declared.writer.LineWriter.{LineWriter}
@@ -214,8 +215,12 @@ stops_there : {L : Bounds} {most : ℕ} {w : LineWriter} (w' : LineWriter) {wait
     → h.rest ≢ [] → line ≡ first_line h.rest
     → LineAnswers L w' h.items h.out h.table line (n + 1) mid now' (Err f)
     → WriteLinesAnswers L most bytes old now' (Err f)
-stops_there w' now' (fault.Wrong m column path due) h some is answers =
-    so_far (IsNext m) (kept_sent now' answers.1 h) (some, answers.0 ∙ ap (λ k. k + 1) (sym h.count))
+stops_there {L = L} w' now' (fault.Wrong m column path due) h some is answers =
+    so_far (IsWrongNext L m) (kept_sent now' answers.2 h) (
+      some,
+      answers.0 ∙ ap (λ k. k + 1) (sym h.count),
+      subst (λ (l : List ℕ). IsUtf8 l → SaysNoValue L h.table (length h.out) l) is answers.1,
+    )
 stops_there {L = L} w' now' (fault.Refused m r) h some is answers =
     so_far (RefusesNext L m r) (kept_sent now' answers.2 h) (
       some,

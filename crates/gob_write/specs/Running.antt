@@ -1,6 +1,7 @@
 -- How the run ends that writes the stream of some lines. (docs/FORMAT.md, The JSON lines.)
 use Rattle.std.specs.Prelude.{◌≡◌, ◌⊎◌, ◌≢◌, ◌+◌, ◌<◌, ℕ, List, [], ◌∷◌, ◌++◌, length, Option, Result, Ok, Err}
 use Rattle.std.specs.Io.KnownBytes.{Appends, Keeps}
+use Rattle.std.specs.Str.{IsUtf8}
 use Rattle.json.specs.Lex.{tokens}
 use Rattle.gob_types.specs.Base.{base_table}
 use Rattle.gob_types.specs.declared.reason.Reason.{Reason}
@@ -9,7 +10,7 @@ use Rattle.gob_stream.specs.Bounds.{Bounds}
 use Rattle.gob_stream.specs.Item.{StreamItem}
 use Rattle.gob_stream.specs.Stream.{IsItem, Stream}
 use Rattle.gob_write.specs.Lines.{AreLines, first_line}
-use Rattle.gob_write.specs.Says.{SaysItem, RefusesLine, WroteSome}
+use Rattle.gob_write.specs.Says.{SaysItem, SaysNoValue, RefusesLine, WroteSome}
 use Rattle.gob_write.specs.declared.fault.LinesFault.{LinesFault}
 use Rattle.gob_write.specs.declared.fault.LinesFault.TheVariants as fault
 
@@ -38,11 +39,12 @@ pub record WroteLines (L : Bounds) (most : ℕ) (bytes : List ℕ) (old mid : Op
   pub sent : Appends old mid out
   pub holds : P (length lines) table out rest
 
--- the next line is the one of this number
-abbrev pub IsNext : ℕ → ℕ → Table → List ℕ → List ℕ → Type 0
-IsNext n count T out rest = (rest ≢ []) × (n ≡ count + 1)
+-- the next line is the one of this number, and it is no text, or says no value that goes on the stream
+abbrev pub IsWrongNext : Bounds → ℕ → ℕ → Table → List ℕ → List ℕ → Type 0
+IsWrongNext L n count T out rest = (rest ≢ []) × (n ≡ count + 1)
+    × (IsUtf8 (first_line rest) → SaysNoValue L T (length out) (first_line rest))
 
--- and no stream goes on with it for this reason
+-- or no stream goes on with it for this reason
 abbrev pub RefusesNext : Bounds → ℕ → Reason → ℕ → Table → List ℕ → List ℕ → Type 0
 RefusesNext L n r count T out rest = (rest ≢ []) × (n ≡ count + 1) × RefusesLine L T (length out) (first_line rest) r
 
@@ -66,7 +68,7 @@ abbrev pub WriteLinesAnswers : Bounds → (most : ℕ) → (bytes : List ℕ) �
     → Result (Unit {0}) LinesFault → Type 0
 WriteLinesAnswers L most bytes old new (Ok _) = WroteLines L most bytes old new IsAll
 WriteLinesAnswers L most bytes old new (Err (fault.Wrong n column path due)) =
-    WroteLines L most bytes old new (IsNext n)
+    WroteLines L most bytes old new (IsWrongNext L n)
 WriteLinesAnswers L most bytes old new (Err (fault.Refused n r)) =
     WroteLines L most bytes old new (RefusesNext L n r)
 WriteLinesAnswers L most bytes old new (Err (fault.TooLong n m)) =

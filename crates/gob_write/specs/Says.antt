@@ -1,12 +1,13 @@
 -- What a line says of a stream, and what a call answers that writes it. (docs/FORMAT.md, The JSON lines.)
 use Rattle.std.specs.Prelude.{◌≡◌, ◌<◌, ◌^◌, ℕ, List, [], ◌∷◌, ◌++◌, length, Option, Some, Result, Ok, Err}
 use Rattle.std.specs.Io.KnownBytes.{Appends, Keeps}
+use Rattle.std.specs.Str.{IsUtf8}
 use Rattle.json.specs.Lex.{tokens}
+use Rattle.gob_num.specs.Unsigned.{AreBytes}
 use Rattle.gob_types.specs.Base.{base_table}
 use Rattle.gob_types.specs.declared.id.TypeId.{TypeId}
 use Rattle.gob_types.specs.declared.kind.Shape.{Shape}
 use Rattle.gob_types.specs.declared.reason.Reason.{Reason}
-use Rattle.gob_types.specs.Defined.{types}
 use Rattle.gob_types.specs.Definable.{IsDefinable}
 use Rattle.gob_types.specs.Ready.{IsReady}
 use Rattle.gob_types.specs.Table.{Table}
@@ -49,13 +50,18 @@ pub data RefusesLine (L : Bounds) (T : Table) (offset : ℕ) (line : List ℕ) :
   refuses_type : (id : TypeId) {r : Reason} → TellsUnready T id (tokens line) → RefusesType T id r
       → RefusesLine L T offset line r
 
--- the writer has written these items under these limits, as these bytes, and reads lines by their types
+-- no value that the line says goes on a stream of these types at this offset
+abbrev pub SaysNoValue : Bounds → Table → (offset : ℕ) → (line : List ℕ) → Type 0
+SaysNoValue L T offset line = (id : TypeId) (v : Tree) (b : List ℕ) (U : Table) → AreBytes b
+    → SaysItem T line (puts id v) → IsItem base_table L T offset (puts id v) b U → ⊥
+
+-- the writer has written these items under these limits, as these bytes, and reads lines by their types, no deeper
+-- than a stream's values may be
 pub record HasWrittenLines (L : Bounds) (w : LineWriter) (items : List StreamItem) (bytes : List ℕ) (T : Table)
     : Type 0 where
   pub written : HasWritten w.writer items bytes T
   pub limits : w.writer.limits ≡ L
-  pub known : types w.types ≡ T
-  pub room : w.types.most ≡ L.types
+  pub depth : w.depth ≡ L.depth
 
 -- what the line says went out, and the writer stands behind it
 pub record WroteSaid (L : Bounds) (w' : LineWriter) (items : List StreamItem) (bytes : List ℕ) (T : Table)
@@ -95,7 +101,8 @@ WritesSaid L w' items bytes T line old new (Err writing.Failed) = ⊥
 abbrev pub LineAnswers : Bounds → LineWriter → List StreamItem → List ℕ → Table → (line : List ℕ)
     → (number : ℕ) → (old new : Option (List ℕ)) → Result (Unit {0}) LinesFault → Type 0
 LineAnswers L w' items bytes T line number old new (Ok _) = WroteLine L w' items bytes T line old new
-LineAnswers L w' items bytes T line number old new (Err (fault.Wrong n column path due)) = (n ≡ number) × Keeps old new
+LineAnswers L w' items bytes T line number old new (Err (fault.Wrong n column path due)) = (n ≡ number)
+    × (IsUtf8 line → SaysNoValue L T (length bytes) line) × Keeps old new
 LineAnswers L w' items bytes T line number old new (Err (fault.Refused n r)) = (n ≡ number)
     × RefusesLine L T (length bytes) line r × Keeps old new
 LineAnswers L w' items bytes T line number old new (Err (fault.TooLong n m)) = ⊥

@@ -1,17 +1,20 @@
 //! A writer of the stream that lines say.
 
-ghost use Rattle.std.specs.Prelude.{◌≡◌, ℕ, List, [], Option, Some, IfOk};
+ghost use Rattle.std.specs.Prelude.{◌≡◌, ℕ, List, [], Option, Some, IfErr, IfOk};
+ghost use Rattle.std.specs.Str.{IsUtf8};
 ghost use Rattle.json.specs.Lex.{tokens};
 ghost use Rattle.gob_types.specs.Base.{base_table};
 ghost use Rattle.gob_types.specs.Definable.{IsDefinable};
-ghost use Rattle.gob_types.specs.Defined.{types};
+ghost use Rattle.gob_types.specs.declared.id.TypeId.{TypeId};
+ghost use Rattle.gob_value.specs.Tree.{Tree};
 ghost use Rattle.gob_types.specs.Table as known;
 ghost use Rattle.gob_json.specs.DefinitionJson.{definition_json};
 ghost use Rattle.gob_stream.specs.Bounds.{Bounds, within_trees};
 ghost use Rattle.gob_stream.specs.Item.{StreamItem};
 ghost use Rattle.gob_stream.specs.Calls.Ends.{failed_writes, writer_of};
-ghost use Rattle.gob_stream.specs.Calls.Writing.{CountsWriterFaults};
-ghost use Rattle.gob_lines.specs.Reads.{Reads};
+ghost use Rattle.gob_stream.specs.Calls.Writing.{CountsWriterFaults, writer_types};
+ghost use Rattle.gob_lines.specs.Complete.{SaysPut};
+ghost use Rattle.gob_lines.specs.Reads.{IsWrong, Reads};
 ghost use Rattle.gob_lines.specs.Tells.{Tells};
 ghost use Rattle.gob_write.specs.Faults.{CountsWrites, IsNoRead};
 ghost use Rattle.gob_write.specs.Says.{HasDefinableShape, HasWrittenLines, LineAnswers, WritesSaid};
@@ -20,8 +23,8 @@ ghost use Rattle.gob_write.specs.declared.writer.LineWriter.{LineWriter};
 use crate::fault::LinesFault;
 use gob_lines::{Line, LineFault, read_line};
 use gob_num::Memory;
-use gob_stream::{Limits, Output, StreamWriter, WriteFault, define_admitted, judge_id, judge_type};
-use gob_types::{Shape, Table, TypeId};
+use gob_stream::{Limits, Output, StreamWriter, WriteFault, judge_id, judge_type};
+use gob_types::{Shape, TypeId};
 use gob_value::describe;
 use json::Scratch;
 use std::alloc::Global;
@@ -30,8 +33,7 @@ use std::str;
 
 /// A writer of the stream that lines say, from its first line on.
 pub(crate) struct LineWriter {
-    // The types of the stream so far, by which a line is read.
-    types: Table,
+    // Its types are those by which a line is read.
     writer: StreamWriter,
     scratch: Scratch,
     depth: u64,
@@ -41,7 +43,6 @@ pub(crate) struct LineWriter {
 impl Drop for LineWriter {
     fn drop(self) {
         let LineWriter {
-            types: _,
             writer: _,
             scratch: _,
             depth: _,
@@ -56,7 +57,6 @@ impl LineWriter {
     {
         let limits = limits.up_to(Limits::GREATEST_DEPTH);
         Ok(LineWriter {
-            types: Table::new(alloc, limits.types())?,
             writer: StreamWriter::new(alloc, limits)?,
             scratch: Scratch::new(alloc),
             depth: limits.depth(),
@@ -87,12 +87,20 @@ impl LineWriter {
 
     // What the line says.
     fn said(&mut self, alloc: Global, line: &[u8]) -> Result<Line, LineFault>
-        ensures said { IfOk result (λ said. Tells (types self.old.types) line.now said) }
+        ensures said { IfOk result (λ said. Tells (writer_types self.old.writer) line.now said) }
+        ensures none { IfErr result (λ fault. IsWrong fault → IsUtf8 line.now → (id : TypeId) (v : Tree)
+            → SaysPut (writer_types self.old.writer) self.old.depth (tokens line.now) id v → ⊥) }
         ensures writer { self.new.writer ≡ self.old.writer }
-        ensures types { self.new.types ≡ self.old.types }
+        ensures depth { self.new.depth ≡ self.old.depth }
     {
         match str::from_utf8(line) {
-            Ok(text) => read_line(alloc, &self.types, self.depth, text, &mut self.scratch),
+            Ok(text) => read_line(
+                alloc,
+                self.writer.table(),
+                self.depth,
+                text,
+                &mut self.scratch,
+            ),
             Err(error) => Err(LineFault::no_text(alloc, error.valid_up_to())),
         }
     }
@@ -115,7 +123,7 @@ impl LineWriter {
             Line::Empty => Ok(()),
             Line::Define { id, shape } => self.define(alloc, id, shape, output),
             Line::Put { id, value } => self.writer.put(alloc, output, id, &value),
-            Line::Unready { id } => match judge_type(alloc, &self.types, id) {
+            Line::Unready { id } => match judge_type(alloc, self.writer.table(), id) {
                 Err(denial) => Err(denial.into()),
                 // The type isn't ready, so it is refused.
                 Ok(()) => Err(WriteFault::Failed),
@@ -139,11 +147,10 @@ impl LineWriter {
             (W.contents (writer_of output.old)) (W.contents (writer_of output.new)) result }
         ensures counted { CountsWriterFaults (failed_writes output.old) (failed_writes output.new) result }
     {
-        if let Err(reason) = judge_id(&self.types, id) {
+        if let Err(reason) = judge_id(self.writer.table(), id) {
             return Err(WriteFault::Refused(reason));
         }
         let described = describe(alloc, id, &shape)?;
-        define_admitted(alloc, &mut self.types, id, shape)?;
         self.writer.define(alloc, output, id, &described)
     }
 }

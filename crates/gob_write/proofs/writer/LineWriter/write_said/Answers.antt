@@ -1,4 +1,5 @@
-use Rattle.std.proofs.Common.{refl}
+use Rattle.std.proofs.Common.{◌∙◌, ap, refl}
+use Rattle.gob_types.specs.Defined.{types}
 use Rattle.gob_stream.specs.Bounds.{within_trees}
 use Rattle.gob_value.specs.View.{view}
 use Rattle.gob_write.specs.Says.{says_value}
@@ -17,12 +18,12 @@ returns-in-Put-clause-says g c = λ L line items bytes T h tells.
 pub returns-in-Err-clause-says : goal.returns-in-Err-clause-says
 returns-in-Err-clause-says g c = λ L line items bytes T h tells.
     let told = rw c.in-Unready.is at tells in
-    let judged = rw h.known at c.in-Err.ensures.judged in
+    let judged = rw (ap types c.table.ensures ∙ h.written.table) at c.in-Err.ensures.judged in
     rw c.into.ensures (unready_answers (within_trees L) c.args.self.now c.in-Err.denial c.in-Unready.id line items
     bytes T _ told judged)
 
 pub returns-in-Ok-clause-says : goal.returns-in-Ok-clause-says
 returns-in-Ok-clause-says g c = λ L line items bytes T h tells.
     let told = rw c.in-Unready.is at tells in
-    let judged = rw h.known at c.in-Ok.ensures.judged in
+    let judged = rw (ap types c.table.ensures ∙ h.written.table) at c.in-Ok.ensures.judged in
     told.unready judged.ready
