@@ -1,7 +1,10 @@
 -- How a run ends that says why a stream is refused.
-use Rattle.std.proofs.Common.{◌≡◌, ℕ, List, [], ◌++◌, Option, Result, Ok, Err, sym, subst, refl}
+use Rattle.std.proofs.Common.{◌≡◌, ◌∙◌, ℕ, List, [], ◌++◌, Option, Some, None, Result, Ok, Err, ap, sym, subst}
+use Rattle.std.proofs.Common.{refl}
+use Rattle.std.specs.Result.{IfOk}
 use Rattle.std.specs.Io.KnownBytes.{Appends, Keeps}
 use Rattle.std.proofs.KnownBytes.{Appends-kept, Appends-nil}
+use Rattle.gob_num.specs.declared.memory.Memory.{Memory}
 use Rattle.gob_stream.specs.Bounds.{Bounds, within_trees}
 use Rattle.gob_stream.specs.Calls.Writing.{SentPrefix}
 use Rattle.gob_stream.specs.declared.fault.Refusal.{Refusal}
@@ -12,8 +15,10 @@ use Rattle.gob_tool.specs.Showing.{AppendsPrefix}
 use Rattle.gob_tool.proofs.EndLaws.{all_kept, prefix_kept, sent_prefix}
 use Rattle.gob_tool.specs.CheckingGo.{IsCountedGoStream, IsNoGoStream}
 use Rattle.gob_why.proofs.ReadingLaws.{no_stream_under}
+use Rattle.gob_why.specs.Said.{AnswersSo, IsSaidOf, SaysOf}
 use Rattle.gob_why.specs.Why.{Heads, IsHeaded, IsRefusedSo, Says, Tells, WhyAnswers, of_refused, of_whole}
 use Rattle.gob_why.specs.Why.{refusal_line}
+use Rattle.gob_why.specs.declared.said.Said.{Said}
 
 -- ---- a text that begins with a line
 pub heads_as : {P Q : List ℕ → Type 0} {line : List ℕ} → Heads P line → ((text : List ℕ) → P text → Q text)
@@ -127,3 +132,35 @@ why_ended L bytes now old mid new answer result k (flush_fails o e) h =
   where
     cut : IsCountedGoStream L bytes now (Heads (Appends old mid)) → Says L bytes now (AppendsPrefix old new)
     cut c = of_whole (counted_as c (λ line h. heads_as h (λ text a. all_kept old mid new text a k)))
+
+-- ---- over an output that was empty, what is said
+headed_in : {line text old new : List ℕ} → old ≡ [] → text ≡ new → Heads (Appends (Some old) (Some new)) line
+    → IsHeaded line text
+headed_in empty is h = (h.headed.0, is ∙ h.holds ∙ ap (λ (l : List ℕ). l ++ h.text) empty ∙ h.headed.1)
+
+whole_said : (L : Bounds) (bytes text old new : List ℕ) (now : Option (List ℕ)) → old ≡ [] → text ≡ new
+    → IsCountedGoStream L bytes now (Heads (Appends (Some old) (Some new))) → SaysOf L bytes None text
+whole_said L bytes text old new now empty is c =
+    record { items = c.items; table = c.table; stream = c.stream; end = refl; holds = headed_in empty is c.holds }
+
+answer_said : (L : Bounds) (bytes text old new : List ℕ) (now : Option (List ℕ)) (refusal : Option Refusal)
+    (answer : Result (Unit {0}) ToolFault) → AnswersSo answer refusal → old ≡ [] → text ≡ new
+    → WhyAnswers L bytes now (Some old) (Some new) answer → SaysOf L bytes refusal text
+answer_said L bytes text old new now refusal (Ok u) so empty is h =
+    subst (λ q. SaysOf L bytes q text) (sym so) (whole_said L bytes text old new now empty is h)
+answer_said L bytes text old new now refusal (Err (fault.Refused R)) so empty is h =
+    subst (λ q. SaysOf L bytes q text) (sym so) (h.0, headed_in empty is h.1)
+answer_said L bytes text old new now refusal (Err fault.Write) so empty is h = absurd so
+answer_said L bytes text old new now refusal (Err fault.Memory) so empty is h = absurd so
+answer_said L bytes text old new now refusal (Err fault.Read) so empty is h = absurd so
+answer_said L bytes text old new now refusal (Err (fault.Wanted R)) so empty is h = absurd so
+answer_said L bytes text old new now refusal (Err fault.NoWantedType) so empty is h = absurd so
+answer_said L bytes text old new now refusal (Err (fault.Clash path reason)) so empty is h = absurd so
+
+pub said_from : (L : Bounds) (bytes text old new : List ℕ) (now : Option (List ℕ))
+    (answer : Result (Unit {0}) ToolFault) (made : Result Said Memory) → IfOk made (λ s. AnswersSo answer s.refusal)
+    → IfOk made (λ s. s.text.items ≡ text) → old ≡ [] → text ≡ new
+    → WhyAnswers L bytes now (Some old) (Some new) answer → IfOk made (IsSaidOf L bytes)
+said_from L bytes text old new now answer (Ok s) so is empty out h =
+    answer_said L bytes s.text.items old new now s.refusal answer so empty (is ∙ out) h
+said_from L bytes text old new now answer (Err e) so is empty out h = tt

@@ -1,3 +1,4 @@
 pub mod Why
 pub mod Explain
 pub mod Machine
+pub mod Said

@@ -13,6 +13,8 @@
 //!
 //! A cause is looked for in the bytes, and said where they show it; where they show none, the usual one is said.
 //!
+//! [`why_of`] says so of bytes in memory.
+//!
 //! [`run_explain`] prints the bytes themselves, row by row, each with what it is, up to the refused ones.
 #![tactic(auto)]
 
@@ -22,6 +24,7 @@ mod due;
 mod explain;
 mod explained;
 mod front_cause;
+mod in_memory;
 mod item_cause;
 mod kept;
 mod length;
@@ -31,6 +34,7 @@ mod reading;
 mod refused;
 mod report;
 mod run;
+mod said;
 mod scene;
 mod sending;
 mod sentence;
@@ -40,4 +44,6 @@ mod words;
 
 pub use explain::run_explain;
 pub use explained::Explained;
+pub use in_memory::why_of;
 pub use run::run_why;
+pub use said::Said;
