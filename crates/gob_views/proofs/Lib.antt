@@ -4,3 +4,4 @@ pub mod TakenLaws
 pub mod SendLaws
 pub mod VerifyLaws
 pub mod TypeRuns
+pub mod InMemoryLaws

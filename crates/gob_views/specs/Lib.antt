@@ -5,3 +5,4 @@ pub mod Types
 pub mod Running
 pub mod Gathering
 pub mod Machine
+pub mod InMemory

@@ -12,11 +12,12 @@
 //! a.gob: ok: 2 items, 1 types, 40 bytes   tell_file: a line for a file
 //! ```
 //!
-//! [`run_view`] is the run of any of these, and of `gob why`, `gob explain` and `gob salvage`, which are those of
+//! [`types_of`] makes the source of bytes in memory. [`run_view`] is the run of any of these, and of `gob why`, `gob explain` and `gob salvage`, which are those of
 //! `gob_why` and `gob_salvage`.
 #![tactic(auto)]
 
 mod gathered;
+mod in_memory;
 mod run;
 mod types;
 mod value_line;
@@ -24,6 +25,7 @@ mod values;
 mod verify;
 
 pub use gob_plain::Style;
+pub use in_memory::types_of;
 pub use run::{limits_of, run_view};
 pub use types::{SourceForm, run_types};
 pub use value_line::ValueLines;
