@@ -297,7 +297,7 @@ void gob_check_close(gob_checker *checker) {
     free(checker);
 }
 
-/* ---- the rest */
+/* ---- a check of bytes in memory */
 
 static gob_status checked(const void *bytes, size_t count, struct raw_asked asked, gob_counts *counts,
                           gob_fault *fault) {
@@ -318,6 +318,44 @@ gob_status gob_check_exact(const void *bytes, size_t count, const gob_limits *li
                            gob_fault *fault) {
     return checked(bytes, count, asked_of(limits, true), counts, fault);
 }
+
+/* ---- texts */
+
+/* The room that the archive is given of a caller's: all of it but the byte for the 0. */
+static unsigned char *room_of(char *out, size_t size) { return size != 0 ? (unsigned char *)out : &nowhere; }
+
+static size_t room_for(size_t size) { return size != 0 ? size - 1 : 0; }
+
+/* Ends the text that was put into the room, and answers how long it is as a whole, or why there is none. */
+static int64_t texted(struct raw_text told, char *out, size_t size) {
+    if (size != 0) out[told.length < size ? told.length : size - 1] = 0;
+    return told.status == GOB_OK ? (int64_t)told.length : -(int64_t)told.status;
+}
+
+static bool is_misused(const void *bytes, size_t count, const char *out, size_t size) {
+    return (bytes == NULL && count != 0) || (out == NULL && size != 0);
+}
+
+int64_t gob_why_text(const void *bytes, size_t count, const gob_limits *limits, const char *name, char *out,
+                     size_t size) {
+    struct raw_text told;
+    struct raw_asked asked = asked_of(limits, false);
+    if (is_misused(bytes, count, out, size)) return -GOB_MISUSED;
+    size_t length = name != NULL ? strlen(name) : 0;
+    gob_raw_why_text(some_bytes(bytes, count), count, &asked, some_bytes(name, length), length, room_of(out, size),
+                     room_for(size), &told);
+    return texted(told, out, size);
+}
+
+int64_t gob_types_text(const void *bytes, size_t count, const gob_limits *limits, char *out, size_t size) {
+    struct raw_text told;
+    struct raw_asked asked = asked_of(limits, false);
+    if (is_misused(bytes, count, out, size)) return -GOB_MISUSED;
+    gob_raw_types_text(some_bytes(bytes, count), count, &asked, room_of(out, size), room_for(size), &told);
+    return texted(told, out, size);
+}
+
+/* ---- the rest */
 
 uint32_t gob_abi(void) { return GOB_ABI; }
 

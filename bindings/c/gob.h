@@ -391,6 +391,26 @@ GOB_API gob_status gob_check_finish(gob_checker *checker, gob_counts *counts, go
 /* Lets the check go. NULL is let pass. */
 GOB_API void gob_check_close(gob_checker *checker);
 
+/* ---- Texts */
+
+/* What `gob why` says of a stream that is held in memory: of a refused one the line of its refusal, and in words where
+ * and why it is refused and what is behind it; of a whole one how much is in it, and how many values of each type. Each
+ * line of a refusal behind the first begins with a word and a colon: what, where, expected, found, cause, next. The last
+ * is for people with a shell: it names commands of the program, for the file of this name, which is in UTF-8. `name`
+ * may be NULL; then IN stands there.
+ *
+ * As snprintf does, this writes no more than `size` bytes, the last of which is 0, and answers how many bytes the whole
+ * text has without that: where they aren't fewer than `size`, the text was cut. `out` may be NULL where `size` is 0.
+ * It is UTF-8, without a 0 and without control characters but line feeds and tabs. The answer is below 0 where there is
+ * no text: -GOB_NO_MEMORY, -GOB_BAD_LIMITS or -GOB_MISUSED. `bytes` may be NULL where there are none, and `limits` for
+ * the standard ones; no value may be deeper than 1000. */
+GOB_API int64_t gob_why_text(const void *bytes, size_t count, const gob_limits *limits, const char *name, char *out,
+                             size_t size);
+
+/* So it gives what `gob types` prints: the types that a stream defines as Go source, each with the names under which it
+ * fills interfaces; of a refused stream those of the items before. */
+GOB_API int64_t gob_types_text(const void *bytes, size_t count, const gob_limits *limits, char *out, size_t size);
+
 #ifdef __cplusplus
 }
 #endif

@@ -36,6 +36,18 @@ void gob_raw_check_feed(void **counter, const unsigned char *piece, size_t count
 void gob_raw_check_finish(void **counter, gob_counts *counts, gob_fault *told);
 void gob_raw_check_close(void *counter);
 
+/* What is told of a text, as much of which stands in the room as there is room for: how that ended, and how long it is.
+ * A name without bytes is none. */
+struct raw_text {
+    uint32_t status;
+    uint64_t length;
+};
+void gob_raw_why_text(const unsigned char *bytes, size_t count, const struct raw_asked *asked,
+                      const unsigned char *name, size_t name_count, unsigned char *room, size_t size,
+                      struct raw_text *told);
+void gob_raw_types_text(const unsigned char *bytes, size_t count, const struct raw_asked *asked, unsigned char *room,
+                        size_t size, struct raw_text *told);
+
 /* What the archive asks of its caller: memory. A block that isn't had is told by `ok`, and its pointer isn't NULL. */
 struct raw_block {
     bool ok;

@@ -196,3 +196,51 @@ void gob_raw_check(const unsigned char *bytes, size_t count, const struct raw_as
     if (told->status == GOB_OK) gob_raw_check_finish(&counter, counts, told);
     gob_raw_check_close(counter);
 }
+
+/* Copies bytes into the block; false where there is no memory for them. */
+static bool lent(sandbox *box, block *to, const unsigned char *bytes, size_t count) {
+    if (room_in(box, to, count) < count) return false;
+    put(box, to->at, bytes, count);
+    return true;
+}
+
+/* Begins a text about these bytes, where there is memory for them and for the text; NULL else. What is asked stands
+ * where pieces do then. */
+static sandbox *about(const unsigned char *bytes, size_t count, const struct raw_asked *asked, size_t size) {
+    sandbox *box = begun();
+    if (box == NULL) return NULL;
+    put(box, box->piece, asked, sizeof *asked);
+    if (lent(box, &box->bytes, bytes, count) && room_in(box, &box->heads, size) == size) return box;
+    end(box);
+    return NULL;
+}
+
+/* Copies out the text and what is told of it, and ends. */
+static void say(sandbox *box, unsigned char *room, size_t size, struct raw_text *told) {
+    hear(box, told, sizeof *told);
+    get(box, room, size, box->heads.at, at_most(told->length, size));
+    end(box);
+}
+
+void gob_raw_why_text(const unsigned char *bytes, size_t count, const struct raw_asked *asked,
+                      const unsigned char *name, size_t name_count, unsigned char *room, size_t size,
+                      struct raw_text *told) {
+    sandbox *box = about(bytes, count, asked, size);
+    *told = (struct raw_text){.status = GOB_NO_MEMORY};
+    if (box != NULL && lent(box, &box->nodes, name, name_count)) {
+        code_gob_raw_why_text(&box->wasm, box->bytes.at, count, box->piece, box->nodes.at, name_count, box->heads.at,
+                              size, box->told);
+        say(box, room, size, told);
+        return;
+    }
+    end(box);
+}
+
+void gob_raw_types_text(const unsigned char *bytes, size_t count, const struct raw_asked *asked, unsigned char *room,
+                        size_t size, struct raw_text *told) {
+    sandbox *box = about(bytes, count, asked, size);
+    *told = (struct raw_text){.status = GOB_NO_MEMORY};
+    if (box == NULL) return;
+    code_gob_raw_types_text(&box->wasm, box->bytes.at, count, box->piece, box->heads.at, size, box->told);
+    say(box, room, size, told);
+}

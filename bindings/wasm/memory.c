@@ -90,6 +90,12 @@ void *memcpy(void *to, const void *from, size_t count) { return __builtin_memcpy
 void *memmove(void *to, const void *from, size_t count) { return __builtin_memmove(to, from, count); }
 void *memset(void *to, int byte, size_t count) { return __builtin_memset(to, byte, count); }
 
+size_t strlen(const char *text) {
+    size_t count = 0;
+    while (text[count] != 0) count++;
+    return count;
+}
+
 /* 128 bits times 128 bits, which LLVM calls where it multiplies. It knows such code as a product of 128 bits, for which
  * it would call this again: so it must not look. */
 typedef unsigned __int128 uint128_t;
@@ -110,4 +116,29 @@ __attribute__((optnone)) uint128_t __multi3(uint128_t a, uint128_t b) {
     product.half[0] = one.half[0] * other.half[0];
     product.half[1] = high_of(one.half[0], other.half[0]) + one.half[0] * other.half[1] + one.half[1] * other.half[0];
     return product.whole;
+}
+
+/* Shifts of 128 bits by fewer, which LLVM calls where it shifts, likewise. */
+__attribute__((optnone)) uint128_t __ashlti3(uint128_t number, int by) {
+    union halves all = {number}, shifted = {number};
+    if (by >= 64) {
+        shifted.half[0] = 0;
+        shifted.half[1] = all.half[0] << (by - 64);
+    } else if (by > 0) {
+        shifted.half[0] = all.half[0] << by;
+        shifted.half[1] = all.half[1] << by | all.half[0] >> (64 - by);
+    }
+    return shifted.whole;
+}
+
+__attribute__((optnone)) uint128_t __lshrti3(uint128_t number, int by) {
+    union halves all = {number}, shifted = {number};
+    if (by >= 64) {
+        shifted.half[0] = all.half[1] >> (by - 64);
+        shifted.half[1] = 0;
+    } else if (by > 0) {
+        shifted.half[0] = all.half[0] >> by | all.half[1] << (64 - by);
+        shifted.half[1] = all.half[1] >> by;
+    }
+    return shifted.whole;
 }

@@ -2,3 +2,4 @@ pub mod AsBox
 pub mod AsCounterBox
 pub mod CountsLaws
 pub mod HeldLaws
+pub mod TextLaws

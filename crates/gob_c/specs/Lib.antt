@@ -4,3 +4,4 @@ pub mod Held
 pub mod Asked
 pub mod Told
 pub mod Calls
+pub mod Texts

@@ -3,7 +3,7 @@
 //!
 //! A reader stands behind a pointer that C keeps, its [`Handle`]. Each call is lent the handle, takes the reader out of
 //! it, and leaves there the one that it tells of. The counter of a check in pieces stands so behind a handle of its
-//! own.
+//! own. What is said of a stream is text, put into room that C gives.
 #![tactic(auto)]
 
 ghost use Rattle.std.specs.Prelude.{◌≡◌, IfSome, IsSome};
@@ -19,6 +19,7 @@ mod handle;
 mod in_pieces;
 mod limits;
 mod parts;
+mod texts;
 mod told;
 
 use check::check;

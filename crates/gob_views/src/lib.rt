@@ -12,8 +12,8 @@
 //! a.gob: ok: 2 items, 1 types, 40 bytes   tell_file: a line for a file
 //! ```
 //!
-//! [`types_of`] makes the source of bytes in memory. [`run_view`] is the run of any of these, and of `gob why`, `gob explain` and `gob salvage`, which are those of
-//! `gob_why` and `gob_salvage`.
+//! [`types_of`] makes the source of bytes in memory. [`run_view`] is the run of any of these, and of `gob why`,
+//! `gob explain` and `gob salvage`, which are those of `gob_why` and `gob_salvage`.
 #![tactic(auto)]
 
 mod gathered;
