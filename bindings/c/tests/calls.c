@@ -377,7 +377,47 @@ static void misused_checks_are_due(void) {
     gob_check_close(checker);
 }
 
+static const char source[] = "package types\n\n// type 65\ntype Point struct {\n\tX int\n\tY int\n}\n";
+
+/* As snprintf does: so much as there is room for, a 0 behind it, and the length that is due. */
+static void texts_are_cut(void) {
+    char room[sizeof source];
+    const size_t due = sizeof source - 1;
+    DUE(gob_types_text(point, sizeof point, NULL, NULL, 0) == (int64_t)due);
+    for (size_t size = 1; size <= sizeof room; size++) {
+        memset(room, 'x', sizeof room);
+        DUE(gob_types_text(point, sizeof point, NULL, room, size) == (int64_t)due);
+        DUE(strlen(room) == size - 1 && memcmp(room, source, size - 1) == 0);
+        DUE(size == sizeof room || room[size] == 'x');
+    }
+}
+
+static void texts_are_due(void) {
+    char room[1000];
+    const char *whole = "ok: 2 items, 1 types, 40 bytes\n1 value of type 65, Point\n";
+    DUE(gob_why_text(point, sizeof point, NULL, NULL, room, sizeof room) == (int64_t)strlen(whole));
+    DUE(strcmp(room, whole) == 0);
+    DUE(gob_why_text(point, 36, NULL, "a b.gob", room, sizeof room) > 0);
+    DUE(strncmp(room, "refused 22 Ended at 36 seen 36\nwhat: The file ends within an item.\n", 67) == 0);
+    DUE(strstr(room, "\nwhere: item 1, Point.X: a value of type 65, Point, which begins at byte 32\n") != NULL);
+    DUE(gob_types_text(point, 36, NULL, room, sizeof room) == sizeof source - 1 && strcmp(room, source) == 0);
+    DUE(gob_why_text(NULL, 0, NULL, NULL, room, sizeof room) > 0);
+    DUE(strcmp(room, "ok: 0 items, 0 types, 0 bytes\n") == 0);
+    const gob_limits narrow = {30, 1000, 10000, 100}, none = {30, 0, 10000, 100};
+    DUE(gob_why_text(point, sizeof point, &narrow, "a b.gob", room, sizeof room) > 0);
+    DUE(strncmp(room, "refused 3 ItemTooLong at 0 seen 1\n", 34) == 0);
+    DUE(strstr(room, "\nnext: gob why --item 31 'a b.gob'\n") != NULL);
+    DUE(gob_why_text(point, sizeof point, &none, NULL, room, sizeof room) == -GOB_BAD_LIMITS && room[0] == 0);
+    DUE(gob_types_text(point, sizeof point, &none, NULL, 0) == -GOB_BAD_LIMITS);
+    DUE(gob_why_text(NULL, 1, NULL, NULL, room, sizeof room) == -GOB_MISUSED);
+    DUE(gob_types_text(NULL, 1, NULL, room, sizeof room) == -GOB_MISUSED);
+    DUE(gob_why_text(point, sizeof point, NULL, NULL, NULL, 1) == -GOB_MISUSED);
+    DUE(gob_types_text(point, sizeof point, NULL, NULL, 1) == -GOB_MISUSED);
+}
+
 int main(void) {
+    texts_are_cut();
+    texts_are_due();
     items_are_due();
     misuse_is_due();
     misused_checks_are_due();

@@ -6,7 +6,8 @@ import process from "node:process";
 import { check } from "./checking.js";
 import { Reading } from "./reading.js";
 import { Refused } from "./refused.js";
-import { PlainLines, ShowLines, Source, unquoted } from "./shared.js";
+import { PlainLines, ShowLines, unquoted } from "./shared.js";
+import { TellingItems } from "./telling.js";
 
 const USAGE = `gobstream values [FILE]   each value as plain JSON, a line each
 gobstream show [FILE]     each item as JSON, exactly
@@ -34,15 +35,14 @@ async function* linesText(source, Lines) {
 
 /** The types, also those before a fault. */
 async function* typesText(source) {
-    const reading = await Reading.open();
-    const text = () => new Source(reading.definitions, reading.base).text();
+    const telling = await TellingItems.open(source);
     try {
-        await reading.pass(source);
+        await telling.pass();
     } catch (error) {
-        if (error instanceof Refused) yield text();
+        if (error instanceof Refused) yield await telling.text();
         throw error;
     }
-    yield text();
+    yield await telling.text();
 }
 
 async function* checkText(source) {

@@ -119,7 +119,7 @@ export function lines(source: Source, options?: ReadOptions & { as?: "values" | 
 /** The types that a whole stream defines, by their ids, in its order; no values are made. It throws as `read` does. */
 export function types(source: Source, options?: ReadOptions): Promise<Map<number, GoType>>;
 
-/** These types as Go source, as `gob types` has it, but for registered names. It throws as `read` does. */
+/** These types as Go source, as `gob types` prints it. It throws as `read` does. */
 export function typesSource(source: Source, options?: ReadOptions): Promise<string>;
 
 /** What is in a whole stream: items, types, values and bytes; no values are made. It throws as `read` does. */

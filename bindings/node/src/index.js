@@ -3,7 +3,8 @@
 import { check } from "./checking.js";
 import { Reading } from "./reading.js";
 import { Refused } from "./refused.js";
-import { PlainLines, ShowLines, Source } from "./shared.js";
+import { PlainLines, ShowLines } from "./shared.js";
+import { TellingItems } from "./telling.js";
 import { Values } from "./values.js";
 
 export { known, Opaque, Pairs, Time } from "./values.js";
@@ -46,6 +47,7 @@ export async function types(source, options) {
 }
 
 export async function typesSource(source, options) {
-    const { definitions, base } = await Reading.through(source, options);
-    return new Source(definitions, base).text();
+    const telling = await TellingItems.open(source, options);
+    await telling.pass();
+    return telling.text();
 }

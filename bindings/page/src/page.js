@@ -140,28 +140,24 @@ function showFailure(error) {
     setState("failed");
 }
 
-/** Why the bytes are refused: where, what is due there, and what to do. */
+/** Why the bytes are refused: where, what is due there and what stands there, what is behind it, and what to do. */
 function showRefusal(refusal) {
-    const { begin, place, due, todo, line } = refusal;
+    const { said, place, line, isFirst } = refusal;
+    const parts = said === null ? { where: `byte ${place}` } : partsOf(said);
     const rows = [
-        ["Where", `byte ${place}${placeText(refusal)}`],
-        ["In", `${refusal.item || "an item"}, which begins at byte ${begin}`],
-        ["Expected", due],
-        ["What to do", todo],
+        ["Where", parts.where],
+        ["Expected", parts.expected],
+        ["Found", parts.found],
+        ["Cause", parts.cause],
+        ["What to do", said === null ? "The program gob says more of a file so large." : stepOf(parts, isFirst)],
         ["The program says", make("code", "", line)],
     ];
     const list = make("dl");
     for (const [term, text] of rows) {
-        if (term !== "In" || place > begin) list.append(make("dt", "", term), make("dd", "", text));
+        if (text !== undefined) list.append(make("dt", "", term), make("dd", "", text));
     }
     $("why").append(list, byteRows(refusal), make("p", "note", marksText(refusal)));
     $("refusal").hidden = false;
-}
-
-/** Where in an item a refused byte stands. */
-function placeText({ path, behind, item, place, begin }) {
-    if (item === "") return place === begin ? ", at the start of an item" : ", before the value of an item";
-    return (path && `, at ${path}`) + (behind && `, behind field ${behind}`);
 }
 
 function marksText({ bytes, from, place, seen }) {
@@ -171,7 +167,7 @@ function marksText({ bytes, from, place, seen }) {
 }
 
 function showTypes(told) {
-    $("source").textContent = told.source;
+    $("source").textContent = told.source ?? "The browser has no memory for them.";
     $("types").hidden = false;
 }
 
@@ -217,9 +213,9 @@ const SAVED = {
 };
 
 /** Offers to save what there is. */
-function offerSaving({ values, items, types, refusal }) {
+function offerSaving({ values, items, types, source, refusal }) {
     const isCut = refusal?.begin > 0;
-    const has = { values: values > 0, show: items > 0, types: types.size > 0, before: isCut, rest: isCut };
+    const has = { values: values > 0, show: items > 0, types: source !== null && types.size > 0, before: isCut, rest: isCut };
     const kinds = Object.keys(SAVED).filter((kind) => has[kind]);
     $("kind").replaceChildren(...kinds.map((kind) => new Option(SAVED[kind][0], kind)));
     $("saving").hidden = kinds.length === 0;

@@ -22,6 +22,8 @@ class Stream {
         this.values = 0;
         this.marks = [];
         this.definitions = []; // the items that have some
+        this.telling = new Telling();
+        this.tellingItems = []; // where they begin and end
         this.begin = { item: -1, definition: -1 }; // of the last of each
         this.end = file.size;
         this.stops = 0;
@@ -82,7 +84,7 @@ class Stream {
             if (begin !== this.begin.item) this.items++;
             this.begin.item = begin;
             if (batch.isDefinition(item)) this.keepDefinition(batch, item);
-            else this.values++;
+            else this.keepValue(batch, item);
         }
     }
 
@@ -94,37 +96,56 @@ class Stream {
 
     keepDefinition(batch, item) {
         const id = batch.id(item), begin = batch.begin(item);
-        this.types.set(id, typeOf(id, batch, batch.node(item), batch.nodes(item), batch.base(item)));
+        const type = typeOf(id, batch, batch.node(item), batch.nodes(item), batch.base(item));
+        this.types.set(id, type);
+        this.keepTelling(batch, item, type);
         if (begin !== this.begin.definition) this.definitions.push(this.file.slice(begin, batch.end(item)));
         this.begin.definition = begin;
     }
 
+    keepValue(batch, item) {
+        this.values++;
+        this.keepTelling(batch, item, null);
+    }
+
+    keepTelling(batch, item, type) {
+        if (!this.telling.has(batch, item, type)) return;
+        const begin = batch.begin(item), end = batch.end(item), last = this.tellingItems.at(-1);
+        // (a definition in a value has the place of the value's item)
+        if (begin <= last?.end) last.end = end;
+        else this.tellingItems.push({ begin, end });
+    }
+
     async told() {
-        const { fault, file, items, values, types, base } = this;
-        const all = new Map([...base, ...types]);
-        const told = { status: fault.status, size: file.size, end: this.end, items, values, types, all };
-        told.source = new Source(types, base).text();
-        if (fault.status === REFUSED) told.refusal = await this.refusal(fault, all);
+        const { fault, file, items, values, types } = this;
+        const told = { status: fault.status, size: file.size, end: this.end, items, values, types, all: this.all() };
+        told.source = await this.source();
+        if (fault.status === REFUSED) told.refusal = await this.refusal(fault);
         return told;
     }
 
-    /** A refusal for people: its line, its reason, where in the item it stands, and the bytes around it. */
-    async refusal(fault, all) {
+    /** The types as Go source; null where there is no memory for it. */
+    async source() {
+        const parts = new Blob(this.tellingItems.map(({ begin, end }) => this.file.slice(begin, end)));
+        const { exports } = await WebAssembly.instantiate(this.module, {});
+        return sourceOf(exports, new Uint8Array(await parts.arrayBuffer()));
+    }
+
+    /** A refusal for people: its line, its reason, what is said of it, and the bytes around it. */
+    async refusal(fault) {
         const from = Math.max(0, fault.place - (fault.place & 15) - 32);
-        const item = await this.bytes(fault.begin, fault.seen);
-        const other = this.items === 0 ? otherFile(await this.bytes(0, 8)) : "";
-        const walk = new Walk(item, fault.place - fault.begin, all, await Reader.open(this.module));
         return {
-            ...fault, line: lineOfFault(fault), todo: other || adviceOf(fault.reason),
+            ...fault, line: lineOfFault(fault), said: await this.said(fault), isFirst: this.items === 0,
             from, bytes: await this.bytes(from, Math.max(fault.place, fault.seen) + 40),
-            ...this.walked(fault, walk.found()),
         };
     }
 
-    walked({ reason }, found) {
-        // these are judged of a whole description, at its start
-        if (reason >= 18 && reason <= 21) found.due = "the description of one type, with its own number";
-        return found;
+    /** What `gob why` says of a refusal; null where it stands too far on for the page. It looks no further than the piece
+     * that shows it. */
+    async said({ seen }) {
+        if (seen > MOST_SAID) return null;
+        const { exports } = await WebAssembly.instantiate(this.module, {});
+        return whyOf(exports, await this.bytes(0, seen + PIECE));
     }
 
     /** Each batch behind a mark, with its values: their numbers in the stream and in the batch. */

@@ -2,8 +2,7 @@
 
 const BASIC = ["", "bool", "int", "uint", "float64", "[]byte", "string", "complex128", "interface{}"];
 const MARSHAL = ["", "gob", "binary", "text"];
-const METHOD = { gob: "GobEncode", binary: "MarshalBinary", text: "MarshalText" };
-const LIST = 9, MAP = 10, STRUCT = 11, OPAQUE = 12, ARRAY = 13, HELD = 15;
+const INTERFACE = 8, LIST = 9, MAP = 10, STRUCT = 11, OPAQUE = 12, ARRAY = 13, HELD = 15;
 
 /** The type that a definition gives: the node of the type itself, and those of the types that it names. */
 function typeOf(id, batch, node, count, base) {

@@ -100,23 +100,23 @@ def explained():
     inner = struct_type(66, b"S", [(b"Ok", 1), (b"List", 67)]) + slice_type(67, b"", 1)
     outer = map_type(65, b"Named", 6, 66) + inner
     bad = outer + value(65, b"\1" + raw(b"k") + b"\2\2\1\2\0")
-    yield bad, ['at ["k"].List[1]', "a value of type map[string]S", "0 or 1"]
-    yield outer + value(65, b"\1" + raw(b"k") + b"\1\1\2\0"), ['at ["k"], behind field Ok', "0 for none, 1 for List"]
-    yield outer + value(65, b"\1\5ab"), ["at {key 0}", "5 bytes in all: a text. 2 bytes came"]
-    yield outer + b"\x7f\xff\x82", ["the byte 0, as before each value", "cut off", "the file ends here",
+    yield bad, ["item 3, Named[0].List[1]: a value of type 65, Named", "a bool: 0 or 1", "02, at byte 79"]
+    yield outer + value(65, b"\1" + raw(b"k") + b"\1\1\2\0"), ["item 3, Named[0]: a value", "0 for the end of the struct, or how far on"]
+    yield outer + value(65, b"\1\5ab"), ["item 3, Named[0] key: a value", "a text: how many bytes it has", "the end of the item, at byte 77"]
+    yield outer + b"\x7f\xff\x82", ["the end of the input", "cut off", "the file ends here", "Get the whole file.",
                                      "What stands before this item is whole"]
     held = filling(b"main.S", 66, b"\2\2\1\2\0", True)
-    yield outer + value(8, held), ["at .List[1]", "a value of type interface{}", "0 or 1"]
-    yield outer + value(8, raw(b"main.S")), ["the type of what is held"]
+    yield outer + value(8, held), ["interface{}.(S).List[1]: a value of type 8", "a bool: 0 or 1"]
+    yield outer + value(8, raw(b"main.S")), ["item 3, interface{}: a value", "a type: the id of a defined one"]
     defined = struct_type(66, b"S", [(b"Ok", 1)])[1:]  # (behind its count, which is a byte)
     first = item(sint(8) + b"\0" + raw(b"main.S") + defined)
-    yield first + item(sint(66) + raw(b"\1\2\0")), ["at .Ok", "a value of type interface{}", "0 or 1"]
-    yield first + item(sint(66) + raw(b"\1\1\1\1\0")), ["behind field Ok", "0 for none"]
-    yield outer + value(65, b"\0\0"), ["the end of the item, since what it holds is complete"]
-    yield value(66, b"\0"), ["the id of a defined one", "The beginning of the stream may be missing"]
-    yield inner + inner, ["Two streams may stand one behind the other"]
-    yield named(2, 65, b"", b""), ["the definition of type 65", "the description of one type"]
-    yield b"\x1f\x8b\x08\0", ["gzip", "unpacked first"]
+    yield first + item(sint(66) + raw(b"\1\2\0")), ["item 0, interface{}.(S).Ok: a value", "a bool: 0 or 1", "Get the file once more."]
+    yield first + item(sint(66) + raw(b"\1\1\1\1\0")), ["item 0, interface{}.(S): a value", "0 for the end of the struct"]
+    yield outer + value(65, b"\0\0"), ["the end of the item"]
+    yield value(66, b"\0"), ["the id of a defined one", "The beginning of the stream is missing", "from its first byte on"]
+    yield inner + inner, ["Another encoder's stream begins with this item", "the rest from it on, and drop here"]
+    yield named(2, 65, b"", b""), ["the definition of type 65"]
+    yield b"\x1f\x8b\x08\0", ["it begins as gzip does", "Unpack the file"]
 
 
 def deep(count):

@@ -27,15 +27,13 @@ import streams  # noqa: E402
 from chromium import Page  # noqa: E402
 
 SEED, MUTANTS = 52, 300
-# what gob types says of the names under which types fill interfaces, which nothing here keeps
-NAMES = re.compile(r"^// registered as .*\n|\n(?:// \S+ is registered as .*\n)+", re.MULTILINE)
 ANSWERS = """(async () => {
     const text = async (kind) => (await linesOf(kind)).text();
     const { told } = shown, { refusal } = told;
     return {
         state: document.body.dataset.state, line: refusal?.line ?? "",
         fault: refusal ? [told.status, refusal.reason, refusal.place, refusal.seen] : [told.status],
-        said: [refusal?.due, refusal?.todo, refusal?.item],
+        said: refusal?.said ?? "",
         show: await text("show"), values: await text("values"), types: told.source,
         source: document.getElementById("source").textContent,
         why: document.getElementById("why").textContent,
@@ -72,6 +70,11 @@ class Tests:
         ran = subprocess.run([self.gob, command, *option, path], capture_output=True)
         return ran.stdout.decode(), ran.stderr.decode().partition("\n")[0]
 
+    def said_by_program(self, path):
+        """What gob why says of a file whose name it doesn't know."""
+        with open(path, "rb") as file:
+            return subprocess.run([self.gob, "why"], stdin=file, capture_output=True).stdout.decode()
+
     # ---- what is read
 
     def all_streams(self):
@@ -102,15 +105,17 @@ class Tests:
         fault = [1, *map(int, found.groups())] if found else [0]
         due = {
             "state": "refused" if found else "whole", "line": line, "fault": fault, "show": lines,
-            "values": self.printed("values", path)[0], "types": NAMES.sub("", self.printed("types", path)[0]),
+            "values": self.printed("values", path)[0], "types": self.printed("types", path)[0],
+            "said": self.said_by_program(path) if found else "",
         }
         differing = [part for part in due if answer[part] != due[part]]
         self.due(f"{name} is read as by the program", not differing, data.hex(), differing,
                  [(answer[part], due[part]) for part in differing])
         if found:
-            self.due(f"{name}: what is due and what to do are told", all(answer["said"][:2]) and line in answer["why"]
-                     and "lost its way" not in answer["why"],
-                     answer["said"], data.hex())
+            told = [row.partition(": ")[2] for row in due["said"].split("\n")[2:-2]]
+            self.due(f"{name}: it is told what gob why says", all(some in answer["why"] for some in [line, *told])
+                     and "What to do" in answer["why"], answer["why"], told, data.hex())
+            self.due(f"{name}: no command of a shell is told", "gob why" not in answer["why"], answer["why"])
 
     def explains(self):
         with Page(self.address) as page:

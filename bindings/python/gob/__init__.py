@@ -28,12 +28,11 @@ from typing import Any, BinaryIO, Callable, Iterable, Iterator, Mapping, NamedTu
 
 from ._decode import Decoder, Held, Opaque, Options, Pairs
 from ._library import Batch, Counts, Fault, Head, Limits as _Limits, Node, library
-from ._source import Source as _Declared
 from ._types import Field, Type, type_of
-from . import go
+from . import _texts, go
 
 __all__ = ["Field", "Held", "Item", "Limits", "Opaque", "Pairs", "Reader", "Reason", "Refused", "Summary", "Type",
-           "check", "go", "iter_items", "iter_values", "load", "loads", "source", "types"]
+           "check", "go", "iter_items", "iter_values", "load", "loads", "source", "types", "why"]
 
 Source = Union[str, "os.PathLike[str]", bytes, bytearray, memoryview, BinaryIO, Iterable[bytes]]
 # makes of values of one type, and of where their items begin and end, what is given of them
@@ -442,9 +441,38 @@ def types(source: Source, *, piece: int = 1 << 20, **options: Any) -> dict[int, 
         return reader.types
 
 
-def source(types: Mapping[int, Type]) -> str:
-    """Go source that declares these types: a file that compiles, in ASCII, as `gob types` but for registered names."""
-    return _Declared(types).text()
+def source(source: Source, *, limits: Limits | None = None) -> str:
+    """The types of a stream as Go source that compiles, in ASCII: what `gob types` prints.
+
+    Where the bytes are refused, `Refused` has the source of the types before the fault as its one value. A file of
+    which the path is given is mapped; the bytes of any other source are held in memory.
+    """
+    text, fault = _texts.source(_held(source), None if limits is None else _Limits(*limits))
+    try:
+        _raise(fault)
+    except Refused as refused:
+        refused.values, refused.path = [text], _path(source)
+        raise
+    return text
+
+
+def why(source: Source, name: str | None = None, *, limits: Limits | None = None) -> str:
+    """What `gob why` says of a stream: where and why it is refused, what is behind it, and what to type next.
+
+    Of a whole one it says how much is in it. `name` is that of the file as what to type has it: the path, where one is
+    given, else IN. Bytes are held as by `source`.
+    """
+    named, chosen = _path(source) if name is None else name, None if limits is None else _Limits(*limits)
+    return _texts.why(_held(source), chosen, None if named is None else os.fsencode(named))
+
+
+def _held(source: Source) -> _texts.Held:
+    """All bytes of a source, as ctypes takes them."""
+    held = _texts.mapped(source) if isinstance(source, (str, os.PathLike)) else None
+    if held is None:
+        data = source if isinstance(source, bytes) else b"".join(_pieces(source, 1 << 20))
+        held = data, len(data)
+    return held
 
 
 def check(source: Source, *, piece: int = 65536, limits: Limits | None = None, exact: bool = False) -> Summary:

@@ -1,4 +1,4 @@
-"""python -m gob [--zeros] [--types] [--check] [FILE]: prints the values of a gob stream, one a line."""
+"""python -m gob [--zeros] [--types] [--why] [--check] [FILE]: prints the values of a gob stream, one a line."""
 from __future__ import annotations
 
 import argparse
@@ -11,11 +11,16 @@ import gob
 
 def _say_types(source: gob.Source) -> None:
     try:
-        types = gob.types(source)
+        print(gob.source(source), end="")
     except gob.Refused as refused:
-        print(gob.source({type.id: type for type in refused.values}), end="")
+        print(*refused.values, end="")
         raise
-    print(gob.source(types), end="")
+
+
+def _say_why(source: gob.Source) -> int:
+    text = gob.why(source)
+    print(text, end="", flush=True)
+    return 0 if text.startswith("ok: ") else 1
 
 
 def main() -> int:
@@ -23,6 +28,7 @@ def main() -> int:
     parser.add_argument("file", nargs="?", help="the file; standard input if none is named")
     parser.add_argument("--zeros", action="store_true", help="show absent fields with their zero values")
     parser.add_argument("--types", action="store_true", help="print the types that the stream defines, as Go source")
+    parser.add_argument("--why", action="store_true", help="say where and why the stream is refused")
     parser.add_argument("--check", action="store_true", help="say how many values, types and bytes there are")
     words = parser.parse_args()
     if isinstance(sys.stdout, io.TextIOWrapper):
@@ -33,6 +39,8 @@ def main() -> int:
             print(gob.check(source))
         elif words.types:
             _say_types(source)
+        elif words.why:
+            return _say_why(source)
         else:
             for value in gob.iter_values(source, zeros=words.zeros, opaque=gob.go.known):
                 # as Python writes it, so that no byte of a file tells a terminal what to do

@@ -102,6 +102,7 @@ _calls: list[tuple[Any, ...]] = [
     ("gob_take", ctypes.c_int, _reader, ctypes.POINTER(Batch)),
     ("gob_type", ctypes.POINTER(Item), _reader, ctypes.c_uint32),
     ("gob_close", None, _reader),
+    ("gob_check", ctypes.c_int, ctypes.c_void_p, ctypes.c_size_t, ctypes.POINTER(Limits), _counts, _fault),
     ("gob_check_open", _checker, ctypes.POINTER(Limits), _fault),
     ("gob_check_open_exact", _checker, ctypes.POINTER(Limits), _fault),
     ("gob_check_feed", ctypes.c_int, _checker, ctypes.c_char_p, ctypes.c_size_t, _counts, _fault),
@@ -109,6 +110,10 @@ _calls: list[tuple[Any, ...]] = [
     ("gob_check_close", None, _checker),
     ("gob_reason_name", ctypes.c_char_p, ctypes.c_uint32),
     ("gob_reason_text", ctypes.c_char_p, ctypes.c_uint32),
+    ("gob_why_text", ctypes.c_int64, ctypes.c_void_p, ctypes.c_size_t, ctypes.POINTER(Limits), ctypes.c_char_p,
+     ctypes.c_char_p, ctypes.c_size_t),
+    ("gob_types_text", ctypes.c_int64, ctypes.c_void_p, ctypes.c_size_t, ctypes.POINTER(Limits), ctypes.c_char_p,
+     ctypes.c_size_t),
 ]
 for _name, _result, *_words in _calls:
     _function = getattr(library, _name)

@@ -37,11 +37,18 @@ class Type:
             names.append(f"{field.name}#{number}" if field.name in names else field.name)
         return tuple(names)
 
-    def go(self, types: Mapping[int, Type]) -> str:
-        """How Go source declares the type, as `source` does. A stream doesn't tell how wide numbers are."""
-        from ._source import Source
 
-        return Source(types).declaration(self)
+def go_name(id: int, types: Mapping[int, Type], levels: int = 3) -> str:
+    """How Go names a type: by its name, or where it has none by its parts, so many levels down."""
+    if id in BASIC:
+        return BASIC[id]
+    type = types.get(id)
+    if type is None or type.name or not levels or type.kind in ("struct", "opaque"):
+        return type.name if type is not None and type.name else f"T{id}"
+    elem = go_name(type.elem, types, levels - 1)
+    if type.kind == "map":
+        return f"map[{go_name(type.key, types, levels - 1)}]{elem}"
+    return f"[{type.len}]{elem}" if type.kind == "array" else f"[]{elem}"
 
 
 def type_of(id: int, nodes: Sequence[Sequence[int]], text: Callable[[int, int], str]) -> Type:

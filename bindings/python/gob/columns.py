@@ -27,8 +27,7 @@ import numpy as np
 from . import Reader, Refused, Type, _path, _pieces, _raise, go
 from ._decode import Opaque
 from ._library import Head, Node, library
-from ._source import Source
-from ._types import BASIC
+from ._types import go_name
 
 if TYPE_CHECKING:
     import pandas
@@ -96,7 +95,7 @@ def known(value: Opaque) -> Any:
 
 
 def _name_of(reader: Reader, id: int) -> str:
-    return BASIC.get(id) or reader._type(id).name or Source(reader.types).named(id, 0, 3)
+    return go_name(id, reader.types)
 
 
 def _flat(column: _Array) -> Any:

@@ -15,7 +15,7 @@ import math
 import os
 import pathlib
 import pickle
-import re
+import shutil
 import struct
 import subprocess
 import sys
@@ -35,7 +35,6 @@ import gob._library
 STREAMS = pathlib.Path(os.environ.get("GOB_STREAMS", pathlib.Path(__file__).parents[3] / "interop/streams"))
 SIZES = [1, 2, 3, 7, 64, 65536]
 # what gob types says of the names under which types fill interfaces, which nothing here keeps
-NAMES = re.compile(r"^// registered as .*\n|\n(?:// \S+ is registered as .*\n)+", re.MULTILINE)
 POINT = bytes.fromhex("1fff8103010105506f696e7401ff82000102010158010400010159010400000007ff82012c014200")
 
 
@@ -269,7 +268,6 @@ class Values(unittest.TestCase):
     def test_the_example(self):
         points = gob.loads(POINT)
         self.assertEqual(points, [{"X": 22, "Y": 33}])
-        self.assertEqual(points.types[65].go(points.types), "type Point struct {\n\tX int\n\tY int\n}")
 
     def test_sources(self):
         for source in (POINT, bytearray(POINT), memoryview(POINT), io.BytesIO(POINT), [POINT[:9], b"", POINT[9:]]):
@@ -358,7 +356,7 @@ class Values(unittest.TestCase):
             path.write_bytes(POINT)
             source = "package types\n\n// type 65\ntype Point struct {\n\tX int\n\tY int\n}\n"
             for words, due in [([], "{'X': 22, 'Y': 33}\n"), (["--check"], "Summary(values=1, types=1, bytes=40)\n"),
-                               (["--types"], source)]:
+                               (["--types"], source), (["--why"], "ok: 2 items, 1 types, 40 bytes\n1 value of type 65, Point\n")]:
                 said = io.StringIO()
                 with mock.patch.object(sys, "argv", ["gob", *words, str(path)]), contextlib.redirect_stdout(said):
                     self.assertEqual(gob.__main__.main(), 0)
@@ -386,12 +384,60 @@ class Values(unittest.TestCase):
         self.assertEqual([type.name for type in caught.exception.values], ["Point"])
 
     @unittest.skipUnless("GOB" in os.environ, "GOB names no program")
-    def test_types_are_those_of_the_program(self):
-        for path in sorted(STREAMS.glob("*.gob")):
-            with self.subTest(stream=path.name), contextlib.suppress(gob.Refused):
-                types = gob.types(path)
-                ran = subprocess.run([os.environ["GOB"], "types", path], capture_output=True, check=True)
-                self.assertEqual(gob.source(types), NAMES.sub("", ran.stdout.decode()))
+    def test_texts_are_those_of_the_program(self):
+        for path in sorted([*STREAMS.glob("*.gob"), *STREAMS.glob("../filled/streams/*.gob")]):
+            data = path.read_bytes()
+            for bad in (path, self.written(data[:-1]), self.written(data + b"\xf7")):
+                with self.subTest(stream=path.name, size=bad.stat().st_size):
+                    self.assertEqual(gob.why(bad), self.printed("why", bad))
+                    self.assertEqual(gob.why(bad.read_bytes(), str(bad)), self.printed("why", bad))
+                    self.assertEqual(self.source(bad), self.printed("types", bad))
+                    self.assertEqual(self.source(io.BytesIO(bad.read_bytes())), self.printed("types", bad))
+
+    def printed(self, command, path):
+        return subprocess.run([os.environ["GOB"], command, path], capture_output=True, check=False).stdout.decode()
+
+    def written(self, data):
+        folder = tempfile.mkdtemp()
+        self.addCleanup(shutil.rmtree, folder)
+        path = pathlib.Path(folder) / "some.gob"
+        path.write_bytes(data)
+        return path
+
+    def source(self, source):
+        try:
+            return gob.source(source)
+        except gob.Refused as refused:
+            return refused.values[0]
+
+    def test_texts_of_a_refused_stream(self):
+        path = self.written(POINT[:36])
+        with self.assertRaises(gob.Refused) as caught:
+            gob.source(path)
+        self.assertEqual(caught.exception.path, str(path))
+        self.assertEqual(caught.exception.values, ["package types\n\n// type 65\ntype Point struct {\n\tX int\n\tY int\n}\n"])
+        said = gob.why(POINT[:36]).splitlines()
+        self.assertEqual(said[0], "refused 22 Ended at 36 seen 36")
+        self.assertEqual(said[2], "where: item 1, Point.X: a value of type 65, Point, which begins at byte 32")
+        self.assertEqual(gob.why(b""), "ok: 0 items, 0 types, 0 bytes\n")
+        self.assertEqual(gob.why(self.written(b"")), "ok: 0 items, 0 types, 0 bytes\n")
+
+    def test_texts_under_limits(self):
+        said = gob.why(POINT, "a b.gob", limits=gob.Limits(item=30))
+        self.assertTrue(said.startswith("refused 3 ItemTooLong at 0 seen 1\n"))
+        self.assertTrue(said.endswith("\nnext: gob why --item 31 'a b.gob'\n"))
+        with self.assertRaises(gob.Refused):
+            gob.source(POINT, limits=gob.Limits(item=30))
+        with self.assertRaises(ValueError):
+            gob.why(POINT, limits=gob.Limits(depth=0))
+        # a name that isn't UTF-8 is none
+        self.assertTrue(gob.why(POINT, "\udcff.gob", limits=gob.Limits(item=30)).endswith(" --item 31 IN\n"))
+
+    def test_a_long_text_is_whole(self):
+        fields = b"".join(b"\1\5" + f"F{number:04}".encode() + b"\1\4\0" for number in range(9000))
+        body = b"\xff\x81\3\1\1\1P\1\xff\x82\0\1\xfe" + (9000).to_bytes(2, "big") + fields + b"\0\0"
+        text = gob.source(b"\xfd" + len(body).to_bytes(3, "big") + body)
+        self.assertEqual(text.count("\n"), 9000 + 5)
 
     def test_a_closed_pipe_ends_the_command(self):
         read, written = os.pipe()
@@ -637,7 +683,7 @@ class Wheels(unittest.TestCase):
             self.assertEqual(ran.stdout.strip(), wheel.name)
             with zipfile.ZipFile(wheel) as files:
                 self.assertEqual(files.read("gob/libgob.so.1"), b"a library")
-                self.assertIn("gob/_source.py", files.namelist())
+                self.assertIn("gob/_texts.py", files.namelist())
 
 
 class Layout(unittest.TestCase):
