@@ -126,7 +126,7 @@ REASONS = [
         "8 DefinedTwice(65) at 33 seen 35", "A type is defined under a number that has one already.",
         "item 1, which begins at byte 32", TYPE, "ff 81, at byte 33",
         "Another encoder's stream begins with this item: it defines type 65 once more, in the same way.",
-        "head -c 32 IN | gob why; tail -c +33 IN | gob why")),
+        "gob salvage IN | gob values")),
     Row("too_many_types", definitions(10001), due(
         "9 TooManyTypes at 149874 seen 149877", "More than 10,000 types are defined.",
         "item 10000, which begins at byte 149873", TYPE, "fe 4e a1, at byte 149874", CHANGED, FETCH)),
@@ -303,7 +303,7 @@ CAUSES = [
         "8 DefinedTwice(65) at 41 seen 43", "A type is defined under a number that has one already.",
         "item 2, which begins at byte 40", TYPE, "ff 81, at byte 41",
         "Another encoder's stream begins with this item: it defines type 65 once more, in the same way.",
-        "head -c 40 IN | gob why; tail -c +41 IN | gob why")),
+        "gob salvage IN | gob values")),
     Row("another_type", GOB + ARRAY, due(
         "8 DefinedTwice(65) at 41 seen 43", "A type is defined under a number that has one already.",
         "item 2, which begins at byte 40", TYPE, "ff 81, at byte 41",

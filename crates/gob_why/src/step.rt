@@ -15,6 +15,10 @@ pub(crate) fn step_text(alloc: Global, cause: Cause, file: &str) -> Result<Strin
         Cause::Http { bytes } | Cause::Length { bytes, .. } | Cause::Prefix { bytes } => {
             tail_text(alloc, bytes as u64, file)
         }
+        // what is defined again is left out, so one stream has all values, also where cutting would lose some
+        Cause::AnotherStream { is_same: true, .. } => {
+            with_file(alloc, "gob salvage IN | gob values", file)
+        }
         Cause::AnotherStream { begin, .. } => halves_text(alloc, begin, begin, file),
         Cause::CutOff { begin, stream } => halves_text(alloc, begin, stream, file),
         Cause::LineFeed { begin } | Cause::Behind { begin } | Cause::ZerosToEnd { begin } => {
