@@ -3,3 +3,4 @@ pub mod PassingSteps
 pub mod RunLaws
 pub mod SalvageLaws
 pub mod TakingSteps
+pub mod ReportLaws

@@ -3,3 +3,4 @@ pub mod Laws
 pub mod Taking
 pub mod Keeping
 pub mod Running
+pub mod Report
