@@ -1,1 +1,4 @@
 pub mod FormLaws
+pub mod HeadLaws
+pub mod SpellingLaws
+pub mod TextLaws

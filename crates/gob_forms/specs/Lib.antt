@@ -1,1 +1,6 @@
 pub mod Forms
+pub mod Guesses
+pub mod Heads
+pub mod Names
+pub mod Spellings
+pub mod Texts

@@ -1,5 +1,9 @@
 //! Dumps: lines that have an offset, bytes in hexadecimal digits, and the bytes as text.
 
+ghost use Rattle.std.specs.Prelude.{◌≡◌, IfOk};
+ghost use Rattle.gob_forms.specs.Spellings.{hexdump_from, xxd_from};
+ghost use Rattle.gob_forms.specs.declared.dump.Zone.TheVariants as zone;
+
 use gob_num::Memory;
 use std::alloc::Global;
 
@@ -14,7 +18,9 @@ enum Zone {
 }
 
 /// The hexadecimal digits of the bytes in a dump as `xxd` makes it: behind a colon, up to two spaces.
-pub(crate) fn xxd_digits(alloc: Global, text: &[u8]) -> Result<Vec<u8>, Memory> {
+pub(crate) fn xxd_digits(alloc: Global, text: &[u8]) -> Result<Vec<u8>, Memory>
+    ensures { IfOk result (λ digits. digits.items ≡ xxd_from zone.Offset text.now) }
+{
     let mut digits = Vec::new(alloc);
     let mut zone = Zone::Offset;
     for byte in text {
@@ -34,7 +40,9 @@ pub(crate) fn xxd_digits(alloc: Global, text: &[u8]) -> Result<Vec<u8>, Memory> 
 }
 
 /// The hexadecimal digits of the bytes in a dump as `hexdump -C` makes it: behind a space, up to a bar.
-pub(crate) fn hexdump_digits(alloc: Global, text: &[u8]) -> Result<Vec<u8>, Memory> {
+pub(crate) fn hexdump_digits(alloc: Global, text: &[u8]) -> Result<Vec<u8>, Memory>
+    ensures { IfOk result (λ digits. digits.items ≡ hexdump_from zone.Offset text.now) }
+{
     let mut digits = Vec::new(alloc);
     let mut zone = Zone::Offset;
     for byte in text {

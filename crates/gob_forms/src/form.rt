@@ -1,6 +1,7 @@
 //! What an input is that is no stream, by a mark near its front.
 
-ghost use Rattle.std.specs.Prelude.{◌↔◌, IsTrue, map};
+ghost use Rattle.std.specs.Prelude.{◌≡◌, ◌↔◌, IsTrue, map};
+ghost use Rattle.gob_forms.specs.Names.{form_file_name, form_name, form_step};
 ghost use Rattle.gob_forms.specs.Forms.{IsFirstForm, IsFormAt, Stands, mark_in};
 
 /// What an input can be that is no stream.
@@ -325,7 +326,9 @@ const OTHER: &str = "Get the file that holds the stream: this is another.";
 
 impl Form {
     /// What it is called, behind "it begins as" and before "does".
-    pub fn name(self) -> &'static str {
+    pub fn name(self) -> &'static str
+        ensures { result.now ≡ form_name self }
+    {
         match self {
             Form::Gzip => "gzip",
             Form::Zstd => "zstd",
@@ -357,7 +360,9 @@ impl Form {
     }
 
     // The name of what people look at or run.
-    fn name_of_file(self) -> &'static str {
+    fn name_of_file(self) -> &'static str
+        ensures { result.now ≡ form_file_name self }
+    {
         match self {
             Form::Png => "a PNG image",
             Form::Jpeg => "a JPEG image",
@@ -373,7 +378,9 @@ impl Form {
     }
 
     /// What to do: a command that gives what it holds, where IN is the file, or else a sentence.
-    pub fn step(self) -> &'static str {
+    pub fn step(self) -> &'static str
+        ensures { result.now ≡ form_step self }
+    {
         match self {
             Form::Gzip => "gunzip -c IN | gob why",
             Form::Zstd => "zstd -dc IN | gob why",

@@ -1,6 +1,7 @@
 //! What an item's first numbers say.
 
-ghost use Rattle.std.specs.Prelude.{◌≤◌, length};
+ghost use Rattle.std.specs.Prelude.{◌≡◌, ◌≤◌, ◌↔◌, length, None, IfSome, IsTrue};
+ghost use Rattle.gob_forms.specs.Heads.{IsHead, IsWhole, head_body, head_end};
 
 use gob_num::{to_signed, uint_at};
 use gob_types::TypeId;
@@ -21,7 +22,10 @@ pub struct Head {
 }
 
 /// The head of the item that the bytes begin with. None: it doesn't stand whole there.
-pub fn head_of(item: &[u8]) -> Option<Head> {
+pub fn head_of(item: &[u8]) -> Option<Head>
+    ensures found { IfSome result (λ head. IsHead item.now head) }
+    ensures none { result ≡ None → (head : Head) → ¬ IsHead item.now head }
+{
     let (count, count_size) = uint_at(item, 0)?;
     let (spelled, size) = uint_at(item, count_size)?;
     let number = to_signed(spelled);
@@ -38,7 +42,8 @@ pub fn head_of(item: &[u8]) -> Option<Head> {
 impl Head {
     /// Where the item ends, or the bytes do.
     pub fn end_in(&self, item: &[u8]) -> usize
-        ensures { result ≤ length item.now }
+        ensures within { result ≤ length item.now }
+        ensures end { result ≡ head_end self.now item.now }
     {
         let left = item.len().saturating_sub(self.count_size) as u64;
         let end = self
@@ -48,7 +53,9 @@ impl Head {
     }
 
     /// What follows it of the item, as far as the bytes have it.
-    pub fn body_in<'a>(&self, item: &'a [u8]) -> &'a [u8] {
+    pub fn body_in<'a>(&self, item: &'a [u8]) -> &'a [u8]
+        ensures { result.now ≡ head_body self.now item.now }
+    {
         let end = self.end_in(item);
         if self.size > end {
             return &[];
@@ -57,7 +64,9 @@ impl Head {
     }
 
     /// Whether all of the item is there.
-    pub fn is_whole_in(&self, item: &[u8]) -> bool {
+    pub fn is_whole_in(&self, item: &[u8]) -> bool
+        ensures { IsTrue result ↔ IsWhole self.now item.now }
+    {
         self.count <= item.len().saturating_sub(self.count_size) as u64
     }
 }

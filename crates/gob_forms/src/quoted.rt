@@ -1,6 +1,7 @@
 //! Texts between quotes, as JSON has them.
 
-ghost use Rattle.std.specs.Prelude.{◌<◌, ◌≤◌, IfSome, length};
+ghost use Rattle.std.specs.Prelude.{◌≡◌, ◌<◌, ◌≤◌, ℕ, List, None, IfSome, length};
+ghost use Rattle.gob_forms.specs.Texts.{IsFirstQuote, IsQuoted};
 
 /// A text between quotes.
 #[derive(Clone, Copy, Debug, PartialEq, Eq)]
@@ -13,7 +14,9 @@ pub struct Quoted<'a> {
 
 /// The text between the first two quotes from the place on.
 pub fn next_quoted(bytes: &[u8], place: usize) -> Option<Quoted<'_>>
-    ensures { IfSome result (λ quoted. quoted.end < length bytes.now) }
+    ensures within { IfSome result (λ quoted. quoted.end < length bytes.now) }
+    ensures found { IfSome result (λ quoted. IsQuoted bytes.now place quoted.text.now quoted.end) }
+    ensures none { result ≡ None → (text : List ℕ) → (end : ℕ) → ¬ IsQuoted bytes.now place text end }
 {
     let begin = quote_from(bytes, place)? + 1;
     let end = quote_from(bytes, begin)?;
@@ -25,7 +28,9 @@ pub fn next_quoted(bytes: &[u8], place: usize) -> Option<Quoted<'_>>
 
 // The place of the first quote from this one on.
 fn quote_from(bytes: &[u8], place: usize) -> Option<usize>
-    ensures { IfSome result (λ quote. (place ≤ quote) × (quote < length bytes.now)) }
+    ensures within { IfSome result (λ quote. (place ≤ quote) × (quote < length bytes.now)) }
+    ensures first { IfSome result (λ quote. IsFirstQuote bytes.now place quote) }
+    ensures none { result ≡ None → (quote : ℕ) → ¬ IsFirstQuote bytes.now place quote }
 {
     for quote in place..bytes.len() {
         if bytes[quote] == b'"' {

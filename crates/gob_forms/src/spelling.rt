@@ -1,5 +1,10 @@
 //! Texts that spell bytes.
 
+ghost use Rattle.std.specs.Prelude.{◌≡◌, [], slice_index, IfOk, OnOk, MatchOption};
+ghost use Rattle.gob_forms.specs.Names.{spelling_name, spelling_step};
+ghost use Rattle.gob_forms.specs.Spellings.{behind_mark, filled, letters_behind, more_digits, numbers_behind};
+ghost use Rattle.gob_forms.specs.Spellings.{of_base64, of_characters, of_digits, spelled, without_cut};
+
 use crate::dump::{hexdump_digits, xxd_digits};
 use base64::DecodeAllocError;
 use base64::engine::general_purpose::STANDARD;
@@ -41,7 +46,10 @@ impl Spelling {
 
     /// The bytes that the text spells so. Of a text that is cut off those are given that it still has whole. None: it
     /// is no such text.
-    pub fn decode(self, alloc: Global, text: &[u8]) -> Result<Option<Vec<u8>>, Memory> {
+    pub fn decode(self, alloc: Global, text: &[u8]) -> Result<Option<Vec<u8>>, Memory>
+        ensures { IfOk result (λ found. MatchOption found (spelled self text.now ≡ None)
+            (λ bytes. spelled self text.now ≡ Some bytes.items)) }
+    {
         match self {
             Spelling::Base64 => decode_base64(alloc, text, b"+/"),
             Spelling::UrlBase64 => decode_base64(alloc, text, b"-_"),
@@ -60,7 +68,9 @@ impl Spelling {
     }
 
     /// What the text is called.
-    pub fn name(self) -> &'static str {
+    pub fn name(self) -> &'static str
+        ensures { result.now ≡ spelling_name self }
+    {
         match self {
             Spelling::Base64 | Spelling::UrlBase64 => "base64",
             Spelling::Hex => "hexadecimal digits",
@@ -72,7 +82,9 @@ impl Spelling {
     }
 
     /// The command that gives the bytes, where IN is the file.
-    pub fn step(self) -> &'static str {
+    pub fn step(self) -> &'static str
+        ensures { result.now ≡ spelling_step self }
+    {
         match self {
             Spelling::Base64 => "base64 -d IN | gob why",
             Spelling::UrlBase64 => "tr -- '-_' '+/' <IN | base64 -d | gob why",
@@ -86,7 +98,10 @@ impl Spelling {
 }
 
 // The bytes that base64 spells, in lines of any length, whose last two letters are these.
-fn decode_base64(alloc: Global, text: &[u8], last: &[u8; 2]) -> Result<Option<Vec<u8>>, Memory> {
+fn decode_base64(alloc: Global, text: &[u8], last: &[u8; 2]) -> Result<Option<Vec<u8>>, Memory>
+    ensures { let of_text = of_base64 (slice_index last.now 0) (slice_index last.now 1) text.now in
+        IfOk result (λ found. MatchOption found (of_text ≡ None) (λ bytes. of_text ≡ Some bytes.items)) }
+{
     let Some(letters) = letters_of(alloc, text, last)? else {
         return Ok(None);
     };
@@ -98,7 +113,10 @@ fn decode_base64(alloc: Global, text: &[u8], last: &[u8; 2]) -> Result<Option<Ve
 }
 
 // The letters of the text in the usual alphabet, in whole groups of four.
-fn letters_of(alloc: Global, text: &[u8], last: &[u8; 2]) -> Result<Option<Vec<u8>>, Memory> {
+fn letters_of(alloc: Global, text: &[u8], last: &[u8; 2]) -> Result<Option<Vec<u8>>, Memory>
+    ensures { let of_text = letters_behind (slice_index last.now 0) (slice_index last.now 1) [] text.now in
+        IfOk result (λ found. MatchOption found (of_text ≡ None) (λ letters. of_text ≡ Some letters.items)) }
+{
     let mut letters = Vec::with_capacity(alloc, text.len().saturating_add(3))?;
     for byte in text {
         match *byte {
@@ -119,17 +137,23 @@ fn letters_of(alloc: Global, text: &[u8], last: &[u8; 2]) -> Result<Option<Vec<u
 }
 
 // Puts behind the letters what makes the last of them a group.
-fn fill_group(letters: &mut Vec<u8>) -> Result<(), Memory> {
-    for _ in 0..3 {
-        if letters.len() % 4 != 0 {
-            letters.push(b'=')?;
-        }
-    }
+fn fill_group(letters: &mut Vec<u8>) -> Result<(), Memory>
+    ensures { OnOk result (letters.new.items ≡ filled letters.old.items) }
+{
+    let missing: &[u8] = match letters.len() % 4 {
+        1 => b"===",
+        2 => b"==",
+        3 => b"=",
+        _ => b"",
+    };
+    letters.extend_from_slice(missing)?;
     Ok(())
 }
 
 // The text behind what stands before hexadecimal digits, in Postgres or in C.
-fn behind_mark(text: &[u8]) -> &[u8] {
+fn behind_mark(text: &[u8]) -> &[u8]
+    ensures { result.now ≡ behind_mark text.now }
+{
     match text {
         [b'\\', b'x', rest @ ..] | [b'0', b'x', rest @ ..] => rest,
         _ => text,
@@ -137,7 +161,10 @@ fn behind_mark(text: &[u8]) -> &[u8] {
 }
 
 // The bytes that the digits spell, without the one that is cut off.
-fn decode_hex(alloc: Global, text: &[u8]) -> Result<Option<Vec<u8>>, Memory> {
+fn decode_hex(alloc: Global, text: &[u8]) -> Result<Option<Vec<u8>>, Memory>
+    ensures { IfOk result (λ found. MatchOption found (of_digits text.now ≡ None)
+        (λ bytes. of_digits text.now ≡ Some bytes.items)) }
+{
     let mut digits = Vec::with_capacity(alloc, text.len())?;
     for byte in text {
         if !byte.is_ascii_whitespace() {
@@ -154,7 +181,10 @@ fn decode_hex(alloc: Global, text: &[u8]) -> Result<Option<Vec<u8>>, Memory> {
 }
 
 // The bytes that the decimal numbers are.
-fn decode_decimal(alloc: Global, text: &[u8]) -> Result<Option<Vec<u8>>, Memory> {
+fn decode_decimal(alloc: Global, text: &[u8]) -> Result<Option<Vec<u8>>, Memory>
+    ensures { IfOk result (λ found. MatchOption found (numbers_behind None [] text.now ≡ None)
+        (λ bytes. numbers_behind None [] text.now ≡ Some bytes.items)) }
+{
     let mut bytes = Vec::new(alloc);
     let mut number = None;
     for byte in text {
@@ -178,12 +208,17 @@ fn decode_decimal(alloc: Global, text: &[u8]) -> Result<Option<Vec<u8>>, Memory>
 }
 
 // The number with one more digit, where it is a byte.
-fn with_digit(number: Option<u8>, digit: u8) -> Option<u8> {
+fn with_digit(number: Option<u8>, digit: u8) -> Option<u8>
+    ensures { result ≡ more_digits number digit }
+{
     number.unwrap_or(0).checked_mul(10)?.checked_add(digit)
 }
 
 // The bytes whose characters in Latin-1 the text has.
-fn decode_latin1(alloc: Global, text: &[u8]) -> Result<Option<Vec<u8>>, Memory> {
+fn decode_latin1(alloc: Global, text: &[u8]) -> Result<Option<Vec<u8>>, Memory>
+    ensures { IfOk result (λ found. MatchOption found (of_characters (without_cut text.now) ≡ None)
+        (λ bytes. of_characters (without_cut text.now) ≡ Some bytes.items)) }
+{
     let Ok(text) = str::from_utf8(without_cut(text)) else {
         return Ok(None);
     };
@@ -198,7 +233,9 @@ fn decode_latin1(alloc: Global, text: &[u8]) -> Result<Option<Vec<u8>>, Memory> 
 }
 
 // The text without the first half of a character of two bytes at its end.
-fn without_cut(text: &[u8]) -> &[u8] {
+fn without_cut(text: &[u8]) -> &[u8]
+    ensures { result.now ≡ without_cut text.now }
+{
     match text {
         [front @ .., 0xc2 | 0xc3] => front,
         _ => text,

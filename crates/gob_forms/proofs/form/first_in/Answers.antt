@@ -1,5 +1,4 @@
 -- Each mark that doesn't stand is gone past.
-use Rattle.std.proofs.Common.{◌≡◌, ℕ, Option, Some, None}
 use Rattle.gob_forms.proofs.FormLaws.{none_left, stands_here, stands_not}
 use Rattle.gob_forms.proofs.form.first_in.Goals as goal
 

@@ -1,9 +1,9 @@
 -- A mark stands behind an offset where what is left there begins with it.
-use Rattle.std.proofs.Common.{◌↔◌, IsTrue, ◌≡◌, ℕ, ◌≤◌, List, ◌++◌, length, drop, take, subst, sym, ap, ◌∙◌, arith}
+use Rattle.std.proofs.Common.{◌++◌, length, drop, take, ap, ◌∙◌}
 use Rattle.std.proofs.lemmas.List.{length-take-le}
 use Rattle.std.proofs.lemmas.Bool.Decides.{Decides-eqb}
 use Rattle.std.proofs.lemmas.Slice.Eq.{starts_is}
-use Rattle.gob_forms.specs.Forms.{Stands, mark_in}
+use Rattle.gob_forms.specs.Forms.{mark_in}
 use Rattle.gob_forms.proofs.FormLaws.{behind, behind_mark}
 use Rattle.gob_forms.proofs.form.Mark.stands_in.Goals as goal
 
