@@ -105,26 +105,37 @@ put_so T {id = id} {span = span} c {ids = ids} {old = old} m n are two nodes = r
       (definition_handouts span l ++ handout id span c ∷ [])) (sym (are w f)) (of_go_value c two (nodes w f));
 }
 
--- the nodes of a value that holds nothing
-pub tape_so : (T : Table) {id : TypeId} {kept : Filled} {tape : Flat} {fillings : List Filling}
-    → fillings ≡ (out-Filled kept).fillings.items → length fillings ≡ 0
-    → ((v : Tree) → SpellsTop T id v (out-Filled kept).skeleton.items → Means tape v) → (w : spelled.Filled)
-    → IsFilled T id kept w → AreNodesOf T id w (map flat tape.nodes) tape.pool
-tape_so T {id = id} {kept = kept} {tape = tape} {fillings = fillings} is none means w
-    (is_filled {v = v} {fs = fs} s a) =
-    by (none_left fillings fs none (subst (λ (l : List Filling). AreFillings T l fs) (sym is) a))
+-- what is kept without fillings stands for a value that holds nothing
+pub record Unfilled (T : Table) (id : TypeId) (kept : Filled) (w : spelled.Filled) : Type 0 where
+  pub value : Tree
+  pub spells : SpellsTop T id value (out-Filled kept).skeleton.items
+  pub is : w ≡ spelled.filled value no_filling
+
+pub unfilled : {T : Table} {id : TypeId} {kept : Filled} {fillings : List Filling} {w : spelled.Filled}
+    → fillings ≡ (out-Filled kept).fillings.items → length fillings ≡ 0 → IsFilled T id kept w → Unfilled T id kept w
+unfilled {T = T} {fillings = fillings} is none (is_filled {v = v} {fs = fs} s a) = record {
+  value = v;
+  spells = s;
+  is = ap (λ f. spelled.filled v f)
+      (none_left fillings fs none (subst (λ (l : List Filling). AreFillings T l fs) (sym is) a));
+}
   where
     none_left : (l : List Filling) (gs : spelled.Fillings) → length l ≡ 0 → AreFillings T l gs → gs ≡ no_filling
     none_left [] gs e no_fillings = refl
     none_left (f ∷ l) gs e b = absurd (omega (arith, e))
 
-    by : fs ≡ no_filling → AreNodesOf T id (spelled.filled v fs) (map flat tape.nodes) tape.pool
-    by e =
-        let put : AreNodesOf T id (spelled.filled v no_filling) (map (behind 0) (map flat tape.nodes)) tape.pool =
-        puts_value s (means v s) puts_none in
-        subst (λ f. AreNodesOf T id (spelled.filled v f) (map flat tape.nodes) tape.pool) (sym e)
-        (subst (λ l. AreNodesOf T id (spelled.filled v no_filling) l tape.pool) (all_as_they_were (map flat tape.nodes))
-        put)
+-- the nodes of a value that holds nothing
+pub tape_so : (T : Table) {id : TypeId} {kept : Filled} {tape : Flat} {fillings : List Filling}
+    → fillings ≡ (out-Filled kept).fillings.items → length fillings ≡ 0
+    → ((v : Tree) → SpellsTop T id v (out-Filled kept).skeleton.items → Means tape v) → (w : spelled.Filled)
+    → IsFilled T id kept w → AreNodesOf T id w (map flat tape.nodes) tape.pool
+tape_so T {id = id} {tape = tape} is none means w f =
+    let u = unfilled is none f in
+    let put : AreNodesOf T id (spelled.filled u.value no_filling) (map (behind 0) (map flat tape.nodes)) tape.pool =
+    puts_value u.spells (means u.value u.spells) puts_none in
+    subst (λ x. AreNodesOf T id x (map flat tape.nodes) tape.pool) (sym u.is)
+    (subst (λ l. AreNodesOf T id (spelled.filled u.value no_filling) l tape.pool)
+    (all_as_they_were (map flat tape.nodes)) put)
 
 -- ---- what was appended
 pub extends_none : {A : Type 0} (l : List A) → Extends l l

@@ -4,3 +4,6 @@ mod EverLaws
 mod ReadingLaws
 mod HandoutLaws
 mod LeftLaws
+mod GatheredLaws
+mod LaidLaws
+mod WholeLaws

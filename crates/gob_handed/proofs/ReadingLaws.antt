@@ -5,19 +5,25 @@ use Rattle.std.proofs.Common.{append_assoc, append-nil, length-append, take-appe
 use Rattle.std.specs.Prelude.{IfSome}
 use Rattle.std.specs.Result.{IsErrAnd}
 use Rattle.std.proofs.lemmas.List.{length-take}
+use Rattle.gob_types.specs.Defined.{types}
 use Rattle.gob_types.specs.Table.{Table}
+use Rattle.gob_types.specs.declared.id.TypeId.{TypeId}
 use Rattle.gob_stream.specs.Bounds.{AreLimits, Bounds, deepest}
 use Rattle.gob_stream.specs.Grammar.{GivesIn}
 use Rattle.gob_stream.specs.Honest.{OfRefusal}
 use Rattle.gob_stream.specs.Stepping.{AdvancesBy, GivesAllBy, GivesItemsOf, gives_none, gives_one, StandsBy}
-use Rattle.gob_stream.specs.Stepping.{StepAnswersBy, Stepping}
+use Rattle.gob_stream.specs.Stepping.{ReadsOnBy, StepAnswersBy, Stepping}
 use Rattle.gob_stream.specs.declared.fault.Fault.{Fault}
 use Rattle.gob_stream.specs.declared.fault.Fault.TheVariants as fault
 use Rattle.gob_stream.specs.declared.session.Step.{Step}
 use Rattle.gob_handed.specs.Reading.{AreUnfolded, none_unfolded, one_more, EndAt, GivesOfFirst, GoesOn, Handouts}
-use Rattle.gob_handed.specs.Reading.{FeedsBy, HasReadTo, KeepsBy, RefusesBehind, StandsSo, StepsBy}
+use Rattle.gob_handed.specs.Reading.{FeedsBy, HasReadTo, IsHandedNext, KeepsBy, RefusesBehind, StandsSo, StaysSo}
+use Rattle.gob_handed.specs.Reading.{StepsBy, TakesSome}
+use Rattle.gob_handed.specs.Unfolded.{handout}
 use Rattle.gob_handed.specs.Waiting.{begin_of, session_of, types_in, waiting}
+use Rattle.gob_handed.specs.declared.handout.Content.{Content}
 use Rattle.gob_handed.specs.declared.handout.Handout.{Handout}
+use Rattle.gob_handed.specs.declared.handout.Span.{Span}
 use Rattle.gob_handed.specs.declared.reader.Reader.{Reader}
 
 -- ---- more bytes
@@ -167,6 +173,48 @@ steps_well d {handouts = handouts} {old = old} mid {new = new} {items = items} {
     (λ all. HasReadTo d new all (bytes ++ take u piece))) (sym is)
     (stepped_on d mid a.gives k begin w reads.offset_is a.after between moved)
 
+-- the item of a value that stood whole is kept
+pub takes_whole : {X I Told : Type 0} (d : Stepping X I Told) {handouts : Handouts I} {old new : Reader X I}
+    {items : List Told} {id : TypeId} {content : Content} {used end : ℕ} (bytes piece : List ℕ)
+    → IsHandedNext d handouts (session_of old) id content (take used piece) → used ≤ length piece
+    → ReadsOnBy d (session_of old) (session_of new) (take used piece) → d.between (session_of new)
+    → StandsBy d (session_of new) → d.taken (session_of new) ≡ d.taken (session_of old) + length (take used piece)
+    → d.table (session_of new) ≡ d.table (session_of old) → d.limits (session_of new) ≡ d.limits (session_of old)
+    → end ≡ min (old.offset + used) (2 ^ 64 - 1) → new.offset ≡ end → begin_of new ≡ end
+    → waiting new ≡ waiting old ++ handout id (record { begin = begin_of old; end = end }) content ∷ []
+    → HasReadTo d old items bytes → TakesSome d handouts old new items bytes piece used
+takes_whole d {handouts = handouts} {old = old} {new = new} {items = items} {id = id} {content = content} {used = used}
+    {end = end} bytes piece n within reads between stands onward table same last offset begin w h =
+    let whole = bytes ++ take used piece in
+    let span : Span = record { begin = begin_of old; end = end } in
+    let gave = reads items bytes n.item h.gave n.next in
+    let long = length-take used piece in
+    let taken : d.taken (session_of new) ≡ d.taken (session_of old) + used = omega (arith, onward, long, within) in
+    let so = read_on d bytes piece h gave taken within (offset ∙ last) same stands in
+    let at : EndAt d (items ++ d.told n.item ∷ []) whole end (types_in d new) = record {
+      session = session_of new;
+      prefix = whole;
+      rest = [];
+      read = gave;
+      between = between;
+      whole = sym (append-nil whole);
+      end_is = sym offset ∙ so.offset_is;
+      types_are = refl;
+    } in
+    let T = ap (λ t. types t) (sym table) in
+    let one : AreUnfolded d handouts whole items (begin_of old) (handout id span content ∷ [])
+    (items ++ d.told n.item ∷ []) end =
+    one_more (d.told n.item) n.given none_unfolded at (subst (λ t. d.means t n.given (d.told n.item)) T n.means)
+    (subst (λ t. handouts t n.given span (handout id span content ∷ [])) T (n.handed span)) in
+    record {
+      given = handout id span content ∷ [];
+      appended = w;
+      all = items ++ d.told n.item ∷ [];
+      unfolded = subst (λ (e : ℕ). AreUnfolded d handouts whole items (begin_of old) (handout id span content ∷ [])
+          (items ++ d.told n.item ∷ []) e) (sym begin) one;
+      so = so;
+    }
+
 -- or refused, or short of memory
 pub steps_ill : {X I Told : Type 0} (d : Stepping X I Told) {handouts : Handouts I} {old new : Reader X I}
     {items : List Told} (T : Table) (bytes piece : List ℕ) (e : Fault)
@@ -216,6 +264,51 @@ keeps_ill d {handouts = handouts} {old = old} mid {new = new} {items = items} {s
     } in
     subst (λ (f : Fault). StepsBy d handouts old new items bytes piece (Err f)) (sym is)
     (goes_none w begin last)
+
+-- ---- a reader that took nothing
+stands_as : {X I Told : Type 0} (d : Stepping X I Told) (old mid new : Reader X I) (all : List Told) (bytes : List ℕ)
+    (e : Fault) → d.limits (session_of mid) ≡ d.limits (session_of old) → StandsSo d mid new all bytes (Err e)
+    → StandsSo d old new all bytes (Err e)
+stands_as d old mid new all bytes (fault.Refused R) same s =
+    subst (λ (L : Bounds). RefusesBehind d L all bytes R (types_in d new)) same s
+stands_as d old mid new all bytes fault.Read same s = absurd s
+stands_as d old mid new all bytes fault.Memory same s =
+    subst (λ (L : Bounds). GivesOfFirst d L all bytes) same s
+stands_as d old mid new all bytes fault.Failed same s = absurd s
+
+goes_weaker : {X I Told : Type 0} {d : Stepping X I Told} {handouts : Handouts I} {old new : Reader X I}
+    {items : List Told} {bytes : List ℕ} {P Q : List Told → Type 0} → ((all : List Told) → P all → Q all)
+    → GoesOn d handouts old new items bytes P → GoesOn d handouts old new items bytes Q
+goes_weaker f g = record {
+  given = g.given;
+  appended = g.appended;
+  all = g.all;
+  unfolded = g.unfolded;
+  so = f g.all g.so;
+}
+
+goes_from : {X I Told : Type 0} {d : Stepping X I Told} {handouts : Handouts I} {old mid new : Reader X I}
+    {items : List Told} {bytes : List ℕ} {P : List Told → Type 0} → StaysSo old mid
+    → GoesOn d handouts mid new items bytes P → GoesOn d handouts old new items bytes P
+goes_from {d = d} {handouts = handouts} {new = new} {items = items} {bytes = bytes} s g = record {
+  given = g.given;
+  appended = g.appended ∙ ap (λ (l : List Handout). l ++ g.given) s.waits;
+  all = g.all;
+  unfolded = subst (λ (n : ℕ). AreUnfolded d handouts bytes items n g.given g.all (begin_of new)) s.begin g.unfolded;
+  so = g.so;
+}
+
+pub stays_read : {X I Told : Type 0} (d : Stepping X I Told) {old new : Reader X I} {items : List Told}
+    {bytes : List ℕ} → StaysSo old new → HasReadTo d old items bytes → HasReadTo d new items bytes
+stays_read d s h = read_same d s.session s.offset h
+
+pub steps_from : {X I Told : Type 0} (d : Stepping X I Told) (handouts : Handouts I) (old mid new : Reader X I)
+    (items : List Told) (bytes piece : List ℕ) (r : Result ℕ Fault) → StaysSo old mid
+    → StepsBy d handouts mid new items bytes piece r → StepsBy d handouts old new items bytes piece r
+steps_from d handouts old mid new items bytes piece (Ok used) s g = goes_from s g
+steps_from d handouts old mid new items bytes piece (Err e) s g =
+    let same = ap (λ x. d.limits x) s.session in
+    goes_from s (goes_weaker (λ all p. stands_as d old mid new all (bytes ++ piece) e same p) g)
 
 -- at the fault that a `?` returns
 pub steps_at : {X I Told : Type 0} (d : Stepping X I Told) {handouts : Handouts I} {old new : Reader X I}
@@ -269,27 +362,6 @@ whole_piece d {handouts = handouts} {old = old} {new = new} {items = items} byte
     subst (λ (l : List ℕ). GoesOn d handouts old new items (bytes ++ l) (λ all. HasReadTo d new all (bytes ++ l)))
     (sym (g.whole ∙ append-nil g.prefix)) g.goes
 whole_piece d bytes piece {rest = b ∷ rest} none g = absurd (omega (arith, none))
-
-stands_as : {X I Told : Type 0} (d : Stepping X I Told) (old mid new : Reader X I) (all : List Told) (bytes : List ℕ)
-    (e : Fault) → d.limits (session_of mid) ≡ d.limits (session_of old) → StandsSo d mid new all bytes (Err e)
-    → StandsSo d old new all bytes (Err e)
-stands_as d old mid new all bytes (fault.Refused R) same s =
-    subst (λ (L : Bounds). RefusesBehind d L all bytes R (types_in d new)) same s
-stands_as d old mid new all bytes fault.Read same s = absurd s
-stands_as d old mid new all bytes fault.Memory same s =
-    subst (λ (L : Bounds). GivesOfFirst d L all bytes) same s
-stands_as d old mid new all bytes fault.Failed same s = absurd s
-
-goes_weaker : {X I Told : Type 0} {d : Stepping X I Told} {handouts : Handouts I} {old new : Reader X I}
-    {items : List Told} {bytes : List ℕ} {P Q : List Told → Type 0} → ((all : List Told) → P all → Q all)
-    → GoesOn d handouts old new items bytes P → GoesOn d handouts old new items bytes Q
-goes_weaker f g = record {
-  given = g.given;
-  appended = g.appended;
-  all = g.all;
-  unfolded = g.unfolded;
-  so = f g.all g.so;
-}
 
 pub stops_piece : {X I Told : Type 0} (d : Stepping X I Told) {handouts : Handouts I} {old mid new : Reader X I}
     {items : List Told} (bytes piece rest : List ℕ) (e : Fault)

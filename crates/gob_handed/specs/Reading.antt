@@ -6,11 +6,15 @@ use Rattle.gob_types.specs.Defined.{types}
 use Rattle.gob_types.specs.Table.{Table}
 use Rattle.gob_stream.specs.Bounds.{AreLimits, Bounds, deepest}
 use Rattle.gob_stream.specs.Grammar.{GivesIn, RefusesIn}
-use Rattle.gob_stream.specs.Stepping.{Stepping}
+use Rattle.gob_stream.specs.Item.{StreamItem}
+use Rattle.gob_stream.specs.Stepping.{IsNextBy, Stepping}
 use Rattle.gob_stream.specs.declared.fault.Fault.{Fault}
 use Rattle.gob_stream.specs.declared.fault.Fault.TheVariants as fault
 use Rattle.gob_stream.specs.declared.fault.Refusal.{Refusal}
+use Rattle.gob_types.specs.declared.id.TypeId.{TypeId}
+use Rattle.gob_handed.specs.Unfolded.{handout}
 use Rattle.gob_handed.specs.Waiting.{begin_of, session_of, types_in, waiting}
+use Rattle.gob_handed.specs.declared.handout.Content.{Content}
 use Rattle.gob_handed.specs.declared.reader.Reader.{Reader}
 use Rattle.gob_handed.specs.declared.handout.Span.{Span}
 use Rattle.gob_handed.specs.declared.handout.Handout.{Handout}
@@ -93,13 +97,34 @@ abbrev pub FeedsBy : {X I Told : Type 0} → Stepping X I Told → Handouts I �
 FeedsBy d handouts old new items bytes piece answer =
     GoesOn d handouts old new items (bytes ++ piece) (λ all. StandsSo d old new all (bytes ++ piece) answer)
 
+-- it took so many bytes of the piece
+abbrev pub TakesSome : {X I Told : Type 0} → Stepping X I Told → Handouts I → (old new : Reader X I)
+    → (items : List Told) → (bytes piece : List ℕ) → (used : ℕ) → Type 0
+TakesSome d handouts old new items bytes piece used =
+    GoesOn d handouts old new items (bytes ++ take used piece) (λ all. HasReadTo d new all (bytes ++ take used piece))
+
 -- what a step is answered, which takes some of the piece
 abbrev pub StepsBy : {X I Told : Type 0} → Stepping X I Told → Handouts I → (old new : Reader X I)
     → (items : List Told) → (bytes piece : List ℕ) → Result ℕ Fault → Type 0
-StepsBy d handouts old new items bytes piece (Ok used) =
-    GoesOn d handouts old new items (bytes ++ take used piece) (λ all. HasReadTo d new all (bytes ++ take used piece))
+StepsBy d handouts old new items bytes piece (Ok used) = TakesSome d handouts old new items bytes piece used
 StepsBy d handouts old new items bytes piece (Err e) =
     GoesOn d handouts old new items (bytes ++ piece) (λ all. StandsSo d old new all (bytes ++ piece) (Err e))
+
+-- nothing was taken
+pub record StaysSo {X I : Type 0} (old new : Reader X I) : Type 0 where
+  pub session : session_of new ≡ session_of old
+  pub offset : new.offset ≡ old.offset
+  pub begin : begin_of new ≡ begin_of old
+  pub waits : waiting new ≡ waiting old
+
+-- these bytes are the next item, a value of which this content of the type is handed out, and nothing else
+pub record IsHandedNext {X I Told : Type 0} (d : Stepping X I Told) (handouts : Handouts I) (s : X) (id : TypeId)
+    (content : Content) (z : List ℕ) : Type 0 where
+  pub item : StreamItem
+  pub next : IsNextBy d s item z
+  pub given : I
+  pub means : d.means (types (d.table s)) given (d.told item)
+  pub handed : (span : Span) → handouts (types (d.table s)) given span (handout id span content ∷ [])
 
 -- what is handed out of the item that ends there waits behind what waited
 pub record Keeps {X I Told : Type 0} (d : Stepping X I Told) (handouts : Handouts I) (old new : Reader X I)

@@ -7,22 +7,10 @@ ghost use Rattle.gob_handed.specs.Definition.{name_node, type_node, elem_node, i
 ghost use Rattle.gob_handed.specs.Definition.{kind_code, kind_number};
 ghost use Rattle.gob_handed.specs.Definition.{named_nodes, named_bytes, shape_nodes, shape_bytes};
 
+use crate::kinds::{ARRAY, LIST, MAP, OPAQUE, REFERENCE, STRUCT};
 use crate::room::RoomTaken;
 use gob_tape::FlatNode;
 use gob_types::{Field, Kind, Marshal, Shape, TypeId};
-
-// The kinds of nodes. The first four are those that parts of values have too.
-const LIST: u16 = 9;
-
-const MAP: u16 = 10;
-
-const STRUCT: u16 = 11;
-
-const OPAQUE: u16 = 12;
-
-const ARRAY: u16 = 13;
-
-const REFERENCE: u16 = 14;
 
 /// The place behind the definition of a type that is put here: a node of its kind and name, and one for each type that
 /// it names, in order: of an array or a slice the elements', of a map the keys' and the elements', of a struct each

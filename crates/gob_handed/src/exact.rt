@@ -1,7 +1,7 @@
 //! The items of the documented format, as they are handed out.
 
 use crate::handout::{Content, Handout, Span, push_handout};
-use crate::hands::Hands;
+use crate::hands::{Hands, WholeValue};
 use gob_num::Memory;
 use gob_read::Builder;
 use gob_stream::{Item, Session};
@@ -25,5 +25,9 @@ impl<B: Builder<Out = Tape>> Hands for Session<B> {
             Item::Define { id, .. } => push_handout(id, span, Content::Definition, out),
             Item::Put { id, value } => push_handout(id, span, Content::Tape(value), out),
         }
+    }
+
+    fn whole(&self, _alloc: Global, _piece: &[u8]) -> Option<WholeValue> {
+        None
     }
 }

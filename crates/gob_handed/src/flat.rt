@@ -11,23 +11,13 @@ ghost use Rattle.gob_json_writer.specs.Gaps.{AreGaps};
 ghost use Rattle.gob_handed.specs.ValueNodes.{PutsValue, PutsFillings, PutsHeld, behind, begun, text_node};
 ghost use Rattle.gob_handed.specs.Machine.Putting.{HoldsNil};
 
+use crate::kinds::{BYTES, HELD, NIL, OPAQUE, TEXT};
 use gob_go::{Filled, Filling};
 use gob_json_writer::{gaps_of, tape_of};
 use gob_num::Memory;
 use gob_tape::{FlatNode, Tape};
 use gob_types::{Table, TypeId};
 use std::alloc::Global;
-
-// The kinds of the nodes that are made here, or looked at. No part of a skeleton is an interface that holds a value.
-const BYTES: u16 = 5;
-
-const TEXT: u16 = 6;
-
-const NIL: u16 = 8;
-
-const OPAQUE: u16 = 12;
-
-const HELD: u16 = 15;
 
 const NO_NODE: FlatNode = FlatNode {
     first: 0,

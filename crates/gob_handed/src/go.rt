@@ -12,13 +12,18 @@ ghost use Rattle.gob_handed.specs.Unfolded.{AreGoHandouts};
 ghost use Rattle.gob_handed.specs.ValueNodes.{AreNodesOf};
 
 use crate::flat::{FlatValue, push_value};
+use crate::flat_visitor::flat_value;
 use crate::handout::{Content, Handout, Span, push_definitions, push_handout};
-use crate::hands::Hands;
+use crate::hands::{Hands, WholeValue};
 use gob_go::{Filled, GoItem, GoSession, push_inner_ids};
 use gob_json_writer::tape_of;
 use gob_num::Memory;
 use gob_types::{Table, TypeId};
 use std::alloc::Global;
+
+// The walk over a value that stands whole recurses as deep as this at the most, so that a call takes little of the
+// machine's stack. A deeper value is read part by part.
+const DEEPEST_WALK: u64 = 32;
 
 impl Hands for GoSession {
     ghost use Rattle.gob_handed.specs.Unfolded.{go_handouts};
@@ -40,6 +45,17 @@ impl Hands for GoSession {
                 Err(memory)
             }
         }
+    }
+
+    fn whole(&self, alloc: Global, piece: &[u8]) -> Option<WholeValue> {
+        let whole = self.whole_value(piece)?;
+        let depth = self.limits().depth().min(DEEPEST_WALK);
+        let value = flat_value(alloc, self.table(), whole.id, whole.body, depth)?;
+        Some(WholeValue {
+            id: whole.id,
+            used: whole.used,
+            content: Content::Filled(value),
+        })
     }
 }
 

@@ -15,6 +15,9 @@
 //! bytes    P o i n t X Y
 //! ```
 //!
+//! Where all that Go's encoder writes is read, a value that stands whole in a piece and holds no others goes from its
+//! bytes to nodes in one walk; any other goes part by part.
+//!
 //! The definitions that stand in a value are handed out in front of it. [`Reader::shape`] writes the nodes of one
 //! type's definition, at any time and for the types of descriptions too. An [`AnyReader`] is a reader of either
 //! grammar.
@@ -24,11 +27,13 @@ mod any_reader;
 mod definition;
 mod exact;
 mod flat;
+mod flat_visitor;
 mod go;
 mod handing;
 mod handout;
 mod hands;
 mod head;
+mod kinds;
 mod reader;
 mod room;
 
