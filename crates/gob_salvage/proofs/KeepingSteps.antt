@@ -1,7 +1,8 @@
 -- What is kept, item by item, and what is left out.
 use Rattle.std.proofs.Common.{◌≡◌, ℕ, ◌+◌, ◌-◌, ◌<◌, ◌≤◌, List, [], ◌∷◌, ◌++◌, length, take, drop}
 use Rattle.std.proofs.Common.{arith, refl, sym, ap, ◌∙◌, subst, append_assoc, length-append, length-drop}
-use Rattle.std.proofs.Common.{drop_of_length-le}
+use Rattle.std.proofs.Common.{drop_of_length-le, Option, IfSome}
+use Rattle.std.specs.List.{AllByRecursion}
 use Rattle.std.proofs.lemmas.List.{append-nil, drop-drop, length-take-le, take-append-drop, take_rest}
 use Rattle.gob_types.specs.declared.reason.Reason.TheVariants as reason
 use Rattle.gob_types.specs.Base.{base_table}
@@ -19,15 +20,72 @@ use Rattle.gob_go.proofs.FeedSteps.{rest_of}
 use Rattle.gob_go.proofs.GoReaderLaws.{table_between}
 use Rattle.gob_go.proofs.ItemsLaws.{item_ends, item_grown, last_of, one_more, one_reading}
 use Rattle.gob_salvage.specs.declared.gap.Gap.{Gap}
-use Rattle.gob_salvage.specs.Keeping.{GoesOn, HasKept, HasKeptWith, IsRefusedNext, KeepsMore}
+use Rattle.gob_salvage.specs.Keeping.{EndsTwice, GoesOn, HasKept, HasKeptWith, IsRefusedNext, IsTwice, KeepsMore}
 use Rattle.gob_salvage.specs.declared.keeping.Keeper.{Keeper}
 use Rattle.gob_stream.specs.declared.values.Passed.{Passed}
 use Rattle.gob_salvage.specs.Salvage.{Salvages, nothing_is_left, keeps, leaves_out, NoItemNext, IsSalvage}
+use Rattle.gob_salvage.specs.Salvage.{IsDefinedAgain, IsRepeated, StandsIn, TellsRepeated}
 use Rattle.gob_salvage.specs.Salvage.{RefusesHere, for_bytes, for_the_end}
 use Rattle.gob_salvage.specs.Taking.{HasReadAll, NotesItem, OneMore, ReadsOne, RefusesNext, noted, nothing_new}
 use Rattle.gob_salvage.proofs.PassingSteps.{between_still, none_passed, passed_items, passed_some}
 use Rattle.gob_salvage.proofs.SalvageLaws.{item_moved, items_moved, same_items}
 use Rattle.gob_salvage.proofs.TakingSteps.{between_stream, new_between}
+
+-- ---- definitions that are said again
+-- what stands in what is kept does so in more of it
+stands_still : {b out : List ℕ} (x : List ℕ) → StandsIn b out → StandsIn b (out ++ x)
+stands_still {b = b} x s = record {
+  before = s.before;
+  after = s.after ++ x;
+  whole = ap (λ o. o ++ x) s.whole ∙ append_assoc s.before (b ++ s.after) x
+      ∙ ap (λ o. s.before ++ o) (append_assoc b s.after x);
+}
+
+-- a piece of it does
+pub stands_there : (bytes : List ℕ) (begin size : ℕ) (piece : List ℕ) → piece ≡ take size (drop begin bytes)
+    → StandsIn piece bytes
+stands_there bytes begin size piece e =
+    let rest = drop begin bytes in record {
+      before = take begin bytes;
+      after = drop size rest;
+      whole = sym (take-append-drop begin bytes) ∙ ap (λ z. take begin bytes ++ z)
+          (sym (take-append-drop size rest) ∙ ap (λ y. y ++ drop size rest) (sym e));
+    }
+
+still_told : (bytes out x : List ℕ) (gaps : List Gap) → AllByRecursion (TellsRepeated bytes out) gaps
+    → AllByRecursion (TellsRepeated bytes (out ++ x)) gaps
+still_told bytes out x [] told = tt
+still_told bytes out x (g ∷ gaps) told = (
+  λ t. (let r = told.0 t in record {
+    id = r.id;
+    twice = r.twice;
+    again = record {
+      number = r.again.number;
+      type_at = r.again.type_at;
+      defines = r.again.defines;
+      stands = stands_still x r.again.stands;
+    };
+  }),
+  still_told bytes out x gaps told.1,
+)
+
+told_too : (bytes out : List ℕ) {g : Gap} (gaps : List Gap) → AllByRecursion (TellsRepeated bytes out) gaps
+    → TellsRepeated bytes out g → AllByRecursion (TellsRepeated bytes out) (gaps ++ g ∷ [])
+told_too bytes out [] told more = (more, tt)
+told_too bytes out (h ∷ gaps) told more = (told.0, told_too bytes out gaps told.1 more)
+
+-- the end that is known is that of the gap
+pub repeats : {bytes out : List ℕ} {known : Option ℕ} {next : ℕ} (g : Gap) → EndsTwice known g.reason
+    → (IsTwice g.reason → IfSome known (λ end. IsDefinedAgain bytes g.begin end out))
+    → IfSome known (λ end. next ≡ end) → g.end ≡ next → IsRepeated bytes out g
+repeats {bytes = bytes} {out = out} g e again same ends =
+    let here : IsDefinedAgain bytes g.begin e.end out = rw e.ends at (again e.twice) in
+    let end : g.end ≡ e.end = ends ∙ (rw e.ends at same) in
+    record {
+      id = e.twice.id;
+      twice = e.twice.is;
+      again = subst (λ n. IsDefinedAgain bytes g.begin n out) (sym end) here;
+    }
 
 -- ---- nothing yet
 only_base : {L : Bounds} {b : List ℕ} {T : Table} → FilledStream base_table L [] b T → T ≡ base_table
@@ -55,6 +113,7 @@ keep_start {s = s} {L = L} {out = out} {gaps = gaps} bytes a l none no_gaps smal
   counted = refl;
   few = omega arith;
   within = omega arith;
+  repeated = subst (λ g. AllByRecursion (TellsRepeated bytes out) g) (sym no_gaps) tt;
   on = λ T more rest others h.
       subst (λ (o : List ℕ). Salvages L base_table 0 0 bytes more (o ++ rest) (gaps ++ others) T) (sym none)
       (subst (λ (g : List Gap). Salvages L base_table 0 0 bytes more rest (g ++ others) T) (sym no_gaps)
@@ -163,6 +222,8 @@ keep_on {s = s} {s' = s'} {L = L} {at = at} {count = count} {used = used} {out =
       counted = omega (arith, length-append h.items (m.item ∷ []));
       few = omega arith;
       within = here;
+      repeated = subst (λ o. AllByRecursion (TellsRepeated bytes o) gaps) (sym is)
+          (still_told bytes out b gaps h.repeated);
       on = λ T more rest others S.
           subst (λ (i : List FilledItem). Salvages L base_table 0 0 bytes i (out' ++ rest) (gaps ++ others) T)
           (sym (append_assoc h.items (m.item ∷ []) more))
@@ -219,10 +280,10 @@ pub leave_on : {s s' : SessionState} {L : Bounds} {at ahead next count : ℕ} {o
     {R : Refusal} (bytes : List ℕ) (g : Gap) → HasKept L s bytes at ahead count out defs gaps
     → RefusesNext s (drop at bytes) R → at < next → next ≤ length bytes → HasReadAll s' defs
     → within_trees (limits_of s') ≡ L → g.begin ≡ at → g.end ≡ next → g.reason ≡ R.reason
-    → g.place ≡ counts_up R.place ahead
+    → g.place ≡ counts_up R.place ahead → TellsRepeated bytes out g
     → HasKept L s' bytes next (next - length defs) count out defs (gaps ++ g ∷ [])
 leave_on {s = s} {s' = s'} {L = L} {at = at} {ahead = ahead} {next = next} {count = count} {out = out} {defs = defs}
-    {gaps = gaps} {R = R} bytes g h f some within r limits begins ends why place =
+    {gaps = gaps} {R = R} bytes g h f some within r limits begins ends why place told =
     let d = take (next - at) (drop at bytes) in
     let n = h.few in let k = h.counted in let w = h.within in let o = h.few_out in let q = h.few_read in
     let fd = h.few_defs in
@@ -261,6 +322,7 @@ leave_on {s = s} {s' = s'} {L = L} {at = at} {ahead = ahead} {next = next} {coun
       counted = h.counted;
       few = omega arith;
       within = within;
+      repeated = told_too bytes out gaps h.repeated told;
       on = λ T more rest others S.
           subst (λ (g : List Gap). Salvages L base_table 0 0 bytes (h.items ++ more) (out ++ rest) g T)
           (sym (append_assoc gaps (g ∷ []) others))
@@ -296,6 +358,7 @@ keep_end {s = s} {L = L} {at = at} {out = out} {gaps = gaps} bytes h l =
           (subst (λ (z : List ℕ). Salvages L (types_of s) (length out) at z [] [] [] (types_of s))
           (sym (drop_of_length-le bytes l)) nothing_is_left))));
       counted = h.counted;
+      repeated = h.repeated;
     }
 
 -- ---- values that are passed
@@ -357,6 +420,8 @@ pass_on {s = s} {s' = s'} {L = L} {at = at} {count = count} {used = used} {out =
       counted = omega (arith, length-append h.items p.given);
       few = omega arith;
       within = here;
+      repeated = subst (λ o. AllByRecursion (TellsRepeated bytes o) gaps) (sym is)
+          (still_told bytes out b gaps h.repeated);
       on = λ T others rest gs S.
           subst (λ (i : List FilledItem). Salvages L base_table 0 0 bytes i (out' ++ rest) (gaps ++ gs) T)
           (sym (append_assoc h.items p.given others))
@@ -401,6 +466,7 @@ still_kept {s = s} {s' = s'} {L = L} {at = at} {out = out} {defs = defs} {gaps =
       counted = h.counted;
       few = h.few;
       within = h.within;
+      repeated = h.repeated;
       on = λ T more rest others S. h.on T more rest others
           (subst (λ (U : Table). Salvages L U (length out) at (drop at bytes) more rest others T)
           (ap (λ d. types d) table) S);
@@ -453,13 +519,16 @@ pub gap_left : {L : Bounds} {k k' : Keeper} {next : ℕ} {R : Refusal} (bytes : 
     → (h : IsRefusedNext L k bytes R) → k.at < next → next ≤ length bytes
     → HasReadAll k'.session k.defining.items → within_trees (limits_of k'.session) ≡ L
     → k'.kept.gaps.items ≡ k.kept.gaps.items ++ g ∷ [] → g.begin ≡ k.at → g.end ≡ next → g.reason ≡ R.reason
-    → g.place ≡ counts_up R.place k.ahead → k'.at ≡ next → k'.ahead ≡ next - length k.defining.items
+    → g.place ≡ counts_up R.place k.ahead → TellsRepeated bytes k.kept.bytes.items g → k'.at ≡ next
+    → k'.ahead ≡ next - length k.defining.items
     → k'.kept.items ≡ k.kept.items → k'.kept.bytes ≡ k.kept.bytes → k'.defining ≡ k.defining → GoesOn L k k' bytes
-gap_left {L = L} {k' = k'} bytes g h some within read limits gaps begins ends why place at ahead items out defining =
+gap_left {L = L} {k' = k'} bytes g h some within read limits gaps begins ends why place told at ahead items out
+    defining =
     record {
       keeping = subst (λ (o : List ℕ). HasKept L k'.session bytes k'.at k'.ahead k'.kept.items o k'.defining.items
           k'.kept.gaps.items) (sym (ap (λ v. v.items) out))
-          (stands_so (leave_on bytes g h.kept h.refused some within read limits begins ends why place) refl at ahead
+          (stands_so (leave_on bytes g h.kept h.refused some within read limits begins ends why place told) refl at
+          ahead
           items (ap (λ v. v.items) defining) gaps);
       further = omega arith;
     }

@@ -1,6 +1,6 @@
 -- Lines that are put together, and the text that they are.
-use Rattle.std.proofs.Common.{◌≡◌, ℕ, ◌+◌, ◌-◌, ◌^◌, ◌<◌, ◌≤◌, min, ◌==◌, false, List, [], ◌∷◌, ◌++◌, length, take, drop}
-use Rattle.std.proofs.Common.{refl, sym, ap, ◌∙◌, arith, Result, Ok, Err, IfOk, append_assoc, codes}
+use Rattle.std.proofs.Common.{◌≡◌, ℕ, ◌-◌, ◌^◌, ◌≤◌, min, ◌==◌, false, List, [], ◌∷◌, ◌++◌, length, take, drop}
+use Rattle.std.proofs.Common.{sym, ap, ◌∙◌, arith, Result, Ok, Err, IfOk, append_assoc, codes}
 use Rattle.std.proofs.lemmas.Bool.Decides.{nat_tests}
 use Rattle.std.proofs.lemmas.Grind.{common_steps}
 use Rattle.std.proofs.lemmas.List.{append-nil}
@@ -38,12 +38,13 @@ report_as kept told text size i more e is goes past rest =
     let first : told ≡ take 20 gaps = is ∙ twenty gaps size e in
     let none : drop i told ≡ [] = grind (arith, common_steps) in
     let all : text ≡ gap_texts (take 20 gaps) = sym (append-nil text) ∙ ap (λ l. text ++ gap_texts l) (sym none) ∙ goes
-      ∙ ap gap_texts first in
+    ∙ ap gap_texts first in
     let count : more ≡ length gaps - 20 = rest ∙ beyond gaps size e told first in
     rw (all, count) (simp append_assoc)
   where
     twenty : (gaps : List Gap) (size : ℕ) → size ≡ length gaps → take (min size 20) gaps ≡ take 20 gaps
     twenty gaps size e = grind (arith, common_steps)
+
     beyond : (gaps : List Gap) (size : ℕ) → size ≡ length gaps → (told : List Gap) → told ≡ take 20 gaps
         → size - length told ≡ length gaps - 20
     beyond gaps size e told is = grind (arith, common_steps)

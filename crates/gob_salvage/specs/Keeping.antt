@@ -1,5 +1,10 @@
 -- Where a run stands that keeps what isn't damaged. For private clauses.
 use Rattle.std.specs.Prelude.{◌≡◌, ℕ, ◌+◌, ◌<◌, ◌≤◌, List, ◌++◌, length, drop}
+use Rattle.std.specs.Prelude.{Option, Some}
+use Rattle.std.specs.List.{AllByRecursion}
+use Rattle.gob_types.specs.declared.id.TypeId.{TypeId}
+use Rattle.gob_types.specs.declared.reason.Reason.{Reason}
+use Rattle.gob_types.specs.declared.reason.Reason.TheVariants as reason
 use Rattle.gob_types.specs.Base.{base_table}
 use Rattle.gob_types.specs.Table.{Table}
 use Rattle.gob_stream.specs.Bounds.{Bounds, within_trees}
@@ -10,7 +15,7 @@ use Rattle.gob_go.specs.Calls.Session.{HasRead, IsBetweenItems, limits_of, types
 use Rattle.gob_go.specs.Machine.SessionState.{SessionState}
 use Rattle.gob_salvage.specs.declared.gap.Gap.{Gap}
 use Rattle.gob_salvage.specs.declared.keeping.Keeper.{Keeper}
-use Rattle.gob_salvage.specs.Salvage.{Salvages}
+use Rattle.gob_salvage.specs.Salvage.{Salvages, TellsRepeated}
 use Rattle.gob_salvage.specs.Taking.{RefusesNext}
 
 -- so much was kept of the bytes up to the offset; what is kept of the others goes on there. The session has read some
@@ -34,6 +39,7 @@ pub record HasKept (L : Bounds) (s : SessionState) (bytes : List ℕ) (at ahead 
   pub counted : count ≡ length items
   pub few : count ≤ at
   pub within : at ≤ length bytes
+  pub repeated : AllByRecursion (TellsRepeated bytes out) gaps
   pub on : (T : Table) (more : List FilledItem) (rest : List ℕ) (others : List Gap)
       → Salvages L (types_of s) (length out) at (drop at bytes) more rest others T
       → Salvages L base_table 0 0 bytes (items ++ more) (out ++ rest) (gaps ++ others) T
@@ -67,3 +73,14 @@ pub record KeepsMore (k k' : Keeper) (passed : Passed) (z : List ℕ) : Type 0 w
   pub defining : k'.defining ≡ k.defining
   pub gaps : k'.kept.gaps ≡ k.kept.gaps
   pub ahead : k'.ahead ≡ k.ahead
+
+-- the refusal is of a type that is defined twice
+pub record IsTwice (why : Reason) : Type 0 where
+  pub id : TypeId
+  pub is : why ≡ reason.DefinedTwice id
+
+-- and where the item ends is known
+pub record EndsTwice (known : Option ℕ) (why : Reason) : Type 0 where
+  pub end : ℕ
+  pub ends : known ≡ Some end
+  pub twice : IsTwice why

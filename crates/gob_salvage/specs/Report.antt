@@ -1,6 +1,6 @@
 -- The lines that tell what was left out, and at last how much was kept. (docs/FORMAT.md, What is kept of damaged bytes:
 -- this project's own.)
-use Rattle.std.specs.Prelude.{ℕ, ◌-◌, ◌^◌, ◌==◌, nat_lt, Bool, true, false, if◌then◌else◌, List, [], ◌∷◌, ◌++◌, length}
+use Rattle.std.specs.Prelude.{ℕ, ◌-◌, ◌^◌, ◌==◌, Bool, true, if◌then◌else◌, List, [], ◌∷◌, ◌++◌, length}
 use Rattle.std.specs.Prelude.{take, min, codes, Option, Some, None}
 use Rattle.std.specs.Fmt.{decimal}
 use Rattle.gob_types.specs.Reasons.{reason_text}

@@ -1,8 +1,12 @@
 -- What is kept of bytes in which some are damaged: items that stand whole one behind another, under the definitions of
 -- those before them. Other bytes are left out, and only from a place on where no item stands that continues what was
 -- kept. (docs/FORMAT.md, What is kept of damaged bytes: this project's own.)
-use Rattle.std.specs.Prelude.{◌≡◌, ◌≢◌, ℕ, ◌+◌, ◌-◌, ◌<◌, ◌≤◌, List, [], ◌∷◌, ◌++◌, length, Bool, not}
-use Rattle.std.specs.List.{list_any, sum_by}
+use Rattle.std.specs.Prelude.{◌≡◌, ◌≢◌, ℕ, ℤ, pos, ◌<ℤ◌, ◌+◌, ◌-◌, ◌<◌, ◌≤◌, List, [], ◌∷◌, ◌++◌, length, take, drop}
+use Rattle.std.specs.Prelude.{Bool, true, not, slice_range}
+use Rattle.std.specs.List.{AllByRecursion, list_any, sum_by}
+use Rattle.gob_num.specs.Place.{IsUnsignedAt}
+use Rattle.gob_num.specs.Signed.{IsSigned}
+use Rattle.gob_types.specs.declared.id.TypeId.{TypeId}
 use Rattle.gob_types.specs.Base.{base_table}
 use Rattle.gob_types.specs.Table.{Table}
 use Rattle.gob_types.specs.declared.reason.Reason.TheVariants as reason
@@ -50,12 +54,46 @@ pub data Salvages (L : Bounds) : Table → (kept offset : ℕ) → (bytes : List
       → g.begin ≡ offset → g.end ≡ on → on ≡ offset + length d → Salvages L T kept on z items out gaps V
       → Salvages L T kept offset (d ++ z) items out (g ∷ gaps) V
 
+-- the bytes stand in what is kept
+pub record StandsIn (b out : List ℕ) : Type 0 where
+  pub before : List ℕ
+  pub after : List ℕ
+  pub whole : out ≡ before ++ (b ++ after)
+
+-- at the place stands a count, and behind it the number of a type
+pub record HasTypeAt (bytes : List ℕ) (place : ℕ) (number : ℤ) : Type 0 where
+  pub count : ℕ
+  pub head : ℕ
+  pub counts : IsUnsignedAt count bytes place head
+  pub end : ℕ
+  pub order : head < end
+  pub inside : end ≤ length bytes
+  pub spelled : IsSigned number (take (end - head) (drop head bytes))
+
+-- the bytes from one place up to the other define a type, as their number says, and stand in what is kept
+pub record IsDefinedAgain (bytes : List ℕ) (begin end : ℕ) (out : List ℕ) : Type 0 where
+  pub number : ℤ
+  pub type_at : HasTypeAt bytes begin number
+  pub defines : number <ℤ pos 0
+  pub stands : StandsIn (slice_range bytes begin end) out
+
+-- a gap is told to be a definition that is kept already only where it is one: refused since the type is defined, and
+-- kept in the very same bytes
+pub record IsRepeated (bytes out : List ℕ) (g : Gap) : Type 0 where
+  pub id : TypeId
+  pub twice : g.reason ≡ reason.DefinedTwice id
+  pub again : IsDefinedAgain bytes g.begin g.end out
+
+abbrev pub TellsRepeated : (bytes out : List ℕ) → Gap → Type 0
+TellsRepeated bytes out g = g.is_repeated ≡ true → IsRepeated bytes out g
+
 -- so many items are kept of all the bytes
 pub record IsSalvage (L : Bounds) (bytes : List ℕ) (count : ℕ) (out : List ℕ) (gaps : List Gap) : Type 0 where
   pub items : List FilledItem
   pub table : Table
   pub salvages : Salvages L base_table 0 0 bytes items out gaps table
   pub counted : count ≡ length items
+  pub repeated : AllByRecursion (TellsRepeated bytes out) gaps
 
 -- ---- what is told of the gaps
 -- how many bytes one leaves out

@@ -1,6 +1,7 @@
 //! What may be an item, by its count alone.
 
-ghost use Rattle.std.specs.Prelude.{◌<◌, ◌≤◌, length, IfSome};
+ghost use Rattle.std.specs.Prelude.{◌<◌, ◌≤◌, length, IfSome, IsTrue};
+ghost use Rattle.gob_salvage.specs.Salvage.{HasTypeAt, StandsIn};
 
 use gob_num::{to_signed, uint_at};
 use gob_stream::Limits;
@@ -18,24 +19,32 @@ pub(crate) fn frame_end(limits: &Limits, bytes: &[u8], at: usize) -> Option<usiz
 }
 
 /// The type number of what may be an item at the place: below 0 where a type is defined.
-pub(crate) fn number_at(limits: &Limits, bytes: &[u8], at: usize) -> Option<i64> {
+pub(crate) fn number_at(limits: &Limits, bytes: &[u8], at: usize) -> Option<i64>
+    ensures { IfSome result (λ number. HasTypeAt bytes.now at number) }
+{
     let _end = frame_end(limits, bytes, at)?;
     let (_, head) = uint_at(bytes, at)?;
     let (number, _) = uint_at(bytes, head)?;
     Some(to_signed(number))
 }
 
-/// Whether one of these items is these bytes.
-pub(crate) fn has_item(limits: &Limits, items: &[u8], item: &[u8]) -> bool {
-    let mut at = 0;
-    'items: for _ in 0..items.len() {
-        let Some(end) = frame_end(limits, items, at) else {
-            return false;
-        };
-        if items.get(at..end) == Some(item) {
-            return true;
+/// Where bytes stand in others.
+#[derive(Clone, Copy)]
+pub(crate) struct Place {
+    pub begin: usize,
+    pub end: usize,
+}
+
+/// Whether the bytes have this piece at one of the places.
+pub(crate) fn has_piece(bytes: &[u8], places: &[Place], piece: &[u8]) -> bool
+    ensures { IsTrue result → StandsIn piece.now bytes.now }
+{
+    for place in places {
+        if let Some(found) = bytes.get(place.begin..place.end) {
+            if found == piece {
+                return true;
+            }
         }
-        at = end;
     }
     false
 }

@@ -1,13 +1,13 @@
 //! What isn't damaged.
 
-ghost use Rattle.std.specs.Prelude.{◌+◌, ◌^◌, ◌<◌, ◌≤◌, length, take, IfOk, IfSome, OnOk};
+ghost use Rattle.std.specs.Prelude.{◌+◌, ◌^◌, ◌<◌, ◌≤◌, length, take, IfOk, IfSome, IsTrue, OnOk};
 ghost use Rattle.gob_stream.specs.Bounds.{Bounds, within_trees};
-ghost use Rattle.gob_salvage.specs.Keeping.{GoesOn, IsKeeping, IsRefusedNext, KeepsMore};
-ghost use Rattle.gob_salvage.specs.Salvage.{IsSalvage};
+ghost use Rattle.gob_salvage.specs.Keeping.{EndsTwice, GoesOn, IsKeeping, IsRefusedNext, IsTwice, KeepsMore};
+ghost use Rattle.gob_salvage.specs.Salvage.{IsDefinedAgain, IsSalvage};
 ghost use Rattle.gob_salvage.specs.Taking.{NotesItem};
 
 use crate::again::read_again;
-use crate::frame::{frame_end, has_item};
+use crate::frame::{Place, frame_end, has_piece, number_at};
 use crate::gap::Gap;
 use crate::item::take_item;
 use crate::search::Search;
@@ -58,6 +58,8 @@ struct Keeper {
     session: GoSession,
     // Those of these items that define types.
     defining: Vec<u8>,
+    // Where those stand in what is kept.
+    defined: Vec<Place>,
     kept: Salvaged,
     // The offset of the first byte that is neither kept nor left out.
     at: usize,
@@ -93,6 +95,7 @@ impl Keeper {
         Ok(Keeper {
             session,
             defining: Vec::new(alloc),
+            defined: Vec::new(alloc),
             kept: Salvaged {
                 items: 0,
                 bytes: Vec::new(alloc),
@@ -132,6 +135,9 @@ impl Keeper {
         match take_item(alloc, &mut self.session, piece) {
             Ok(used) => {
                 let count = self.session.table().count();
+                let begin = self.kept.bytes.len();
+                let end = begin.saturating_add(used);
+                note_place(&mut self.defined, known, count, Place { begin, end })?;
                 note(&mut self.defining, known, count, &piece[..used])?;
                 self.keep(piece, Passed { items: 1, used })
             }
@@ -171,7 +177,7 @@ impl Keeper {
             end: next as u64,
             reason: refusal.reason,
             place: refusal.place.saturating_add(self.ahead as u64),
-            is_repeated: self.in_step && matches!(refusal.reason, Reason::DefinedTwice(_)),
+            is_repeated: ends_twice(alone, refusal.reason),
         })?;
         // What is read again is looked at in vain too, and a definition takes longer than a value.
         self.search.spend(self.defining.len().saturating_mul(8));
@@ -186,18 +192,64 @@ impl Keeper {
     fn end_alone(&self, limits: &Limits, reason: Reason, bytes: &[u8]) -> Option<usize>
         ensures behind { IfSome result (λ end. self.now.at < end) }
         ensures within { IfSome result (λ end. end ≤ length bytes.now) }
+        ensures again { IsTwice reason → IfSome result (λ end.
+            IsDefinedAgain bytes.now self.now.at end self.now.kept.bytes.items) }
     {
         if !self.in_step || self.search.is_spent() {
             return None;
         }
         let end = frame_end(limits, bytes, self.at)?;
-        let is_alone = match reason {
-            Reason::UndefinedType(id) => id.0 >= 64,
-            Reason::DefinedTwice(_) => has_item(limits, &self.defining, &bytes[self.at..end]),
-            _ => false,
-        };
-        if is_alone { Some(end) } else { None }
+        if !self.is_alone(limits, reason, bytes, end) {
+            return None;
+        }
+        Some(end)
     }
+
+    // Whether the refused item is such a value or such a definition.
+    fn is_alone(&self, limits: &Limits, reason: Reason, bytes: &[u8], end: usize) -> bool
+        requires order { self.now.at ≤ end }
+        requires inside { end ≤ length bytes.now }
+        ensures { IsTrue result → IsTwice reason
+            → IsDefinedAgain bytes.now self.now.at end self.now.kept.bytes.items }
+    {
+        match reason {
+            Reason::UndefinedType(id) => id.0 >= 64,
+            Reason::DefinedTwice(_) => self.defines_again(limits, bytes, end),
+            _ => false,
+        }
+    }
+
+    // Whether it defines a type, and is kept already.
+    fn defines_again(&self, limits: &Limits, bytes: &[u8], end: usize) -> bool
+        requires order { self.now.at ≤ end }
+        requires inside { end ≤ length bytes.now }
+        ensures { IsTrue result → IsDefinedAgain bytes.now self.now.at end self.now.kept.bytes.items }
+    {
+        let Some(number) = number_at(limits, bytes, self.at) else {
+            return false;
+        };
+        number < 0 && has_piece(&self.kept.bytes, &self.defined, &bytes[self.at..end])
+    }
+}
+
+// Appends the place of the item in what is kept, where it has defined types.
+fn note_place(
+    defined: &mut Vec<Place>,
+    before: u64,
+    behind: u64,
+    place: Place,
+) -> Result<(), Memory> {
+    if behind != before {
+        defined.push(place)?;
+    }
+    Ok(())
+}
+
+// Whether what is refused so has a known end, and is a type that is defined twice.
+fn ends_twice(known: Option<usize>, reason: Reason) -> bool
+    ensures { IsTrue result → EndsTwice known reason }
+{
+    matches!((known, reason), (Some(_), Reason::DefinedTwice(_)))
 }
 
 // Appends the item where it has defined types, of which there are so many before and behind it.

@@ -2,7 +2,8 @@
 
 ghost use Rattle.std.specs.Prelude.{◌≡◌, IfOk};
 ghost use Rattle.std.specs.String.{string_bytes};
-ghost use Rattle.gob_salvage.specs.Report.{gap_text, left_text, more_text, plural, repeated_id, report_text, total_text};
+ghost use Rattle.gob_salvage.specs.Report.{gap_text, left_text, more_text, plural, repeated_id, report_text};
+ghost use Rattle.gob_salvage.specs.Report.{total_text};
 ghost use Rattle.gob_salvage.specs.Report.{why_text};
 
 use crate::gap::Gap;

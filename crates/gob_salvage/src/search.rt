@@ -1,7 +1,7 @@
 //! Where items go on behind one that is refused. That is found by evidence: values of known types that stand whole one
 //! behind another.
 
-ghost use Rattle.std.specs.Prelude.{◌+◌, ◌^◌, ◌<◌, ◌≤◌, length, IfOk, IfSome};
+ghost use Rattle.std.specs.Prelude.{◌≡◌, ◌+◌, ◌^◌, ◌<◌, ◌≤◌, length, IfOk, IfSome};
 ghost use Rattle.gob_types.specs.Defined.{types};
 ghost use Rattle.gob_types.specs.Ready.{IsReady};
 
@@ -99,6 +99,7 @@ impl Search {
         requires more { at < length bytes.now }
         requires behind { IfSome known (λ end. at < end) }
         requires within { IfSome known (λ end. end ≤ length bytes.now) }
+        ensures known { IfSome known (λ end. IfOk result (λ next. next ≡ end)) }
         ensures behind { IfOk result (λ next. at < next) }
         ensures within { IfOk result (λ next. next ≤ length bytes.now) }
     {

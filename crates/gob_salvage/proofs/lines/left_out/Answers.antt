@@ -1,5 +1,5 @@
 -- Of some gaps the bytes and the places are counted.
-use Rattle.std.proofs.Common.{◌∙◌, refl}
+use Rattle.std.proofs.Common.{◌∙◌}
 use Rattle.std.specs.String.{string_bytes}
 use Rattle.gob_salvage.proofs.ReportLaws.{left_as, says_so}
 use Rattle.gob_salvage.proofs.lines.left_out.Goals as goal

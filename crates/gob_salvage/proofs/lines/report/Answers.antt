@@ -12,8 +12,14 @@ returns c =
     c.in_ok-push_str-2.ensures.bytes in
     let total : string_bytes c.push_str-3.new.self ≡ string_bytes c.push_str-2.new.self ++ c.as_str-3.result.now =
     c.in_ok-push_str-3.ensures.bytes in
-    rw (total, more, c.as_str-2.ensures.value, c.as_str-3.ensures.value, c.in_ok-more_line.ensures,
-    c.in_ok-total_line.ensures)
+    rw (
+      total,
+      more,
+      c.as_str-2.ensures.value,
+      c.as_str-3.ensures.value,
+      c.in_ok-more_line.ensures,
+      c.in_ok-total_line.ensures,
+    )
     (report_as c.args.kept.now told (string_bytes c.loop-gap.text) c.len.result c.loop-gap.gap-index
     (c.len-2.result - length told) (c.len.ensures ∙ gaps.ok.0)
     (ap (λ l. take c.min.result l) c.deref.ensures.value ∙ ap (λ n. take n gaps.items) c.min.ensures)

@@ -5,5 +5,9 @@ use Rattle.gob_salvage.proofs.ReportLaws.{says_so}
 use Rattle.gob_salvage.proofs.lines.total_line.Goals as goal
 
 pub returns : goal.returns
-returns c = says_so string_bytes c.format.result _ _ (rw (c.in_ok-left.ensures, c.plural-bytes_s.ensures,
-    c.plural-items_s.ensures, c.len.ensures ∙ c.args.kept.now.bytes.ok.0) (simp append_assoc)) c.format.ensures.ok
+returns c = says_so string_bytes c.format.result _ _ (rw (
+  c.in_ok-left.ensures,
+  c.plural-bytes_s.ensures,
+  c.plural-items_s.ensures,
+  c.len.ensures ∙ c.args.kept.now.bytes.ok.0,
+) (simp append_assoc)) c.format.ensures.ok
