@@ -175,6 +175,13 @@ STORE(i64_store8, u8, u64)
 STORE(i64_store16, u16, u64)
 STORE(i64_store32, u32, u64)
 
+/* The float of these 64 bits. */
+OPERATION f64 f64_reinterpret_i64(u64 bits) {
+    f64 number;
+    memcpy(&number, &bits, sizeof number);
+    return number;
+}
+
 #define TRAP(why) (trap(), 0)
 #define UNREACHABLE trap()
 #define FUNC_PROLOGUE
