@@ -239,7 +239,7 @@ fn note_place(
     behind: u64,
     place: Place,
 ) -> Result<(), Memory> {
-    if behind != before {
+    if before < behind {
         defined.push(place)?;
     }
     Ok(())
