@@ -15,7 +15,7 @@ pub(crate) struct Row {
     pub is_damaged: bool,
 }
 
-pub(crate) const ROWS: [Row; 14] = [
+pub(crate) const ROWS: [Row; 15] = [
     Row {
         what: "no bytes",
         bytes: "",
@@ -76,6 +76,24 @@ gob: kept 2 items, 40 bytes; left out 4 bytes in 1 place",
         told: "gob: left out 32 bytes, 40 to 71: type 65 is defined again, in the same way
 gob: kept 3 items, 48 bytes; left out 32 bytes in 1 place",
         is_damaged: false,
+    },
+    Row {
+        what: "a value that defines a type within itself, again",
+        bytes: "57 10 00 0d 2a 69 6e 74 65 72 66 61 63 65 20 7b 7d 10 45 00 0d 2a 69 6e 74 65 72 66 \
+            61 63 65 20 7b 7d 10 2b 00 0a 6d 61 69 6e 2e 50 6f 69 6e 74 ff 81 03 01 01 05 50 6f \
+            69 6e 74 01 ff 82 00 01 02 01 01 58 01 04 00 01 01 59 01 04 00 00 00 08 ff 82 05 01 \
+            02 01 04 00 57 10 00 0d 2a 69 6e 74 65 72 66 61 63 65 20 7b 7d 10 45 00 0d 2a 69 6e \
+            74 65 72 66 61 63 65 20 7b 7d 10 2b 00 0a 6d 61 69 6e 2e 50 6f 69 6e 74 ff 81 03 01 \
+            01 05 50 6f 69 6e 74 01 ff 82 00 01 02 01 01 58 01 04 00 01 01 59 01 04 00 00 00 08 \
+            ff 82 05 01 02 01 04 00",
+        items: 1,
+        kept: "57 10 00 0d 2a 69 6e 74 65 72 66 61 63 65 20 7b 7d 10 45 00 0d 2a 69 6e 74 65 72 66 \
+            61 63 65 20 7b 7d 10 2b 00 0a 6d 61 69 6e 2e 50 6f 69 6e 74 ff 81 03 01 01 05 50 6f \
+            69 6e 74 01 ff 82 00 01 02 01 01 58 01 04 00 01 01 59 01 04 00 00 00 08 ff 82 05 01 \
+            02 01 04 00",
+        told: "gob: left out 88 bytes, 88 to 175: DefinedTwice(65) at 136
+gob: kept 1 item, 88 bytes; left out 88 bytes in 1 place",
+        is_damaged: true,
     },
     Row {
         what: "another definition of the same type",
