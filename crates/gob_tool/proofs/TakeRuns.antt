@@ -1,6 +1,6 @@
 -- How a run that receives values goes on from item to item, and how it ends.
-use Rattle.std.proofs.Common.{◌≡◌, ℕ, arith, List, [], ◌∷◌, ◌++◌, take, Option}
-use Rattle.std.proofs.Common.{Result, Ok, Err, ◌∙◌, sym, subst, refl, append-nil, inl, inr}
+use Rattle.std.proofs.Common.{Some, ◌≡◌, ℕ, arith, List, [], ◌∷◌, ◌++◌, Option}
+use Rattle.std.proofs.Common.{ap, append_assoc, Result, Ok, Err, ◌∙◌, sym, subst, refl, append-nil, inl, inr}
 use Rattle.std.specs.Io.KnownBytes.{Appends, Keeps}
 use Rattle.std.proofs.KnownBytes.{Appends-kept}
 use Rattle.gob_types.specs.Base.{base_table}
@@ -17,10 +17,10 @@ use Rattle.gob_value.specs.Tree.{Tree}
 use Rattle.gob_value.specs.Within.{FitsWithin}
 use Rattle.gob_value.specs.declared.value.Value.{Value}
 use Rattle.gob_stream.specs.Body.{value as of_value}
-use Rattle.gob_stream.specs.Bounds.{Bounds}
-use Rattle.gob_stream.specs.Calls.Session.{HasRead, limits_of, types_of}
-use Rattle.gob_stream.specs.Item.{StreamItem, mean_more, mean_none, means_definition, means_value, puts}
-use Rattle.gob_stream.specs.Stream.{AreItems, and_then, counted, no_more}
+use Rattle.gob_stream.specs.Bounds.{Bounds, within_trees}
+use Rattle.gob_stream.specs.Calls.Session.{limits_of, types_of}
+use Rattle.gob_stream.specs.Item.{StreamItem, defines, mean_more, mean_none, means_definition, means_value, puts}
+use Rattle.gob_stream.specs.Stream.{counted, IsItem, Stream}
 use Rattle.gob_stream.specs.declared.item.Item as declared
 use Rattle.gob_stream.specs.declared.item.Item.TheVariants as variant
 use Rattle.gob_stream.proofs.PublicLaws.{views_meant}
@@ -35,7 +35,7 @@ use Rattle.gob_stream.specs.declared.session.Step.{Step}
 use Rattle.gob_tool.specs.Texts.{AnswersOrStops, answers, stops_at, HaveTexts, no_texts, texts_then, OfTexts}
 use Rattle.gob_tool.specs.Texts.{from_item, from_value}
 use Rattle.gob_tool.proofs.ShowLaws.{begins_first, meant, same_behind}
-use Rattle.gob_tool.proofs.TextLaws.{ended_begins, runs_as, runs_begun}
+use Rattle.gob_tool.proofs.TextLaws.{begun, ended_begins, runs_as, runs_begun}
 use Rattle.gob_tool.specs.Ending.{CountsOnlyWrites, EndsRun, ends_so, flush_fails}
 use Rattle.gob_tool.specs.Line.{line}
 use Rattle.gob_tool.specs.Taking.{AreReceived, clashes, CountsTakeReads, HasTakenItems, no_item, Receiving, receives}
@@ -45,10 +45,14 @@ use Rattle.gob_tool.specs.Machine.Lines.{Trees}
 use Rattle.gob_tool.specs.Machine.Receiver.{Clashes, clashes_with, IsClash, IsReceived, KeepsKnown}
 use Rattle.gob_tool.specs.Machine.Receiver.{ReceivesNone, StaysKnown}
 use Rattle.gob_tool.specs.Showing.{AppendsPrefix, CountsReadFaults}
-use Rattle.gob_tool.specs.Machine.Taken.{AreSent, CountsWanted, sent, views_given}
+use Rattle.gob_tool.specs.Machine.Taken.{AreSent, CountsWanted, defined, sent, views_given}
 use Rattle.gob_tool.proofs.EndLaws.{all_kept, prefix_kept}
 use Rattle.gob_tool.proofs.LinesStay.{keeps_itself}
-use Rattle.gob_tool.proofs.ReaderRuns.{GoesOn, goes_by, StepsBehind}
+use Rattle.gob_tool.proofs.ReaderRuns.{last_item, read_alone}
+use Rattle.gob_tool.specs.Machine.Texts.{HasReadSome}
+use Rattle.gob_stream.specs.Calls.ReaderOf.{StepsOnBy}
+use Rattle.gob_stream.specs.Stepping.{StandsBy}
+use Rattle.gob_stream.specs.StrictStepping.{strict_stepping}
 use Rattle.gob_tool.proofs.ReceivedLaws.{received_append, received_on, stream_sent}
 
 -- ---- what a step gave
@@ -57,30 +61,70 @@ pub given_views : {o : Option (declared.Item Value)} {more : List StreamItem} �
 given_views gives_none = refl
 given_views (gives_one m) = views_meant (mean_more m mean_none)
 
--- where no type is defined the match that is kept is one of the types behind it
-stays_known : {base : Table} {L : Bounds} {T T' : Table} {offset : ℕ} {o : Option (declared.Item Value)}
-    {more : List StreamItem} {z : List ℕ} (U : Table) (u : TypeId) (kept : LastMatch)
-    → GivesItems tree_building.means o more → AreItems base L T offset more z T' → KeepsKnown T U u kept
-    → StaysKnown T' U u kept o
-stays_known U u kept gives_none no_more h = h
-stays_known U u kept (gives_one means_definition) p h = tt
-stays_known U u kept (gives_one (means_value m)) (and_then (counted x l s (of_value may deep n k)) e no_more) h = h
+-- those behind the first were sent too
+sent_behind : {T : Table} {others : List StreamItem} (items : List StreamItem) → AreSent T (items ++ others)
+    → AreSent T others
+sent_behind [] s = s
+sent_behind (defines id v ∷ items) (defined s) = sent_behind items s
+sent_behind (puts id v ∷ items) (sent r f s) = sent_behind items s
 
-module _ {r r' : Trees} {items : List StreamItem} {bytes : List ℕ} {step : Step (declared.Item Value)}
-    (a : HasRead tree_building (session_of r) items bytes) (same : limits_of (session_of r') ≡ limits_of (session_of r))
-    (b : StepsBehind tree_building r r' items bytes step) {o : Option (declared.Item Value)} (is : step.item ≡ o) where
-  later_on : GoesOn tree_building a (session_of r') b.more (take step.used (waits_in r))
-  later_on = goes_by tree_building a b.more (take step.used (waits_in r)) same b.behind.gave
+-- where no type is defined the match that is kept is one of the types behind it
+stays_known : {L : Bounds} {bytes : List ℕ} {o : Option (declared.Item Value)} {items more : List StreamItem}
+    (c : BeginsWithStream base_table L bytes items) (b : BeginsWithStream base_table L bytes (items ++ more))
+    (U : Table) (u : TypeId) (kept : LastMatch) → GivesItems tree_building.means o more
+    → KeepsKnown c.table U u kept → StaysKnown b.table U u kept o
+stays_known {L = L} {bytes = bytes} {items = items} c b U u kept gives_none h =
+    let all : BeginsWithStream base_table L bytes items = record {
+      prefix = b.prefix;
+      rest = b.rest;
+      table = b.table;
+      stream = subst (λ l. Stream base_table L l b.prefix b.table) (append-nil items) b.stream;
+      whole = b.whole;
+    } in
+    subst (λ T. KeepsKnown T U u kept) (same_behind c all) h
+stays_known c b U u kept (gives_one means_definition) h = tt
+stays_known {L = L} {bytes = bytes} {items = items} c b U u kept (gives_one {i = i} (means_value m)) h =
+    let l = last_item items b.stream in
+    let first : BeginsWithStream base_table L bytes items = record {
+      prefix = l.prefix;
+      rest = l.bytes ++ b.rest;
+      table = l.table;
+      stream = l.first;
+      whole = b.whole ∙ ap (λ z. z ++ b.rest) l.whole ∙ append_assoc l.prefix l.bytes b.rest;
+    } in
+    by l.counted (subst (λ T. KeepsKnown T U u kept) (same_behind c first) h)
+  where
+    by : {T V : Table} {at : ℕ} {id : TypeId} {v : Tree} {z : List ℕ} → IsItem base_table L T at (puts id v) z V
+        → KeepsKnown T U u kept → KeepsKnown V U u kept
+    by (counted x k s (of_value may deep n q)) h = h
+
+module _ {r r' : Trees} {step : Step (declared.Item Value)} (so : HasReadSome (strict_stepping tree_building) r)
+    (stands : StandsBy (strict_stepping tree_building) (session_of r'))
+    (same : limits_of (session_of r') ≡ limits_of (session_of r))
+    (st : StepsOnBy (strict_stepping tree_building) r r' (Some (so.has.taken ++ waits_in r)) (Some []) so.given step)
+    {o : Option (declared.Item Value)} (is : step.item ≡ o) where
+  behind : (b : BeginsWithStream base_table (within_trees (limits_of (session_of r'))) (so.has.taken ++ waits_in r)
+      (so.given ++ st.more)) × (b.table ≡ types_of (session_of r'))
+  behind = begun (strict_stepping tree_building) {r = r'} stands.gives (so.has.taken ++ waits_in r) st.takes.after refl
 
   pub step_sent : AreSent (types_of (session_of r')) (views_given o)
   step_sent = subst (λ o. AreSent (types_of (session_of r')) (views_given o)) is
-      (subst (λ (l : List StreamItem). AreSent (types_of (session_of r')) l) (sym (given_views b.gives))
-      (stream_sent (omega arith) later_on.later (keeps_itself (types_of (session_of r')))))
+      (subst (λ (l : List StreamItem). AreSent (types_of (session_of r')) l) (sym (given_views st.gives))
+      (subst (λ T. AreSent T st.more) behind.1
+      (sent_behind so.given (stream_sent (omega arith) behind.0.stream (keeps_itself behind.0.table)))))
 
   pub step_known : (U : Table) (u : TypeId) (kept : LastMatch) → KeepsKnown (types_of (session_of r)) U u kept
       → StaysKnown (types_of (session_of r')) U u kept o
-  step_known U u kept h = subst (λ o. StaysKnown (types_of (session_of r')) U u kept o) is
-      (stays_known U u kept b.gives later_on.later h)
+  step_known U u kept h =
+      let bytes = so.has.taken ++ waits_in r in
+      let c = subst (λ (M : Bounds). (c : BeginsWithStream base_table (within_trees M) bytes so.given)
+      × (c.table ≡ types_of (session_of r))) (sym same)
+      (begun (strict_stepping tree_building) {r = r} so.stands.gives bytes
+      (read_alone tree_building so.has.gave so.has.room) refl)
+      in
+      subst (λ o. StaysKnown (types_of (session_of r')) U u kept o) is
+      (subst (λ T. StaysKnown T U u kept step.item) behind.1
+      (stays_known c.0 behind.0 U u kept st.gives (subst (λ T. KeepsKnown T U u kept) (sym c.1) h)))
 
 -- ---- the texts of items are the lines of what is received of them
 received_one : {T U : Table} {u : TypeId} {i : StreamItem} {text : List ℕ} → IsReceived U u T i text

@@ -238,7 +238,7 @@ module _ {X I Told : Type 0} (d : Stepping X I Told) where
       omega (arith, few.1, onward, stream)
 
   -- the items begin known bytes, and this is the table behind them
-  begun : {r : ReaderOf X I} {read now : Option (List ℕ)} {items : List Told} → GivesAllBy d (session_of r)
+  pub begun : {r : ReaderOf X I} {read now : Option (List ℕ)} {items : List Told} → GivesAllBy d (session_of r)
       → (bytes : List ℕ) → (h : HasReadBy d r read now items) → read ≡ Some bytes
       → (b : BeginsIn d.grammar (bounds_of d r) bytes items) × (b.table ≡ types_behind d h)
   begun {r = r} {items = items} gives bytes h known =

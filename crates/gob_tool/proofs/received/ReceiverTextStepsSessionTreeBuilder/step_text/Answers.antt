@@ -22,7 +22,7 @@ use Rattle.gob_tool.specs.Machine.Lines.{Trees}
 use Rattle.gob_tool.specs.Machine.Receiver.{IsClash, is_received_of_item, IsReceived, ReceivesNone, StaysKnown}
 use Rattle.gob_tool.specs.Machine.Taken.{AreSent}
 use Rattle.gob_tool.specs.Machine.Texts.{stops_reading, StopsNext, TextGiven}
-use Rattle.gob_tool.proofs.ReaderRuns.{read_alone, steps_behind}
+use Rattle.gob_tool.proofs.ReaderRuns.{read_alone}
 use Rattle.gob_tool.proofs.TakeRuns.{step_known, step_sent}
 use Rattle.gob_tool.proofs.TextLaws.{item_stops, makes_at, no_memory, step_made}
 use Rattle.gob_tool.proofs.received.ReceiverTextStepsSessionTreeBuilder.step_text.Goals as goal
@@ -54,19 +54,18 @@ returns-in_err-item-clause-made g c = λ read now given h.
 pub push_received-made-requires : goal.push_received-made-requires
 push_received-made-requires g c =
     let so = c.requires.so_far in
-    let r = c.args.reader.now in
+    let U = types c.args.self.now.wanted.now in
     let u = c.args.self.now.wanted_id in
-    let same = sym c.table.ensures in
-    let b = steps_behind tree_building so.has.gave (c.in_ok-item.ensures.stepped
-    (Some (so.has.taken ++ waits_in r)) (Some []) so.given (read_alone tree_building so.has.gave so.has.room)) in (
+    let e = c.in_ok-item.ensures in
+    let st = e.stepped (Some (so.has.taken ++ waits_in c.args.reader.now)) (Some []) so.given
+    (read_alone tree_building so.has.gave so.has.room) in (
       omega arith,
       (
-        subst (λ (D : Defined). AreSent (types D) (item_view c.in-Some.item ∷ [])) same
-            (step_sent so.has.gave c.in_ok-item.ensures.limits b c.in-Some.is),
+        subst (λ (D : Defined). AreSent (types D) (item_view c.in-Some.item ∷ [])) (sym c.table.ensures)
+            (step_sent so e.stands e.limits st c.in-Some.is),
         (
-          subst (λ (D : Defined). StaysKnown (types D) (types c.args.self.now.wanted.now) u c.args.kept.now
-              (Some c.in-Some.item)) same (step_known so.has.gave c.in_ok-item.ensures.limits b c.in-Some.is
-              (types c.args.self.now.wanted.now) u c.args.kept.now c.requires.fits.known),
+          subst (λ (D : Defined). StaysKnown (types D) U u c.args.kept.now (Some c.in-Some.item)) (sym c.table.ensures)
+              (step_known so e.stands e.limits st c.in-Some.is U u c.args.kept.now c.requires.fits.known),
           (c.requires.fits.ready, c.requires.empty),
         ),
       ),
@@ -94,13 +93,13 @@ returns-clause-made g c = λ read now given h.
 pub returns-in_default-clause-fits : goal.returns-in_default-clause-fits
 returns-in_default-clause-fits g c =
     let so = c.requires.so_far in
-    let b = steps_behind tree_building so.has.gave (c.in_ok-item.ensures.stepped
-    (Some (so.has.taken ++ waits_in c.args.reader.now)) (Some []) so.given
-    (read_alone tree_building so.has.gave so.has.room)) in
+    let e = c.in_ok-item.ensures in
+    let st = e.stepped (Some (so.has.taken ++ waits_in c.args.reader.now)) (Some []) so.given
+    (read_alone tree_building so.has.gave so.has.room) in
     record {
       ready = c.requires.fits.ready;
-      known = step_known so.has.gave c.in_ok-item.ensures.limits b c.in_default.is
-          (types c.args.self.now.wanted.now) c.args.self.now.wanted_id c.args.kept.now c.requires.fits.known;
+      known = step_known so e.stands e.limits st c.in_default.is (types c.args.self.now.wanted.now)
+          c.args.self.now.wanted_id c.args.kept.now c.requires.fits.known;
     }
 
 pub returns-in_err-made-clause-made : goal.returns-in_err-made-clause-made
