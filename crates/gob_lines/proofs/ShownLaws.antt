@@ -1,6 +1,6 @@
 -- The text of JSON has its tokens, and a line feed behind it is no token: what is shown is said.
 use Rattle.std.proofs.Common.{◌≡◌, ℕ, ℤ, pos, negsuc, ◌+◌, ◌<◌, ◌≤◌, ◌^◌, Bool, true, false, cond, ◌&&◌, List, [], ◌∷◌, ◌++◌}
-use Rattle.std.proofs.Common.{length, Some, refl, sym, ap, ap₂, subst, ◌∙◌, arith, append_assoc, append-nil}
+use Rattle.std.proofs.Common.{length, Some, refl, sym, ap, ap₂, subst, ◌∙◌, arith, append_assoc, append-nil, inl, inr, suc}
 use Rattle.std.specs.Prelude.{slice_get}
 use Rattle.std.specs.Str.{is_utf8}
 use Rattle.std.proofs.lemmas.Int.{ints}
@@ -9,20 +9,24 @@ use Rattle.json.specs.Token.{bad}
 use Rattle.json.specs.Word.{ends_word, word}
 use Rattle.json.specs.Lex.{token, comma, colon, string_token, lex, between, fresh, punctuate, tokens}
 use Rattle.json.specs.Print.{escape, quoted, token_text, begins, ends, print_from, print, IsPrintable, ArePrintable}
-use Rattle.json.specs.Tree.{json_tokens, HasNumbers, ItemsHaveNumbers}
+use Rattle.json.specs.Tree.{json_tokens, HasNumbers, ItemsHaveNumbers, MembersHaveNumbers}
 use Rattle.json.proofs.Printed.Decimals.{IsNumber-decimal, IsNumber-signed_decimal}
 use Rattle.json.proofs.Printed.Numbers.{lex-number, in_word-ended}
 use Rattle.json.proofs.Printed.Strings.{content-escape, lex-escape}
 use Rattle.json.proofs.Printed.Tokens.{tokens-print}
 use Rattle.json.proofs.Printed.Trees.{ArePrintable-json_tokens}
 use Rattle.serde_json.specs.Data.{Data}
-use Rattle.serde_json.specs.Written.{outline, items_outline, compact_text}
+use Rattle.serde_json.specs.Written.{outline, items_outline, members_outline, compact_text}
 use Rattle.serde_json.proofs.Texts.{print-outline}
 use Rattle.gob_num.specs.Signed.{IsSigned}
 use Rattle.gob_num.proofs.PublicLaws.{unsigned_fits, signed_fits}
 use Rattle.gob_types.specs.declared.id.TypeId.{TypeId}
 use Rattle.gob_types.specs.declared.kind.Field.{Field}
 use Rattle.gob_types.specs.declared.kind.Kind.{Kind}
+use Rattle.gob_types.specs.declared.kind.Kind.TheVariants as kind
+use Rattle.gob_types.specs.declared.kind.Shape.{Shape}
+use Rattle.gob_types.specs.Definable.{HasLength, IsDefinable, IsReference}
+use Rattle.gob_types.specs.Ready.{HasFieldOf, Names}
 use Rattle.gob_types.specs.Table.{Table}
 use Rattle.gob_value.specs.Spelling.{Spells, of_type, SpellsAs, of_bool, of_int, of_uint, of_float, of_complex}
 use Rattle.gob_value.specs.Spelling.{of_nil, of_bytes, of_text, of_opaque, of_slice, of_array, of_map, of_struct}
@@ -31,6 +35,7 @@ use Rattle.gob_value.specs.Spelling.{end_of_fields, next_field}
 use Rattle.gob_value.specs.Tree.{Tree, Trees, Pairs, Fields}
 use Rattle.gob_json.specs.Json.{value_json, elements_json, pairs_json, fields_json, put_json, text_json, integer_json}
 use Rattle.gob_json.specs.Json.{field_name, field_type}
+use Rattle.gob_json.specs.DefinitionJson.{definition_json, field_types_json, shape_members}
 use Rattle.gob_lines.specs.Laws.{FewFields, HaveFewFields}
 use Rattle.gob_lines.specs.Reads.{Reads}
 use Rattle.gob_lines.proofs.UniqueLaws.{kind_json, of_kind, text_as, number_small}
@@ -202,3 +207,44 @@ pub value_shown : {T : Table} {t : TypeId} {v : Tree} {b : List ℕ} → HaveFew
 value_shown {T = T} {t = t} {v = v} few small p =
     line_tokens (put_json T t v) (IsNumber-decimal t.0 small, (value_numbers few p, tt))
     ∙ sym (append-nil (json_tokens (outline (put_json T t v))))
+
+-- ---- the numbers of definitions
+
+type_numbers : (fs : List Field) → ((u : TypeId) → HasFieldOf fs u → IsReference u)
+    → ItemsHaveNumbers (items_outline (field_types_json fs))
+type_numbers [] names = tt
+type_numbers (f ∷ fs) names =
+    let r = names f.id (record { number = 0; field = f; there = refl; type = refl }) in (
+      (text_numbers (is_utf8 f.name) f.name, (IsNumber-decimal f.id.0 (omega (arith, r.1)), tt)),
+      type_numbers fs (λ u n. names u
+          (record { number = suc n.number; field = n.field; there = n.there; type = n.type })),
+    )
+
+member_numbers : (k : Kind) (name : List ℕ) → HasLength k → ((u : TypeId) → Names k u → IsReference u)
+    → MembersHaveNumbers (members_outline (shape_members k name))
+member_numbers (kind.Basic b) name length names = tt
+member_numbers (kind.Array e n) name length names =
+    let r = names e refl in (
+      IsNumber-decimal e.0 (omega (arith, r.1)),
+      (tt, (IsNumber-decimal n (omega (arith, length)), (text_numbers (is_utf8 name) name, tt))),
+    )
+member_numbers (kind.Slice e) name length names =
+    let r = names e refl in
+    (IsNumber-decimal e.0 (omega (arith, r.1)), (tt, (text_numbers (is_utf8 name) name, tt)))
+member_numbers (kind.Struct fs) name length names =
+    (type_numbers fs names, (tt, (text_numbers (is_utf8 name) name, tt)))
+member_numbers (kind.Map k e) name length names =
+    let r = names k (inl refl) in
+    let q = names e (inr refl) in (
+      IsNumber-decimal e.0 (omega (arith, q.1)),
+      (IsNumber-decimal k.0 (omega (arith, r.1)), (tt, (text_numbers (is_utf8 name) name, tt))),
+    )
+member_numbers (kind.Opaque m) name length names = (tt, (text_numbers (is_utf8 name) name, tt))
+
+-- the line that shows a definition says its shape
+pub shape_shown : (id : TypeId) (s : Shape) → IsDefinable s → id.0 < 2 ^ 64
+    → Reads (definition_json id (Some s)) (tokens (compact_text (definition_json id (Some s)) ++ lf)) []
+shape_shown id s d small =
+    line_tokens (definition_json id (Some s))
+    (IsNumber-decimal id.0 small, member_numbers s.kind s.name d.length d.references)
+    ∙ sym (append-nil (json_tokens (outline (definition_json id (Some s)))))
