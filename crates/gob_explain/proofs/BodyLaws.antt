@@ -15,8 +15,8 @@ use Rattle.gob_explain.specs.Open.{Open, a_value}
 use Rattle.gob_explain.specs.Path.{PathOf}
 use Rattle.gob_explain.specs.Path as path
 use Rattle.gob_explain.specs.Walk.{BeginsPart}
-use Rattle.gob_explain.specs.declared.row.Step.{Step}
-use Rattle.gob_explain.specs.declared.row.Step.TheVariants as step
+use Rattle.gob_explain.specs.declared.row.PartStep.{PartStep}
+use Rattle.gob_explain.specs.declared.row.PartStep.TheVariants as step
 use Rattle.gob_explain.specs.Machine.Walking.{BeginsAt, IsValueAt, SpellsOne, SpellsWhole}
 
 pub struct_begins : {T : Table} {t : TypeId} {s : Shape} → shape_of T t ≡ Some s → IsStruct s.kind
@@ -32,11 +32,11 @@ value_begins {T = T} {t = t} f n = record {
 }
 
 -- at the path of the value
-pub struct_at : {T : Table} {t : TypeId} {s : Shape} {base : ℕ} {outer : List Open} {way : List Step}
+pub struct_at : {T : Table} {t : TypeId} {s : Shape} {base : ℕ} {outer : List Open} {way : List PartStep}
     → IsValueAt T t base outer way → shape_of T t ≡ Some s → IsStruct s.kind → BeginsAt T t base [] outer t 0 way
 struct_at v f i = record { begins = struct_begins f i; leads = λ q steps x. v q steps (path.in_struct f i x) }
 
-pub tagged_at : {T : Table} {t : TypeId} {s : Shape} {base : ℕ} {outer : List Open} {way : List Step}
+pub tagged_at : {T : Table} {t : TypeId} {s : Shape} {base : ℕ} {outer : List Open} {way : List PartStep}
     → IsValueAt T t base outer way → shape_of T t ≡ Some s → ¬ IsStruct s.kind
     → BeginsAt T t base (0 ∷ []) outer t 0 way
 tagged_at v f n = record {
@@ -48,7 +48,7 @@ tagged_at v f n = record {
 pub item_at : {T : Table} {t : TypeId} → IsValueAt T t 0 [] []
 item_at = λ p steps x. path.of_item x
 
-pub held_at : {T : Table} {t : TypeId} {base : ℕ} {outer : List Open} {way : List Step} → PathOf T outer way
+pub held_at : {T : Table} {t : TypeId} {base : ℕ} {outer : List Open} {way : List PartStep} → PathOf T outer way
     → IsValueAt T t base outer (way ++ step.Held t ∷ [])
 held_at {T = T} {t = t} {base = base} {outer = outer} {way = way} h = λ p steps x.
     subst (λ w. PathOf T (a_value t base p ∷ outer) w) (sym (append_assoc way (step.Held t ∷ []) steps))
@@ -62,7 +62,7 @@ tag_is {n = n} {b = b} l q =
     unsigned_unique (subst (λ k. IsUnsigned k b) none q) zero
 
 pub value_begins_at : {T : Table} {t u : TypeId} {base : ℕ} {p q : List ℕ} {outer : List Open} {around : ℕ}
-    {way : List Step} → q ≡ p → BeginsAt T t base p outer u around way → BeginsAt T t base q outer u around way
+    {way : List PartStep} → q ≡ p → BeginsAt T t base p outer u around way → BeginsAt T t base q outer u around way
 value_begins_at {T = T} {t = t} {u = u} {base = base} {outer = outer} {around = around} {way = way} e b =
     subst (λ p. BeginsAt T t base p outer u around way) (sym e) b
 

@@ -22,8 +22,8 @@ use Rattle.gob_read.specs.Expects as expects
 use Rattle.gob_read.proofs.Grammar.Complete.{run_then}
 use Rattle.gob_read.proofs.Grammar.Inside.{each_more, pairs_more, run_more}
 use Rattle.gob_explain.specs.Open.{Open}
-use Rattle.gob_explain.specs.declared.row.Step.{Step}
-use Rattle.gob_explain.specs.declared.row.Step.TheVariants as step
+use Rattle.gob_explain.specs.declared.row.PartStep.{PartStep}
+use Rattle.gob_explain.specs.declared.row.PartStep.TheVariants as step
 use Rattle.gob_explain.specs.Walk.{HasRawBytes, opened}
 use Rattle.gob_explain.specs.Machine.Walking.{BeginsAt, BeginsEachKey, BeginsEachPart, BeginsEachValue}
 use Rattle.gob_explain.specs.Machine.Walking.{SpellsEntries, SpellsMany, SpellsOne}
@@ -102,7 +102,7 @@ complex_whole {T = T} b c f e p q =
 -- ---- the parts of a list
 
 -- behind the count
-pub slice_parts : {T : Table} {t u e : TypeId} {s : Shape} {base n around : ℕ} {outer : List Open} {way : List Step}
+pub slice_parts : {T : Table} {t u e : TypeId} {s : Shape} {base n around : ℕ} {outer : List Open} {way : List PartStep}
     (p c : List ℕ) → BeginsAt T t base p outer u around way → shape_of T u ≡ Some s → s.kind ≡ kind.Slice e
     → IsUnsigned n c → BeginsEachPart T t base (p ++ c) outer e n (around + 1) way
 slice_parts {T = T} {t = t} {e = e} {base = base} {around = around} {outer = outer} {way = way} p c b f k n =
@@ -110,7 +110,7 @@ slice_parts {T = T} {t = t} {e = e} {base = base} {around = around} {outer = out
     subst (λ r. BeginsAt T t base r outer e (around + 1) (way ++ step.Element (tree_count vs) ∷ []))
     (sym (append_assoc p c q)) (enters_at b f k (expects.slice_element n qs i))
 
-pub array_parts : {T : Table} {t u e : TypeId} {s : Shape} {base n around : ℕ} {outer : List Open} {way : List Step}
+pub array_parts : {T : Table} {t u e : TypeId} {s : Shape} {base n around : ℕ} {outer : List Open} {way : List PartStep}
     (p c : List ℕ) → BeginsAt T t base p outer u around way → shape_of T u ≡ Some s → s.kind ≡ kind.Array e n
     → IsUnsigned n c → BeginsEachPart T t base (p ++ c) outer e n (around + 1) way
 array_parts {T = T} {t = t} {e = e} {base = base} {around = around} {outer = outer} {way = way} p c b f k n =
@@ -134,7 +134,7 @@ pub none_many : {T : Table} {e : TypeId} → SpellsMany T e 0 []
 none_many = (no_tree, spelling.no_element, refl)
 
 -- behind fewer elements another one begins
-pub next_part : {T : Table} {t e : TypeId} {base i : ℕ} {outer : List Open} (n around : ℕ) (way : List Step)
+pub next_part : {T : Table} {t e : TypeId} {base i : ℕ} {outer : List Open} (n around : ℕ) (way : List PartStep)
     (p b : List ℕ) → BeginsEachPart T t base p outer e n around way → SpellsMany T e i b → i < n
     → BeginsAt T t base (p ++ b) outer e around (way ++ step.Element i ∷ [])
 next_part {T = T} {t = t} {e = e} {base = base} {outer = outer} n around way p b each q k =
@@ -149,7 +149,7 @@ many_more b c p q =
 
 -- ---- the pairs of a map
 
-pub map_keys : {T : Table} {t u k e : TypeId} {s : Shape} {base n around : ℕ} {outer : List Open} {way : List Step}
+pub map_keys : {T : Table} {t u k e : TypeId} {s : Shape} {base n around : ℕ} {outer : List Open} {way : List PartStep}
     (p c : List ℕ) → BeginsAt T t base p outer u around way → shape_of T u ≡ Some s → s.kind ≡ kind.Map k e
     → IsUnsigned n c → BeginsEachKey T t base (p ++ c) outer k e n (around + 1) way
 map_keys {T = T} {t = t} {k = key} {base = base} {around = around} {outer = outer} {way = way} p c b f k n =
@@ -157,7 +157,8 @@ map_keys {T = T} {t = t} {k = key} {base = base} {around = around} {outer = oute
     subst (λ r. BeginsAt T t base r outer key (around + 1) (way ++ step.Key (pair_count ps) ∷ []))
     (sym (append_assoc p c q)) (enters_at b f k (expects.next_key n qs i))
 
-pub map_values : {T : Table} {t u k e : TypeId} {s : Shape} {base n around : ℕ} {outer : List Open} {way : List Step}
+pub map_values : {T : Table} {t u k e : TypeId} {s : Shape} {base n around : ℕ} {outer : List Open} {way : List
+    PartStep}
     (p c : List ℕ) → BeginsAt T t base p outer u around way → shape_of T u ≡ Some s → s.kind ≡ kind.Map k e
     → IsUnsigned n c → BeginsEachValue T t base (p ++ c) outer k e n (around + 1) way
 map_values {T = T} {t = t} {e = e} {base = base} {around = around} {outer = outer} {way = way} p c b f k n =
@@ -174,14 +175,14 @@ map_whole {T = T} c b f e p q =
 pub none_entries : {T : Table} {k e : TypeId} → SpellsEntries T k e 0 []
 none_entries = (no_pair, spelling.no_entry, refl)
 
-pub next_key : {T : Table} {t k e : TypeId} {base i : ℕ} {outer : List Open} (n around : ℕ) (way : List Step)
+pub next_key : {T : Table} {t k e : TypeId} {base i : ℕ} {outer : List Open} (n around : ℕ) (way : List PartStep)
     (p b : List ℕ) → BeginsEachKey T t base p outer k e n around way → SpellsEntries T k e i b → i < n
     → BeginsAt T t base (p ++ b) outer k around (way ++ step.Key i ∷ [])
 next_key {T = T} {t = t} {k = key} {base = base} {outer = outer} n around way p b each q k =
     subst (λ i. BeginsAt T t base (p ++ b) outer key around (way ++ step.Key i ∷ [])) q.2
     (each q.0 b q.1 (omega (arith, q.2)))
 
-pub next_value : {T : Table} {t k e : TypeId} {base i : ℕ} {outer : List Open} (n around : ℕ) (way : List Step)
+pub next_value : {T : Table} {t k e : TypeId} {base i : ℕ} {outer : List Open} (n around : ℕ) (way : List PartStep)
     (p b c : List ℕ) → BeginsEachValue T t base p outer k e n around way → SpellsEntries T k e i b → i < n
     → SpellsOne T k c → BeginsAt T t base (p ++ (b ++ c)) outer e around (way ++ step.Value i ∷ [])
 next_value {T = T} {t = t} {e = e} {base = base} {outer = outer} n around way p b c each q k x =
@@ -196,7 +197,7 @@ entries_more b c d p q r =
 -- ---- the fields of a struct
 
 pub next_field : {T : Table} {t u : TypeId} {s : Shape} {types : List Field} {f : Field} {base next number around : ℕ}
-    {outer : List Open} {way : List Step} (p b c : List ℕ) → BeginsAt T t base p outer u around way
+    {outer : List Open} {way : List PartStep} (p b c : List ℕ) → BeginsAt T t base p outer u around way
     → shape_of T u ≡ Some s → s.kind ≡ kind.Struct types → FieldsRun T types 0 next b → next ≤ number
     → slice_get types number ≡ Some f → IsUnsigned (number + 1 - next) c
     → BeginsAt T t base (p ++ (b ++ c)) outer f.id (around + 1) (way ++ step.Field u number ∷ [])

@@ -20,7 +20,7 @@ use Rattle.gob_read.specs.Expects as expects
 use Rattle.gob_explain.specs.Open.{Open, a_filling, a_value, content, count, description, name, segment, type_number}
 use Rattle.gob_explain.specs.Path.{PathOf, at_begin, in_itself, in_part, of_filling, step_into}
 use Rattle.gob_explain.specs.declared.row.Row.{Row}
-use Rattle.gob_explain.specs.declared.row.Step.{Step}
+use Rattle.gob_explain.specs.declared.row.PartStep.{PartStep}
 use Rattle.gob_explain.specs.declared.row.What.{What}
 use Rattle.gob_explain.specs.declared.row.What.TheVariants as what
 use Rattle.gob_explain.specs.Walk.{Awaits, BeginsPart, Comes, HasRawBytes, IsRow, Steps, opened}
@@ -88,7 +88,7 @@ enters_part {T = T} {t = t} {p = p} {c = c} {around = around} b f n = record {
 
 -- and it is a step further
 pub enters_at : {T : Table} {t u v : TypeId} {s : Shape} {k : Kind} {base around : ℕ} {p c : List ℕ}
-    {outer : List Open} {way : List Step} → BeginsAt T t base p outer u around way → shape_of T u ≡ Some s
+    {outer : List Open} {way : List PartStep} → BeginsAt T t base p outer u around way → shape_of T u ≡ Some s
     → s.kind ≡ k → (n : Enters T k c v)
     → BeginsAt T t base (p ++ c) outer v (around + 1) (way ++ step_into u n ∷ [])
 enters_at {T = T} {t = t} {u = u} {v = v} {base = base} {p = p} {c = c} {outer = outer} {way = way} b f e n = record {
@@ -102,18 +102,18 @@ enters_at {T = T} {t = t} {u = u} {v = v} {base = base} {p = p} {c = c} {outer =
 
 -- what a part expects itself is of it
 path_itself : {T : Table} {t u : TypeId} {s : Shape} {base around : ℕ} {p q : List ℕ} {outer : List Open}
-    {way : List Step} {w : Expected} → BeginsAt T t base p outer u around way → shape_of T u ≡ Some s
+    {way : List PartStep} {w : Expected} → BeginsAt T t base p outer u around way → shape_of T u ≡ Some s
     → ExpectsAt T s.kind q w → PathOf T (a_value t base (p ++ q) ∷ outer) way
 path_itself {T = T} {t = t} {base = base} {p = p} {q = q} {outer = outer} {way = way} b f x =
     subst (λ w. PathOf T (a_value t base (p ++ q) ∷ outer) w) (append-nil way) (b.leads q [] (in_itself f x))
 
 pub path_first : {T : Table} {t u : TypeId} {s : Shape} {base around : ℕ} {p : List ℕ} {outer : List Open}
-    {way : List Step} → BeginsAt T t base p outer u around way → shape_of T u ≡ Some s
+    {way : List PartStep} → BeginsAt T t base p outer u around way → shape_of T u ≡ Some s
     → PathOf T (a_value t base p ∷ outer) way
 path_first {T = T} {t = t} {base = base} {p = p} {outer = outer} {way = way} b f =
     subst (λ l. PathOf T (a_value t base l ∷ outer) way) (append_nil p) (path_itself b f expects.first)
 
-pub path_begin : {T : Table} {t : TypeId} {base : ℕ} {outer : List Open} {way : List Step}
+pub path_begin : {T : Table} {t : TypeId} {base : ℕ} {outer : List Open} {way : List PartStep}
     → IsValueAt T t base outer way → PathOf T (a_value t base [] ∷ outer) way
 path_begin {T = T} {t = t} {base = base} {outer = outer} {way = way} v =
     subst (λ w. PathOf T (a_value t base [] ∷ outer) w) (append-nil way) (v [] [] at_begin)
@@ -138,7 +138,7 @@ row_comes {T = T} {t = t} {p = p} {w = w} {x = x} {d = d} r is c =
     subst (λ y. Comes T t p w y r.id d) (sym is.0) (subst (λ v. Comes T t p w x v d) (sym is.1) c)
 
 pub takes_number : {T : Table} {t u : TypeId} {base d e : ℕ} {p : List ℕ} {outer : List Open} {a : Allowed} {x : What}
-    {way : List Step} → Comes T t p (a_number a) x u e → base + e ≡ d → opened a ≡ a
+    {way : List PartStep} → Comes T t p (a_number a) x u e → base + e ≡ d → opened a ≡ a
     → PathOf T (a_value t base p ∷ outer) way
     → Takes T (a_value t base p ∷ outer) (a_number a) x u d way (goes_on t base p outer)
 takes_number {T = T} {t = t} {u = u} {base = base} {d = d} {e = e} {p = p} {outer = outer} {a = a} c deep o h = record {
@@ -151,7 +151,7 @@ takes_number {T = T} {t = t} {u = u} {base = base} {d = d} {e = e} {p = p} {oute
 
 -- the first number of a part that is neither a struct nor an interface
 pub takes_first : {T : Table} {t u : TypeId} {s : Shape} {a : Allowed} {p : List ℕ} {outer : List Open}
-    {base around d : ℕ} {way : List Step} → base + around + 1 ≡ d → BeginsAt T t base p outer u around way
+    {base around d : ℕ} {way : List PartStep} → base + around + 1 ≡ d → BeginsAt T t base p outer u around way
     → shape_of T u ≡ Some s → ¬ IsStruct s.kind → first_allowed s.kind ≡ a → opened a ≡ a
     → Takes T (a_value t base p ∷ outer) (a_number a) what.First u d way (goes_on t base p outer)
 takes_first {T = T} {t = t} {u = u} {a = a} {p = p} {base = base} {around = around} {d = d} e b f n k o =
@@ -160,7 +160,8 @@ takes_first {T = T} {t = t} {u = u} {a = a} {p = p} {base = base} {around = arou
     (path_first b f)
 
 -- the second pattern of a complex
-pub takes_second : {T : Table} {t u : TypeId} {s : Shape} {outer : List Open} {base around d n : ℕ} {way : List Step}
+pub takes_second : {T : Table} {t u : TypeId} {s : Shape} {outer : List Open} {base around d n : ℕ} {way : List
+    PartStep}
     (p b : List ℕ) → base + around + 1 ≡ d → BeginsAt T t base p outer u around way → shape_of T u ≡ Some s
     → s.kind ≡ kind.Basic basic.Complex → IsUnsigned n b
     → Takes T (a_value t base (p ++ b) ∷ outer) (a_number any) what.Imaginary u d way (goes_on t base (p ++ b) outer)
@@ -171,7 +172,7 @@ takes_second {T = T} {base = base} {around = around} {d = d} p b e g f k q =
     (path_itself g f (subst (λ k. ExpectsAt T k b (a_number any)) (sym k) (expects.second x.1)))
 
 -- raw bytes behind their count
-pub takes_raw : {T : Table} {t u : TypeId} {s : Shape} {outer : List Open} {base around d n : ℕ} {way : List Step}
+pub takes_raw : {T : Table} {t u : TypeId} {s : Shape} {outer : List Open} {base around d n : ℕ} {way : List PartStep}
     (p b : List ℕ) → base + around + 1 ≡ d → BeginsAt T t base p outer u around way → shape_of T u ≡ Some s
     → HasRawBytes s.kind → 0 < n → IsUnsigned n b
     → Takes T (a_value t base (p ++ b) ∷ outer) (raw n) what.Raw u d way (goes_on t base (p ++ b) outer)
@@ -188,7 +189,7 @@ takes_raw {T = T} {t = t} {u = u} {s = s} {outer = outer} {base = base} {around 
 
 -- the next delta of a struct
 pub takes_delta : {T : Table} {t u : TypeId} {s : Shape} {types : List Field} {outer : List Open}
-    {base around d next : ℕ} {way : List Step} (p b : List ℕ) → base + around + 1 ≡ d
+    {base around d next : ℕ} {way : List PartStep} (p b : List ℕ) → base + around + 1 ≡ d
     → BeginsAt T t base p outer u around way → shape_of T u ≡ Some s → s.kind ≡ kind.Struct types
     → FieldsRun T types 0 next b
     → Takes T (a_value t base (p ++ b) ∷ outer) (a_number (delta (length types - next))) what.Delta u d way
@@ -200,7 +201,7 @@ takes_delta {T = T} {types = types} {base = base} {around = around} {d = d} {nex
     (first_delta refl run)))
 
 -- the tag
-pub takes_tag : {T : Table} {t : TypeId} {s : Shape} {outer : List Open} {base d : ℕ} {way : List Step} → base ≡ d
+pub takes_tag : {T : Table} {t : TypeId} {s : Shape} {outer : List Open} {base d : ℕ} {way : List PartStep} → base ≡ d
     → IsValueAt T t base outer way → shape_of T t ≡ Some s → ¬ IsStruct s.kind
     → Takes T (a_value t base [] ∷ outer) (a_number tag) what.Tag t d way (goes_on t base [] outer)
 takes_tag {base = base} {d = d} e v f n =
@@ -218,7 +219,7 @@ raw_any _ h = absurd h
 
 -- the count of raw bytes
 pub takes_size : {T : Table} {t u : TypeId} {s : Shape} {p : List ℕ} {outer : List Open} {base around d : ℕ}
-    {way : List Step} → base + around + 1 ≡ d → BeginsAt T t base p outer u around way → shape_of T u ≡ Some s
+    {way : List PartStep} → base + around + 1 ≡ d → BeginsAt T t base p outer u around way → shape_of T u ≡ Some s
     → HasRawBytes s.kind
     → Takes T (a_value t base p ∷ outer) (a_number any) what.First u d way (goes_on t base p outer)
 takes_size {s = s} e b f h = takes_first e b f (raw_no_struct s.kind h) (raw_any s.kind h) refl
@@ -243,7 +244,7 @@ nil_steps {T = T} {t = t} {u = u} {base = base} {deep = deep} {p = p} {outer = o
     (walk.of_filling (row_comes r is c) (is.2 ∙ sym e) (up ∙ ap (λ d. d + 1) (sym is.2)) q (omega arith)))
 
 pub takes_nil : {T : Table} {t u : TypeId} {s : Shape} {p : List ℕ} {outer : List Open} {base around d deep : ℕ}
-    {way : List Step} → base + around + 1 ≡ d → deep ≡ d + 1 → BeginsAt T t base p outer u around way
+    {way : List PartStep} → base + around + 1 ≡ d → deep ≡ d + 1 → BeginsAt T t base p outer u around way
     → shape_of T u ≡ Some s → s.kind ≡ kind.Basic basic.Interface
     → Takes T (a_value t base p ∷ outer) (a_number any) what.First u d way (behind_nil t base p outer u deep)
 takes_nil {T = T} {t = t} {u = u} {s = s} {p = p} {outer = outer} {base = base} {around = around} {d = d} e up b f k =
@@ -259,7 +260,7 @@ takes_nil {T = T} {t = t} {u = u} {s = s} {p = p} {outer = outer} {base = base} 
       steps = λ r b is answers tells. nil_steps r.number r b refl c below up is tells;
     }
 
-pub takes_name : {T : Table} {u : TypeId} {d n : ℕ} {outer : List Open} {way : List Step} → PathOf T outer way
+pub takes_name : {T : Table} {u : TypeId} {d n : ℕ} {outer : List Open} {way : List PartStep} → PathOf T outer way
     → Takes T (a_filling u d (name n) ∷ outer) (raw n) what.Raw u d way (λ k b. a_filling u d type_number ∷ outer)
 takes_name h = record {
   awaits = walk.awaits_name;
@@ -267,7 +268,7 @@ takes_name h = record {
   steps = λ r b is answers tells. walk.of_name is tells answers;
 }
 
-pub takes_segment : {T : Table} {u : TypeId} {d : ℕ} {outer : List Open} {way : List Step} → PathOf T outer way
+pub takes_segment : {T : Table} {u : TypeId} {d : ℕ} {outer : List Open} {way : List PartStep} → PathOf T outer way
     → Takes T (a_filling u d segment ∷ outer) (a_number any) what.Segment u d way
     (λ k b. a_filling u d type_number ∷ outer)
 takes_segment h = record {
@@ -276,7 +277,7 @@ takes_segment h = record {
   steps = λ r b is answers tells. walk.of_segment is tells;
 }
 
-pub takes_count : {T : Table} {u v : TypeId} {d : ℕ} {outer : List Open} {way : List Step} → PathOf T outer way
+pub takes_count : {T : Table} {u v : TypeId} {d : ℕ} {outer : List Open} {way : List PartStep} → PathOf T outer way
     → Takes T (a_filling u d (count v) ∷ outer) (a_number any) what.Segment u d way
     (λ k b. a_value v d [] ∷ (a_filling u d content ∷ outer))
 takes_count h = record {
@@ -299,7 +300,7 @@ type_steps zero half r b e l is q =
 type_steps (suc zero) half r b e l is q = walk.of_definition is q (negative (subst (λ k. IsUnsigned k b) e q))
 type_steps (suc (suc sign)) half r b e l is q = absurd (omega arith)
 
-pub takes_type : {T : Table} {u : TypeId} {d : ℕ} {outer : List Open} {way : List Step} → PathOf T outer way
+pub takes_type : {T : Table} {u : TypeId} {d : ℕ} {outer : List Open} {way : List PartStep} → PathOf T outer way
     → Takes T (a_filling u d type_number ∷ outer) (a_number any) what.TypeNumber u d way
     (λ n b. behind_type u d outer (n % 2) (n / 2))
 takes_type h = record {

@@ -14,7 +14,7 @@ use Rattle.gob_read.specs.Expected as expected
 use Rattle.gob_read.specs.Expects as expects
 use Rattle.gob_explain.specs.Open.{Open, a_value}
 use Rattle.gob_explain.specs.declared.row.Row.{Row}
-use Rattle.gob_explain.specs.declared.row.Step.{Step}
+use Rattle.gob_explain.specs.declared.row.PartStep.{PartStep}
 use Rattle.gob_explain.specs.declared.row.What.{What}
 use Rattle.gob_explain.specs.declared.row.What.TheVariants as what
 use Rattle.gob_explain.specs.declared.stop.Stop.{Stop}
@@ -47,17 +47,17 @@ lead_end (walk.end_then f l) e = walk.end_then f (lead_end l e)
 module _ {S E : Type 0} (tells : Tells S E) where
   -- rows behind rows are one list of them
   abbrev pub Joins : Type 0
-  Joins = (a b c : S × List Step) (x y : List Row) (r : Result (Unit {0}) E) → tells a b x (Ok tt) → tells b c y r
+  Joins = (a b c : S × List PartStep) (x y : List Row) (r : Result (Unit {0}) E) → tells a b x (Ok tt) → tells b c y r
       → tells a c (x ++ y) r
 
   -- nothing was told yet
-  pub told_nothing : {T : Table} {bytes : List ℕ} {opens : List Open} {at : ℕ} {old new : S × List Step}
+  pub told_nothing : {T : Table} {bytes : List ℕ} {opens : List Open} {at : ℕ} {old new : S × List PartStep}
       {answer : Result (Unit {0}) E} → tells old new [] answer → at ≤ length bytes
       → Told tells T bytes opens at old new answer opens at
   told_nothing p l = record { rows = []; told = p; lead = walk.no_row; order = omega arith; inside = l }
 
   -- a row was told
-  pub told_row : {T : Table} {bytes : List ℕ} {opens last : List Open} {old new : S × List Step}
+  pub told_row : {T : Table} {bytes : List ℕ} {opens last : List Open} {old new : S × List PartStep}
       {answer : Result (Unit {0}) E} (r : Row) → tells old new (r ∷ []) answer → r.begin < r.end → r.end ≤ length bytes
       → Steps T opens r (between r.begin r.end bytes) last → Told tells T bytes opens r.begin old new answer last r.end
   told_row r p o i s = record {
@@ -70,7 +70,7 @@ module _ {S E : Type 0} (tells : Tells S E) where
 
   -- that of a number that stands there and is allowed
   pub number_told : {T : Table} {bytes : List ℕ} {first : List Open} {next : ℕ → List ℕ → List Open} {a : Allowed}
-      {x : What} {u : TypeId} {d : ℕ} {way : List Step} {old new : S × List Step}
+      {x : What} {u : TypeId} {d : ℕ} {way : List PartStep} {old new : S × List PartStep}
       {answer : Result (Unit {0}) E} (n at end : ℕ) → Takes T first (a_number a) x u d way next
       → IsUnsignedAt n bytes at end → Allows a n
       → tells old new (record { what = x; id = u; depth = d; number = n; begin = at; end = end } ∷ []) answer
@@ -80,7 +80,7 @@ module _ {S E : Type 0} (tells : Tells S E) where
 
   -- and that of raw bytes
   pub raw_told : {T : Table} {bytes : List ℕ} {first : List Open} {next : ℕ → List ℕ → List Open} {u : TypeId}
-      {d : ℕ} {way : List Step} {old new : S × List Step} {answer : Result (Unit {0}) E} (n at end : ℕ)
+      {d : ℕ} {way : List PartStep} {old new : S × List PartStep} {answer : Result (Unit {0}) E} (n at end : ℕ)
       → Takes T first (raw n) what.Raw u d way next
       → 0 < n → end ≡ at + n → end ≤ length bytes
       → tells old new (record { what = what.Raw; id = u; depth = d; number = n; begin = at; end = end } ∷ []) answer
@@ -90,7 +90,7 @@ module _ {S E : Type 0} (tells : Tells S E) where
       told_row _ p (omega arith) m (k.steps _ _ (refl, refl, refl) (omega arith) refl)
 
   pub told_then : Joins → {T : Table} {bytes : List ℕ} {opens mid last : List Open} {at place end : ℕ}
-      {old here new : S × List Step} {answer : Result (Unit {0}) E}
+      {old here new : S × List PartStep} {answer : Result (Unit {0}) E}
       → Told tells T bytes opens at old here (Ok tt) mid place
       → Told tells T bytes mid place here new answer last end → Told tells T bytes opens at old new answer last end
   told_then joins {old = old} {here = here} {new = new} {answer = answer} p q = record {
@@ -102,7 +102,7 @@ module _ {S E : Type 0} (tells : Tells S E) where
   }
 
   -- and what is whole ends
-  pub told_end : {T : Table} {bytes : List ℕ} {opens mid last : List Open} {at end : ℕ} {old new : S × List Step}
+  pub told_end : {T : Table} {bytes : List ℕ} {opens mid last : List Open} {at end : ℕ} {old new : S × List PartStep}
       {answer : Result (Unit {0}) E} → Told tells T bytes opens at old new answer mid end → Ends T mid last
       → Told tells T bytes opens at old new answer last end
   told_end p e = record {
@@ -115,7 +115,7 @@ module _ {S E : Type 0} (tells : Tells S E) where
 
   -- no more of the skeleton
   pub told_none : {T : Table} {bytes : List ℕ} {t : TypeId} {base : ℕ} {outer : List Open} {at : ℕ}
-      {old new : S × List Step} {answer : Result (Unit {0}) E} (p : List ℕ) → tells old new [] answer
+      {old new : S × List PartStep} {answer : Result (Unit {0}) E} (p : List ℕ) → tells old new [] answer
       → at ≤ length bytes
       → Told tells T bytes (a_value t base p ∷ outer) at old new answer (a_value t base (p ++ []) ∷ outer) at
   told_none {T = T} {bytes = bytes} {t = t} {base = base} {outer = outer} {at = at} {old = old} {new = new}
@@ -125,7 +125,7 @@ module _ {S E : Type 0} (tells : Tells S E) where
 
   -- more of it behind more of it
   pub told_more : {T : Table} {bytes : List ℕ} {opens : List Open} {t : TypeId} {base : ℕ} {outer : List Open}
-      {at end : ℕ} {old new : S × List Step} {answer : Result (Unit {0}) E} (p a b : List ℕ)
+      {at end : ℕ} {old new : S × List PartStep} {answer : Result (Unit {0}) E} (p a b : List ℕ)
       → Told tells T bytes opens at old new answer (a_value t base ((p ++ a) ++ b) ∷ outer) end
       → Told tells T bytes opens at old new answer (a_value t base (p ++ (a ++ b)) ∷ outer) end
   told_more {T = T} {bytes = bytes} {opens = opens} {t = t} {base = base} {outer = outer} {at = at} {end = end}
@@ -133,7 +133,7 @@ module _ {S E : Type 0} (tells : Tells S E) where
       subst (λ q. Told tells T bytes opens at old new answer (a_value t base q ∷ outer) end) (append_assoc p a b) h
 
   pub told_three : {T : Table} {bytes : List ℕ} {opens : List Open} {t : TypeId} {base : ℕ} {outer : List Open}
-      {at end : ℕ} {old new : S × List Step} {answer : Result (Unit {0}) E} (p a b c : List ℕ)
+      {at end : ℕ} {old new : S × List PartStep} {answer : Result (Unit {0}) E} (p a b c : List ℕ)
       → Told tells T bytes opens at old new answer (a_value t base ((p ++ (a ++ b)) ++ c) ∷ outer) end
       → Told tells T bytes opens at old new answer (a_value t base (p ++ (a ++ (b ++ c))) ∷ outer) end
   told_three {T = T} {bytes = bytes} {opens = opens} {t = t} {base = base} {outer = outer} {at = at} {end = end}
@@ -142,7 +142,7 @@ module _ {S E : Type 0} (tells : Tells S E) where
       (append_assoc p (a ++ b) c ∙ ap (λ q. p ++ q) (append_assoc a b c)) h
 
   pub fails_then : Joins → {T : Table} {bytes : List ℕ} {opens mid : List Open} {at place : ℕ}
-      {old here : S × List Step} (most : ℕ) (new : S) → Told tells T bytes opens at old here (Ok tt) mid place
+      {old here : S × List PartStep} (most : ℕ) (new : S) → Told tells T bytes opens at old here (Ok tt) mid place
       → (f : Stop E)
       → Fails tells T bytes most mid place here new f → Fails tells T bytes most opens at old new f
   fails_then joins most new p (stops.Here place awaited) q = (q.0, q.1, told_then joins p q.2, q.3, q.4)
@@ -150,7 +150,7 @@ module _ {S E : Type 0} (tells : Tells S E) where
 
   -- a `?` ends the walk
   pub walk_failed : (T : Table) (bytes : List ℕ) (most : ℕ) (t : TypeId) (base : ℕ) (p : List ℕ) (outer : List Open)
-      (at : ℕ) (old : S × List Step) (new : S) (Whole : List ℕ → Type 0) (f : Stop E) (q : Result ℕ (Stop E))
+      (at : ℕ) (old : S × List PartStep) (new : S) (Whole : List ℕ → Type 0) (f : Stop E) (q : Result ℕ (Stop E))
       → IsErrAnd q (λ e. e ≡ f)
       → Fails tells T bytes most (a_value t base p ∷ outer) at old new f
       → Walks tells T bytes most t base p outer at old new Whole q
@@ -159,14 +159,15 @@ module _ {S E : Type 0} (tells : Tells S E) where
       subst (λ f. Fails tells T bytes most (a_value t base p ∷ outer) at old new f) (sym h) w
 
   pub walk_to_failed : (T : Table) (bytes : List ℕ) (most : ℕ) (opens : List Open) (at : ℕ)
-      (old : S × List Step) (new : S) (last : List Open) (f : Stop E) (q : Result ℕ (Stop E)) → IsErrAnd q (λ e. e ≡ f)
+      (old : S × List PartStep) (new : S) (last : List Open) (f : Stop E) (q : Result ℕ (Stop E))
+      → IsErrAnd q (λ e. e ≡ f)
       → Fails tells T bytes most opens at old new f → WalksTo tells T bytes most opens at old new last q
   walk_to_failed T bytes most opens at old new last f (Ok x) h w = absurd h
   walk_to_failed T bytes most opens at old new last f (Err e) h w =
       subst (λ f. Fails tells T bytes most opens at old new f) (sym h) w
 
   pub number_failed : (T : Table) (bytes : List ℕ) (most : ℕ) (first : List Open) (at : ℕ)
-      (old : S × List Step) (new : S) (next : ℕ → List ℕ → List Open) (Whole : ℕ → ℕ → Type 0) (f : Stop E)
+      (old : S × List PartStep) (new : S) (next : ℕ → List ℕ → List Open) (Whole : ℕ → ℕ → Type 0) (f : Stop E)
       (q : Result (ℕ × ℕ) (Stop E))
       → IsErrAnd q (λ e. e ≡ f) → Fails tells T bytes most first at old new f
       → WalksNumber tells T bytes most first at old new next Whole q
@@ -175,7 +176,7 @@ module _ {S E : Type 0} (tells : Tells S E) where
       subst (λ f. Fails tells T bytes most first at old new f) (sym h) w
 
   pub raw_failed : (T : Table) (bytes : List ℕ) (most : ℕ) (first : List Open) (at count : ℕ)
-      (old : S × List Step) (new : S) (next : ℕ → List ℕ → List Open) (f : Stop E) (q : Result ℕ (Stop E))
+      (old : S × List PartStep) (new : S) (next : ℕ → List ℕ → List Open) (f : Stop E) (q : Result ℕ (Stop E))
       → IsErrAnd q (λ e. e ≡ f)
       → Fails tells T bytes most first at old new f → WalksRaw tells T bytes most first at count old new next q
   raw_failed T bytes most first at count old new next f (Ok x) h w = absurd h
@@ -184,7 +185,7 @@ module _ {S E : Type 0} (tells : Tells S E) where
 
   -- raw bytes end a walk
   pub walks_on_raw : Joins → (W : List ℕ → Type 0) → {T : Table} {t : TypeId} {base : ℕ} {outer : List Open}
-      {bytes : List ℕ} {at mid count : ℕ} {old : S × List Step} {here : S} (most : ℕ) (new : S) (p a : List ℕ)
+      {bytes : List ℕ} {at mid count : ℕ} {old : S × List PartStep} {here : S} (most : ℕ) (new : S) (p a : List ℕ)
       → Told tells T bytes (a_value t base p ∷ outer) at old (here, old.1) (Ok tt) (a_value t base (p ++ a) ∷ outer) mid
       → (r : Result ℕ (Stop E))
       → WalksRaw tells T bytes most (a_value t base (p ++ a) ∷ outer) mid count (here, old.1) new
@@ -201,7 +202,7 @@ module _ {S E : Type 0} (tells : Tells S E) where
   -- the rest of a walk ends it
   pub walks_on : Joins → (W : List ℕ → Type 0) → {V : List ℕ → Type 0} {T : Table} {t : TypeId} {base : ℕ}
       {outer : List Open}
-      {bytes : List ℕ} {at mid : ℕ} {old : S × List Step} {here : S} (most : ℕ) (new : S) (p a : List ℕ)
+      {bytes : List ℕ} {at mid : ℕ} {old : S × List PartStep} {here : S} (most : ℕ) (new : S) (p a : List ℕ)
       → Told tells T bytes (a_value t base p ∷ outer) at old (here, old.1) (Ok tt) (a_value t base (p ++ a) ∷ outer) mid
       → (r : Result ℕ (Stop E)) → Walks tells T bytes most t base (p ++ a) outer mid (here, old.1) new V r
       → ((b : List ℕ) → V b → W (a ++ b)) → Walks tells T bytes most t base p outer at old new W r

@@ -7,7 +7,7 @@ use Rattle.gob_value.specs.Tree.{Tree}
 use Rattle.gob_value.specs.Top.{SpellsTop}
 use Rattle.gob_explain.specs.declared.body.Walked.{Walked}
 use Rattle.gob_explain.specs.declared.row.Row.{Row}
-use Rattle.gob_explain.specs.declared.row.Step.{Step}
+use Rattle.gob_explain.specs.declared.row.PartStep.{PartStep}
 use Rattle.gob_explain.specs.Open.{Open, a_value}
 use Rattle.gob_explain.specs.Path.{PathAt}
 use Rattle.gob_explain.specs.Walk.{RowsLead, StopsAt}
@@ -33,15 +33,15 @@ EndsSo T t body most false opens place = StopsAt T body most opens place
 -- or of some of them, and no more
 abbrev pub WalksBody : {S E : Type 0} → Tells S E → Table → TypeId → List ℕ → (most : ℕ) → S → S → Result Walked E
     → Type 0
-WalksBody tells T t body most old new (Ok walked) = (opens : List Open) × (path : List Step)
+WalksBody tells T t body most old new (Ok walked) = (opens : List Open) × (path : List PartStep)
     × Told tells T body (begins_value t) 0 (old, []) (new, path) (Ok tt) opens walked.place
     × EndsSo T t body most walked.whole opens walked.place × PathAt T walked.whole opens path
-WalksBody tells T t body most old new (Err e) = (opens : List Open) × (place : ℕ) × (path : List Step)
+WalksBody tells T t body most old new (Err e) = (opens : List Open) × (place : ℕ) × (path : List PartStep)
     × Told tells T body (begins_value t) 0 (old, []) (new, path) (Err e) opens place
 
 -- the path is that of the place in the body of a value of this type where its rows, no deeper than 1000, go no further:
 -- before a refused place, where all the bytes have rows, that of their end
-pub record IsPathTo (T : Table) (t : TypeId) (body : List ℕ) (path : List Step) : Type 0 where
+pub record IsPathTo (T : Table) (t : TypeId) (body : List ℕ) (path : List PartStep) : Type 0 where
   pub place : ℕ
   pub rows : List Row
   pub opens : List Open

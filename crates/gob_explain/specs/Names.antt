@@ -12,8 +12,8 @@ use Rattle.gob_types.specs.declared.kind.Kind.{Kind}
 use Rattle.gob_types.specs.declared.kind.Kind.TheVariants as kind
 use Rattle.gob_types.specs.declared.kind.Shape.{Shape}
 use Rattle.gob_words.specs.Escaped.{escaped_text}
-use Rattle.gob_explain.specs.declared.row.Step.{Step}
-use Rattle.gob_explain.specs.declared.row.Step.TheVariants as step
+use Rattle.gob_explain.specs.declared.row.PartStep.{PartStep}
+use Rattle.gob_explain.specs.declared.row.PartStep.TheVariants as step
 
 -- a byte in two lower case hexadecimal digits
 abbrev pub byte_text : ℕ → List ℕ
@@ -61,7 +61,7 @@ field_in (Some s) n = field_of_kind s.kind n
 abbrev pub held_name : Table → TypeId → List ℕ
 held_name T t = known_or (type_name T t) (codes "type " ++ decimal t.0)
 
-abbrev pub step_text : Table → Step → List ℕ
+abbrev pub step_text : Table → PartStep → List ℕ
 step_text T (step.Element i) = codes "[" ++ (decimal i ++ codes "]")
 step_text T (step.Key i) = codes "[" ++ (decimal i ++ codes "] key")
 step_text T (step.Value i) = codes "[" ++ (decimal i ++ codes "]")
@@ -69,5 +69,5 @@ step_text T (step.Field t n) = codes "." ++ field_in (shape_of T t) n
 step_text T (step.Held t) = codes ".(" ++ (held_name T t ++ codes ")")
 
 -- the steps one behind another
-abbrev pub path_text : Table → List Step → List ℕ
+abbrev pub path_text : Table → List PartStep → List ℕ
 path_text T path = flat_map (step_text T) path

@@ -9,7 +9,7 @@ ghost use Rattle.gob_types.specs.Table.{Table, shape_of};
 ghost use Rattle.gob_read.specs.Expected.{Allowed, a_number, first_allowed, raw};
 ghost use Rattle.gob_explain.specs.Open.{Open};
 ghost use Rattle.gob_explain.specs.Walk.{HasRawBytes, opened};
-ghost use Rattle.gob_explain.specs.declared.row.Step.{Step};
+ghost use Rattle.gob_explain.specs.declared.row.PartStep.{PartStep};
 ghost use Rattle.gob_explain.specs.Machine.Walking.{AllowsRange, BeginsAt, IsInRange, SpellsOne, Takes, Walks};
 ghost use Rattle.gob_explain.specs.Machine.Walking.{WalksNumber, WalksRaw};
 
@@ -48,7 +48,7 @@ pub(crate) fn walk_number<O: RowSink>(
 ) -> Result<(u64, usize), Stop<O::Fault>>
     ensures most { IfOk result (λ found. found.0 ≤ allowed.most) }
     ensures walks { (T : Table) (opens : List Open) (next : ℕ → List ℕ → List Open) (a : Allowed) (most : ℕ)
-        (way : List Step) → at ≤ length body.now → Takes T opens (a_number a) what part.id part.depth way next
+        (way : List PartStep) → at ≤ length body.now → Takes T opens (a_number a) what part.id part.depth way next
         → AllowsRange a allowed.least allowed.most
         → WalksNumber O.tells T body.now most opens at (out.old, way) out.new next
         (IsInRange allowed.least allowed.most body.now at) result }
@@ -83,7 +83,7 @@ pub(crate) fn walk_raw<O: RowSink>(
     at: usize,
     out: &mut O,
 ) -> Result<usize, Stop<O::Fault>>
-    ensures { (T : Table) (opens : List Open) (next : ℕ → List ℕ → List Open) (most : ℕ) (way : List Step)
+    ensures { (T : Table) (opens : List Open) (next : ℕ → List ℕ → List Open) (most : ℕ) (way : List PartStep)
         → at ≤ length body.now → 0 < count → Takes T opens (raw count) What.Raw part.id part.depth way next
         → WalksRaw O.tells T body.now most opens at count (out.old, way) out.new next result }
 {
@@ -117,7 +117,7 @@ pub(crate) fn walk_counted<O: RowSink>(
     out: &mut O,
 ) -> Result<usize, Stop<O::Fault>>
     ensures { (T : Table) (t : TypeId) (s : Shape) (base around most : ℕ) (p : List ℕ) (outer : List Open)
-        (way : List Step) → base + around + 1 ≡ part.depth → at ≤ length body.now
+        (way : List PartStep) → base + around + 1 ≡ part.depth → at ≤ length body.now
         → BeginsAt T t base p outer part.id around way → shape_of T part.id ≡ Some s → HasRawBytes s.kind
         → Walks O.tells T body.now most t base p outer at (out.old, way) out.new (SpellsOne T part.id) result }
 {
@@ -137,7 +137,7 @@ pub(crate) fn walk_basic<O: RowSink>(
     out: &mut O,
 ) -> Result<usize, Stop<O::Fault>>
     ensures { (T : Table) (t : TypeId) (s : Shape) (base around most : ℕ) (p : List ℕ) (outer : List Open)
-        (way : List Step) → base + around + 1 ≡ part.depth → at ≤ length body.now
+        (way : List PartStep) → base + around + 1 ≡ part.depth → at ≤ length body.now
         → BeginsAt T t base p outer part.id around way → shape_of T part.id ≡ Some s → s.kind ≡ kind.Basic basic
         → basic ≢ basics.Interface
         → Walks O.tells T body.now most t base p outer at (out.old, way) out.new (SpellsOne T part.id) result }
@@ -161,7 +161,7 @@ fn walk_complex<O: RowSink>(
     out: &mut O,
 ) -> Result<usize, Stop<O::Fault>>
     ensures { (T : Table) (t : TypeId) (s : Shape) (base around most : ℕ) (p : List ℕ) (outer : List Open)
-        (way : List Step) → base + around + 1 ≡ part.depth → at ≤ length body.now
+        (way : List PartStep) → base + around + 1 ≡ part.depth → at ≤ length body.now
         → BeginsAt T t base p outer part.id around way → shape_of T part.id ≡ Some s
         → s.kind ≡ kind.Basic basics.Complex
         → Walks O.tells T body.now most t base p outer at (out.old, way) out.new (SpellsOne T part.id) result }

@@ -5,7 +5,7 @@ ghost use Rattle.gob_types.specs.Defined.{types};
 ghost use Rattle.gob_explain.specs.Body.{IsPathTo};
 
 use crate::body::walk_body;
-use crate::row::{Row, Step};
+use crate::row::{PartStep, Row};
 use crate::sink::RowSink;
 use gob_num::Memory;
 use gob_types::{Table, TypeId};
@@ -17,7 +17,7 @@ const MOST_DEPTH: u64 = 1000;
 // The steps to the part at hand.
 #[derive(Drop)]
 struct Path {
-    steps: Vec<Step>,
+    steps: Vec<PartStep>,
 }
 
 impl RowSink for Path {
@@ -31,7 +31,7 @@ impl RowSink for Path {
         Ok(())
     }
 
-    fn enter(&mut self, step: Step) -> Result<(), Memory> {
+    fn enter(&mut self, step: PartStep) -> Result<(), Memory> {
         Ok(self.steps.push(step)?)
     }
 
@@ -47,7 +47,12 @@ impl RowSink for Path {
 /// The steps from a value to the part that is under way where these bytes end, or to the one that is too deep there,
 /// also in what an interface holds. `id` is the value's type, and `front` the bytes of its body behind the type number,
 /// up to the place that is asked for. Parts deeper than 1000 aren't looked at.
-pub fn path_to(alloc: Global, table: &Table, id: TypeId, front: &[u8]) -> Result<Vec<Step>, Memory>
+pub fn path_to(
+    alloc: Global,
+    table: &Table,
+    id: TypeId,
+    front: &[u8],
+) -> Result<Vec<PartStep>, Memory>
     ensures { IfOk result (λ path. IsPathTo (types table.now) id front.now path.items) }
 {
     let mut path = Path {

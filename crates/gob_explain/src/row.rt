@@ -73,7 +73,7 @@ pub struct Awaited {
 
 /// One step from a value into a part of it.
 #[derive(Clone, Copy, Debug, PartialEq, Eq)]
-pub enum Step {
+pub enum PartStep {
     /// Into the element of this index of a slice or an array, counted from 0.
     Element(u64),
     /// Into the key of the pair of this index of a map, counted from 0.

@@ -1,6 +1,6 @@
 //! What rows are told to.
 
-use crate::row::{Row, Step};
+use crate::row::{PartStep, Row};
 
 /// Is told of the rows of a body one behind another, and of the parts that they stand in. It stands at a path, the
 /// steps from the value to the part at hand: none at first, one more with each step in, and one less with each step
@@ -8,32 +8,32 @@ use crate::row::{Row, Step};
 pub trait RowSink {
     ghost use Rattle.std.specs.Prelude.{List, [], ◌∷◌, ◌++◌, Result, Ok, Err};
     ghost use Rattle.gob_explain.specs.declared.row.Row.{Row};
-    ghost use Rattle.gob_explain.specs.declared.row.Step.{Step};
+    ghost use Rattle.gob_explain.specs.declared.row.PartStep.{PartStep};
 
     /// Why it isn't told more.
     type Fault: Drop;
 
     /// With this answer it was told of the rows, and stands at the second path where it stood at the first; after an
     /// error of no more than they are.
-    ghost tells: { Self × List Step → Self × List Step → List Row → Result (Unit {0}) Self.Fault → Type 0 };
+    ghost tells: { Self × List PartStep → Self × List PartStep → List Row → Result (Unit {0}) Self.Fault → Type 0 };
 
     /// Is told of the next row.
     fn put(&mut self, row: Row) -> Result<(), Self::Fault>
-        ensures { (way : List Step) → tells (self.old, way) (self.new, way) (row ∷ []) result };
+        ensures { (way : List PartStep) → tells (self.old, way) (self.new, way) (row ∷ []) result };
 
     /// Is told that the next rows stand in this part of the part at hand.
-    fn enter(&mut self, step: Step) -> Result<(), Self::Fault>
-        ensures { (way : List Step) → tells (self.old, way) (self.new, way ++ step ∷ []) [] result };
+    fn enter(&mut self, step: PartStep) -> Result<(), Self::Fault>
+        ensures { (way : List PartStep) → tells (self.old, way) (self.new, way ++ step ∷ []) [] result };
 
     /// Is told that the part which was entered last is whole.
     fn leave(&mut self)
-        ensures { (way : List Step) (step : Step)
+        ensures { (way : List PartStep) (step : PartStep)
             → tells (self.old, way ++ step ∷ []) (self.new, way) [] (Ok tt) };
 
     /// What was told nothing stayed as it was.
-    ghost nothing: { (a : Self × List Step) → tells a a [] (Ok tt) };
+    ghost nothing: { (a : Self × List PartStep) → tells a a [] (Ok tt) };
 
     /// Rows behind rows are one list of them.
-    ghost joined: { (a b c : Self × List Step) (x y : List Row) (r : Result (Unit {0}) Self.Fault)
+    ghost joined: { (a b c : Self × List PartStep) (x y : List Row) (r : Result (Unit {0}) Self.Fault)
         → tells a b x (Ok tt) → tells b c y r → tells a c (x ++ y) r };
 }

@@ -12,13 +12,13 @@ ghost use Rattle.gob_types.specs.Ready.{IsReady};
 ghost use Rattle.gob_types.specs.Table.{shape_of};
 ghost use Rattle.gob_explain.specs.Open.{Open, a_filling, a_value, count, description, type_number};
 ghost use Rattle.gob_explain.specs.Path.{PathOf};
-ghost use Rattle.gob_explain.specs.declared.row.Step.{Step};
+ghost use Rattle.gob_explain.specs.declared.row.PartStep.{PartStep};
 ghost use Rattle.gob_explain.specs.Machine.Walking.{BeginsAt, BeginsEachKey, BeginsEachPart, BeginsEachValue};
 ghost use Rattle.gob_explain.specs.Machine.Walking.{IsValueAt, SpellsEntries, SpellsMany, SpellsOne, SpellsWhole};
 ghost use Rattle.gob_explain.specs.Machine.Walking.{Walks, WalksTo};
 
 use crate::leaf::{Numbers, walk_basic, walk_counted, walk_number, walk_raw};
-use crate::row::{Awaited, Part, Step, What};
+use crate::row::{Awaited, Part, PartStep, What};
 use crate::sink::RowSink;
 use crate::stop::Stop;
 use gob_types::{Basic, Fields, Kind, Shapes, Table, TypeId};
@@ -44,7 +44,7 @@ pub(crate) fn walk_value<O: RowSink>(
 ) -> Result<usize, Stop<O::Fault>>
     requires most { walk.now.most ≤ 1000 }
     requires depth { part.depth ≤ walk.now.most + 1 }
-    ensures { let T = types walk.now.table.now in (base : ℕ) (outer : List Open) (way : List Step)
+    ensures { let T = types walk.now.table.now in (base : ℕ) (outer : List Open) (way : List PartStep)
         → base + 1 ≡ part.depth → at ≤ length walk.now.body.now → IsValueAt T part.id base outer way
         → Walks O.tells T walk.now.body.now walk.now.most part.id base [] outer at (out.old, way) out.new
         (SpellsWhole T part.id) result }
@@ -79,7 +79,7 @@ fn walk_part<O: RowSink>(
     requires most { walk.now.most ≤ 1000 }
     requires depth { part.depth ≤ walk.now.most + 1 }
     ensures { let T = types walk.now.table.now in (t : TypeId) (base around : ℕ) (p : List ℕ) (outer : List Open)
-        (way : List Step) → base + around + 1 ≡ part.depth → at ≤ length walk.now.body.now
+        (way : List PartStep) → base + around + 1 ≡ part.depth → at ≤ length walk.now.body.now
         → IsReady T part.id → BeginsAt T t base p outer part.id around way
         → Walks O.tells T walk.now.body.now walk.now.most t base p outer at (out.old, way) out.new
         (SpellsOne T part.id) result }
@@ -130,7 +130,7 @@ fn walk_part<O: RowSink>(
 #[cycle(walk)]
 fn walk_step<O: RowSink>(
     walk: &Walk<'_>,
-    step: Step,
+    step: PartStep,
     part: Part,
     at: usize,
     out: &mut O,
@@ -138,7 +138,7 @@ fn walk_step<O: RowSink>(
     requires most { walk.now.most ≤ 1000 }
     requires depth { part.depth ≤ walk.now.most + 1 }
     ensures { let T = types walk.now.table.now in (t : TypeId) (base around : ℕ) (p : List ℕ) (outer : List Open)
-        (way : List Step) → base + around + 1 ≡ part.depth → at ≤ length walk.now.body.now
+        (way : List PartStep) → base + around + 1 ≡ part.depth → at ≤ length walk.now.body.now
         → IsReady T part.id → BeginsAt T t base p outer part.id around (way ++ step ∷ [])
         → Walks O.tells T walk.now.body.now walk.now.most t base p outer at (out.old, way) out.new
         (SpellsOne T part.id) result }
@@ -161,14 +161,14 @@ fn walk_elements<O: RowSink>(
     requires most { walk.now.most ≤ 1000 }
     requires depth { each.depth ≤ walk.now.most + 1 }
     ensures { let T = types walk.now.table.now in (t : TypeId) (base around : ℕ) (p : List ℕ) (outer : List Open)
-        (way : List Step) → base + around + 1 ≡ each.depth → begin ≤ length walk.now.body.now
+        (way : List PartStep) → base + around + 1 ≡ each.depth → begin ≤ length walk.now.body.now
         → IsReady T each.id → BeginsEachPart T t base p outer each.id count around way
         → Walks O.tells T walk.now.body.now walk.now.most t base p outer begin (out.old, way) out.new
         (SpellsMany T each.id count) result }
 {
     let mut at = begin;
     'elements: for index in 0..count {
-        at = walk_step(walk, Step::Element(index), each, at, out)?;
+        at = walk_step(walk, PartStep::Element(index), each, at, out)?;
     }
     Ok(at)
 }
@@ -193,7 +193,7 @@ fn walk_pairs<O: RowSink>(
     requires most { walk.now.most ≤ 1000 }
     requires depth { each.depth ≤ walk.now.most + 1 }
     ensures { let T = types walk.now.table.now in (t : TypeId) (base around : ℕ) (p : List ℕ) (outer : List Open)
-        (way : List Step) → base + around + 1 ≡ each.depth → begin ≤ length walk.now.body.now
+        (way : List PartStep) → base + around + 1 ≡ each.depth → begin ≤ length walk.now.body.now
         → IsReady T each.key → IsReady T each.elem
         → BeginsEachKey T t base p outer each.key each.elem count around way
         → BeginsEachValue T t base p outer each.key each.elem count around way
@@ -210,8 +210,8 @@ fn walk_pairs<O: RowSink>(
     };
     let mut at = begin;
     'pairs: for index in 0..count {
-        let behind = walk_step(walk, Step::Key(index), keys, at, out)?;
-        at = walk_step(walk, Step::Value(index), elems, behind, out)?;
+        let behind = walk_step(walk, PartStep::Key(index), keys, at, out)?;
+        at = walk_step(walk, PartStep::Value(index), elems, behind, out)?;
     }
     Ok(at)
 }
@@ -228,7 +228,7 @@ fn walk_fields<O: RowSink>(
     requires most { walk.now.most ≤ 1000 }
     requires depth { part.depth ≤ walk.now.most }
     ensures { let T = types walk.now.table.now in (t : TypeId) (base around : ℕ) (p : List ℕ) (outer : List Open)
-        (way : List Step) (s : Shape) → base + around + 1 ≡ part.depth → begin ≤ length walk.now.body.now
+        (way : List PartStep) (s : Shape) → base + around + 1 ≡ part.depth → begin ≤ length walk.now.body.now
         → IsReady T part.id → shape_of T part.id ≡ Some s → s.kind ≡ kind.Struct fields.now
         → BeginsAt T t base p outer part.id around way
         → Walks O.tells T walk.now.body.now walk.now.most t base p outer begin (out.old, way) out.new
@@ -249,7 +249,7 @@ fn walk_fields<O: RowSink>(
         let Some(field) = fields.get(number) else {
             return Err(Stop::Here(at, part.awaited()));
         };
-        let step = Step::Field {
+        let step = PartStep::Field {
             of: part.id,
             number,
         };
@@ -274,7 +274,7 @@ fn walk_basic_part<O: RowSink>(
     requires most { walk.now.most ≤ 1000 }
     requires depth { part.depth ≤ walk.now.most }
     ensures { let T = types walk.now.table.now in (t : TypeId) (base around : ℕ) (p : List ℕ) (outer : List Open)
-        (way : List Step) (s : Shape) → base + around + 1 ≡ part.depth → at ≤ length walk.now.body.now
+        (way : List PartStep) (s : Shape) → base + around + 1 ≡ part.depth → at ≤ length walk.now.body.now
         → BeginsAt T t base p outer part.id around way → shape_of T part.id ≡ Some s → s.kind ≡ kind.Basic basic
         → Walks O.tells T walk.now.body.now walk.now.most t base p outer at (out.old, way) out.new
         (SpellsOne T part.id) result }
@@ -296,7 +296,7 @@ fn walk_interface<O: RowSink>(
     requires most { walk.now.most ≤ 1000 }
     requires depth { part.depth ≤ walk.now.most }
     ensures { let T = types walk.now.table.now in (t : TypeId) (base around : ℕ) (p : List ℕ) (outer : List Open)
-        (way : List Step) (s : Shape) → base + around + 1 ≡ part.depth → at ≤ length walk.now.body.now
+        (way : List PartStep) (s : Shape) → base + around + 1 ≡ part.depth → at ≤ length walk.now.body.now
         → BeginsAt T t base p outer part.id around way → shape_of T part.id ≡ Some s
         → s.kind ≡ kind.Basic basics.Interface
         → Walks O.tells T walk.now.body.now walk.now.most t base p outer at (out.old, way) out.new
@@ -328,7 +328,7 @@ fn walk_filling<O: RowSink>(
     requires most { walk.now.most ≤ 1000 }
     requires depth { filling.depth ≤ walk.now.most }
     ensures { let T = types walk.now.table.now in (t : TypeId) (base : ℕ) (p : List ℕ) (outer : List Open)
-        (way : List Step) → begin ≤ length walk.now.body.now → PathOf T (a_value t base p ∷ outer) way
+        (way : List PartStep) → begin ≤ length walk.now.body.now → PathOf T (a_value t base p ∷ outer) way
         → WalksTo O.tells T walk.now.body.now walk.now.most
         (a_filling filling.id filling.depth type_number ∷ (a_value t base p ∷ outer)) begin (out.old, way) out.new
         (a_value t base (p ++ 0 ∷ []) ∷ outer) result }
@@ -370,7 +370,7 @@ fn walk_definition<O: RowSink>(
 ) -> Result<usize, Stop<O::Fault>>
     requires most { walk.now.most ≤ 1000 }
     requires depth { filling.depth ≤ walk.now.most }
-    ensures { let T = types walk.now.table.now in (outer : List Open) (way : List Step)
+    ensures { let T = types walk.now.table.now in (outer : List Open) (way : List PartStep)
         → at ≤ length walk.now.body.now → PathOf T outer way
         → WalksTo O.tells T walk.now.body.now walk.now.most
         (a_value wire_type filling.depth [] ∷ (a_filling filling.id filling.depth description ∷ outer))
@@ -393,7 +393,7 @@ fn walk_held<O: RowSink>(
     requires most { walk.now.most ≤ 1000 }
     requires depth { filling.depth ≤ walk.now.most }
     ensures { let T = types walk.now.table.now in (t : TypeId) (base : ℕ) (p : List ℕ) (outer : List Open)
-        (way : List Step) → at ≤ length walk.now.body.now → PathOf T (a_value t base p ∷ outer) way
+        (way : List PartStep) → at ≤ length walk.now.body.now → PathOf T (a_value t base p ∷ outer) way
         → WalksTo O.tells T walk.now.body.now walk.now.most
         (a_filling filling.id filling.depth (count id) ∷ (a_value t base p ∷ outer)) at (out.old, way) out.new
         (a_value t base (p ++ 0 ∷ []) ∷ outer) result }
@@ -413,12 +413,12 @@ fn walk_inside<O: RowSink>(
 ) -> Result<usize, Stop<O::Fault>>
     requires most { walk.now.most ≤ 1000 }
     requires depth { filling.depth ≤ walk.now.most }
-    ensures { let T = types walk.now.table.now in (outer : List Open) (way : List Step)
+    ensures { let T = types walk.now.table.now in (outer : List Open) (way : List PartStep)
         → at ≤ length walk.now.body.now → PathOf T outer way
         → Walks O.tells T walk.now.body.now walk.now.most id filling.depth [] outer at (out.old, way) out.new
         (SpellsWhole T id) result }
 {
-    out.enter(Step::Held(id))?;
+    out.enter(PartStep::Held(id))?;
     let part = Part {
         id,
         depth: filling.depth + 1,

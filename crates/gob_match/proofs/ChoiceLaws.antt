@@ -14,7 +14,7 @@ use Rattle.gob_types.proofs.PublicLaws.{contains_read, contains_at, slice_get-ap
 use Rattle.gob_types.proofs.PublicLaws.{reaches_itself}
 use Rattle.gob_match.specs.declared.pair.TypePair.{TypePair}
 use Rattle.gob_match.specs.declared.reason.ClashReason.{ClashReason}
-use Rattle.gob_match.specs.declared.step.Step.{Step}
+use Rattle.gob_match.specs.declared.step.TypeStep.{TypeStep}
 use Rattle.gob_match.specs.Clashing.{HasClashingShapes, LeadsBySteps, here, onward, ClashAt, IsLeastClash}
 use Rattle.gob_match.specs.Matching.{KindsMatch, HasShapes, HasMatchingShapes, NamesByStep, Match}
 use Rattle.gob_match.specs.Pairs.{of_types, NamesPair}
@@ -127,7 +127,7 @@ in_all (v ∷ ts) us (suc i) j t u a b =
 module _ (T U : Table) where
   -- some steps lead to a pair whose shapes clash
   record Clashes (p : TypePair) : Type 0 where
-    path : List Step
+    path : List TypeStep
     reason : ClashReason
     last : TypePair
     leads : LeadsBySteps T U path p last
@@ -136,13 +136,13 @@ module _ (T U : Table) where
   -- the pair may stand in a closed list of these
   record IsClosedAt (ps : List TypePair) (p : TypePair) : Type 0 where
     match : HasMatchingShapes T U p
-    named : (s : Step) (q : TypePair) → NamesByStep T U p s q → In q ps
+    named : (s : TypeStep) (q : TypePair) → NamesByStep T U p s q → In q ps
 
   -- what isn't in the list clashes
   record Covers (ps : List TypePair) : Type 0 where
     each : (p : TypePair) → IsReadyPair T U p → In p ps ⊎ Clashes p
 
-  named_at : {p : TypePair} {s r : Shape} → HasShapes T U p s r → {x : Step} {q : TypePair} → NamesByStep T U p x q
+  named_at : {p : TypePair} {s r : Shape} → HasShapes T U p s r → {x : TypeStep} {q : TypePair} → NamesByStep T U p x q
       → NamesPair s.kind r.kind x q
   named_at {s = s} {r = r} shapes {x = x} {q = q} n =
       subst (λ (y : Shape). NamesPair y.kind r.kind x q) (one_stream n.shapes shapes)
@@ -237,9 +237,9 @@ module _ (T U : Table) where
   }
 
   pub ready_match_or_clash : (t u : TypeId) → IsReady T t → IsReady U u
-      → Match T U t u ⊎ ((path : List Step) × (reason : ClashReason) × ClashAt T U t u path reason)
+      → Match T U t u ⊎ ((path : List TypeStep) × (reason : ClashReason) × ClashAt T U t u path reason)
   ready_match_or_clash t u r s = elim (settled.covers.each (of_types t u) (record { stream = r; wanted = s })) as
-      (λ _. Match T U t u ⊎ ((path : List Step) × (reason : ClashReason) × ClashAt T U t u path reason)) [
+      (λ _. Match T U t u ⊎ ((path : List TypeStep) × (reason : ClashReason) × ClashAt T U t u path reason)) [
         | inl m ↦ inl (record {
           pairs = settled.pairs;
           closed = record {
@@ -262,21 +262,21 @@ module _ (T U : Table) where
 
   -- so many steps lead to a pair whose shapes clash
   record ClashesIn (n : ℕ) (p : TypePair) : Type 0 where
-    path : List Step
+    path : List TypeStep
     reason : ClashReason
     last : TypePair
     leads : LeadsBySteps T U path p last
     clash : HasClashingShapes T U last reason
     steps : length path ≡ n
 
-  no_steps : {p last : TypePair} {path : List Step} {reason : ClashReason} → HasMatchingShapes T U p
+  no_steps : {p last : TypePair} {path : List TypeStep} {reason : ClashReason} → HasMatchingShapes T U p
       → LeadsBySteps T U path p last → HasClashingShapes T U last reason → length path ≡ 0 → ⊥
   no_steps m here c e = match_or_clash_at m c
   no_steps m (onward g n l) c e = absurd (omega (arith, e))
 
-  one_step : {n : ℕ} {p last : TypePair} {path : List Step} {reason : ClashReason} → LeadsBySteps T U path p last
+  one_step : {n : ℕ} {p last : TypePair} {path : List TypeStep} {reason : ClashReason} → LeadsBySteps T U path p last
       → HasClashingShapes T U last reason → length path ≡ suc n
-      → HasMatchingShapes T U p × (s : Step) × (q : TypePair) × NamesByStep T U p s q × ClashesIn n q
+      → HasMatchingShapes T U p × (s : TypeStep) × (q : TypePair) × NamesByStep T U p s q × ClashesIn n q
   one_step here c e = absurd (omega (arith, e))
   one_step {n = n} (onward {q = q} {s = s} {path = path} m names l) c e =
       (m, s, q, names, record { path = path; reason = _; last = _; leads = l; clash = c; steps = omega (arith, e) })
@@ -323,7 +323,7 @@ module _ (T U : Table) where
   has_shapes : {n : ℕ} {p : TypePair} → ClashesIn n p → (s : Shape) × (r : Shape) × HasShapes T U p s r
   has_shapes c = first c.leads c.clash
     where
-      first : {p last : TypePair} {path : List Step} {reason : ClashReason} → LeadsBySteps T U path p last
+      first : {p last : TypePair} {path : List TypeStep} {reason : ClashReason} → LeadsBySteps T U path p last
           → HasClashingShapes T U last reason → (s : Shape) × (r : Shape) × HasShapes T U p s r
       first here h = (h.stream, h.wanted, h.shapes)
       first (onward m n l) h = (m.stream, m.wanted, m.shapes)
@@ -367,11 +367,12 @@ module _ (T U : Table) where
           upto : (k : ℕ) → k < suc n → k ≤ n
           upto k below = omega arith
 
-  pub has_least : {t u : TypeId} {path : List Step} {reason : ClashReason} → ClashAt T U t u path reason
-      → (least : List Step) × (why : ClashReason) × IsLeastClash T U t u least why
+  pub has_least : {t u : TypeId} {path : List TypeStep} {reason : ClashReason} → ClashAt T U t u path reason
+      → (least : List TypeStep) × (why : ClashReason) × IsLeastClash T U t u least why
   has_least {t = t} {u = u} {path = path} {reason = reason} c = by (first_or_none (suc (length path)) (of_types t u))
     where
-      none_shorter : (f : HasFirst (of_types t u)) (other : List Step) (why : ClashReason) → ClashAt T U t u other why
+      none_shorter : (f : HasFirst (of_types t u)) (other : List TypeStep) (why : ClashReason)
+          → ClashAt T U t u other why
           → length f.clash.path ≤ length other
       none_shorter f other why d = elim (below_or_past (length other) f.steps) [
         | inl below ↦ absurd (f.none (length other) below
@@ -380,7 +381,7 @@ module _ (T U : Table) where
       ]
 
       by : HasFirst (of_types t u) ⊎ ((k : ℕ) → k < suc (length path) → ¬ ClashesIn k (of_types t u))
-          → (least : List Step) × (why : ClashReason) × IsLeastClash T U t u least why
+          → (least : List TypeStep) × (why : ClashReason) × IsLeastClash T U t u least why
       by (inl f) = (
         f.clash.path,
         f.clash.reason,

@@ -17,8 +17,8 @@ use Rattle.gob_match.specs.declared.common.CommonField.{CommonField}
 use Rattle.gob_match.specs.declared.conversion.Conversion.{Conversion}
 use Rattle.gob_match.specs.declared.conversion.Conversion.TheVariants as conversion
 use Rattle.gob_match.specs.declared.pair.TypePair.{TypePair}
-use Rattle.gob_match.specs.declared.step.Step.{Step}
-use Rattle.gob_match.specs.declared.step.Step.TheVariants as step
+use Rattle.gob_match.specs.declared.step.TypeStep.{TypeStep}
+use Rattle.gob_match.specs.declared.step.TypeStep.TheVariants as step
 use Rattle.gob_match.specs.Machine.Conversions.{IsConversion, of_basics, of_opaques, of_arrays, of_slices, of_maps}
 use Rattle.gob_match.specs.Machine.Conversions.{of_structs, HasCommon, ConversionNames}
 use Rattle.gob_match.specs.Machine.Exploring.{Converts, ConvertsAt, Explores}
@@ -123,7 +123,7 @@ common_sound {fs = fs} (common {n = n} {j = j} {f = f} {g = g} {gs = gs} h e sma
     })
 common_sound (common h e small rest) (suc i) c there = later_common (common_sound rest i c there)
 
-later_has : {c : CommonField} {cs : List CommonField} {s : Step} {q : TypePair} → HasCommon cs s q
+later_has : {c : CommonField} {cs : List CommonField} {s : TypeStep} {q : TypePair} → HasCommon cs s q
     → HasCommon (c ∷ cs) s q
 later_has h = record { place = suc h.place; field = h.field; there = h.there; step = h.step; pair = h.pair }
 
@@ -151,7 +151,7 @@ common_whole (common there same small rest) d (suc k) j f g a b e = later_has (c
 -- ---- what a conversion leads to
 
 -- what a conversion leads to is named
-pub conversion_named : {k l : Kind} {w : Conversion} {s : Step} {q : TypePair} → IsConversion k l w
+pub conversion_named : {k l : Kind} {w : Conversion} {s : TypeStep} {q : TypePair} → IsConversion k l w
     → ConversionNames w s q → NamesPair k l s q
 conversion_named of_basics h = absurd h
 conversion_named of_opaques h = absurd h
@@ -180,7 +180,7 @@ conversion_named {q = q} (of_structs {fs = fs} {gs = gs} cs) h =
     })))
 
 -- and what is named, the conversion leads to
-pub named_conversion : {k l : Kind} {w : Conversion} {s : Step} {q : TypePair} → KindsMatch k l → IsConversion k l w
+pub named_conversion : {k l : Kind} {w : Conversion} {s : TypeStep} {q : TypePair} → KindsMatch k l → IsConversion k l w
     → NamesPair k l s q → ConversionNames w s q
 named_conversion m of_arrays element_of_arrays = (refl, refl)
 named_conversion m of_slices element_of_slices = (refl, refl)
@@ -200,8 +200,8 @@ named_conversion m of_opaques n = elim n [ ]
 
 -- ---- pairs that are added
 
-pub adds_as : {es new : List Entry} {place : ℕ} {P Q : Step → TypePair → Type 0} → AddsPairs es new place P
-    → ((s : Step) (q : TypePair) → P s q → Q s q) → ((s : Step) (q : TypePair) → Q s q → P s q)
+pub adds_as : {es new : List Entry} {place : ℕ} {P Q : TypeStep → TypePair → Type 0} → AddsPairs es new place P
+    → ((s : TypeStep) (q : TypePair) → P s q → Q s q) → ((s : TypeStep) (q : TypePair) → Q s q → P s q)
     → AddsPairs es new place Q
 adds_as m on back = record {
   more = m.more;
@@ -210,7 +210,8 @@ adds_as m on back = record {
   only = λ k e there. let w = m.only k e there in (w.0, w.1, w.2, on w.0 w.1 w.3);
 }
 
-pub adds_none : {es : List Entry} {place : ℕ} {P : Step → TypePair → Type 0} → ((s : Step) (q : TypePair) → P s q → ⊥)
+pub adds_none : {es : List Entry} {place : ℕ} {P : TypeStep → TypePair → Type 0} → ((s : TypeStep) (q : TypePair)
+    → P s q → ⊥)
     → AddsPairs es es place P
 adds_none {es = es} none = record {
   more = [];
@@ -219,7 +220,7 @@ adds_none {es = es} none = record {
   only = λ k e there. absurd (true≢false (sym (ap is_some there)));
 }
 
-pub adds_joined : {es mid new : List Entry} {place : ℕ} {P Q : Step → TypePair → Type 0} → AddsPairs es mid place P
+pub adds_joined : {es mid new : List Entry} {place : ℕ} {P Q : TypeStep → TypePair → Type 0} → AddsPairs es mid place P
     → AddsPairs mid new place Q → AddsPairs es new place (λ s q. P s q ⊎ Q s q)
 adds_joined {es = es} {mid = mid} {new = new} {place = place} {P = P} {Q = Q} m n = record {
   more = m.more ++ n.more;
@@ -228,15 +229,15 @@ adds_joined {es = es} {mid = mid} {new = new} {place = place} {P = P} {Q = Q} m 
   only = only;
 }
   where
-    has : (s : Step) (q : TypePair) → P s q ⊎ Q s q → (k : ℕ) × IsAt new k q
+    has : (s : TypeStep) (q : TypePair) → P s q ⊎ Q s q → (k : ℕ) × IsAt new k q
     has s q (inl h) = let at = m.has s q h in (at.0, subst (λ zs. IsAt zs at.0 q) (sym n.grown) (kept_at n.more at.1))
     has s q (inr h) = n.has s q h
 
-    only : (k : ℕ) (e : Entry) → slice_get (m.more ++ n.more) k ≡ Some e → (s : Step) × (q : TypePair)
+    only : (k : ℕ) (e : Entry) → slice_get (m.more ++ n.more) k ≡ Some e → (s : TypeStep) × (q : TypePair)
         × (e ≡ (q, came place s)) × (P s q ⊎ Q s q)
     only k e there = by (below_or_past k (length m.more))
       where
-        by : (k < length m.more) ⊎ (length m.more ≤ k) → (s : Step) × (q : TypePair) × (e ≡ (q, came place s))
+        by : (k < length m.more) ⊎ (length m.more ≤ k) → (s : TypeStep) × (q : TypePair) × (e ≡ (q, came place s))
             × (P s q ⊎ Q s q)
         by (inl within) = let w = m.only k e (sym (slice_get-append_left m.more n.more k within) ∙ there) in
             (w.0, w.1, w.2, inl w.3)
@@ -245,7 +246,7 @@ adds_joined {es = es} {mid = mid} {new = new} {place = place} {P = P} {Q = Q} m 
             (w.0, w.1, w.2, inr w.3)
 
 -- one of the first n common fields has this step and this pair
-pub record IsAmongFirst (cs : List CommonField) (n : ℕ) (s : Step) (q : TypePair) : Type 0 where
+pub record IsAmongFirst (cs : List CommonField) (n : ℕ) (s : TypeStep) (q : TypePair) : Type 0 where
   pub place : ℕ
   pub below : place < n
   pub field : CommonField
@@ -262,7 +263,7 @@ pub adds_next : {cs : List CommonField} {es mid new : List Entry} {place n : ℕ
     → AddsPairs es new place (IsAmongFirst cs (n + 1))
 adds_next {cs = cs} {n = n} {c = c} m there one = adds_as (adds_joined m one) on back
   where
-    on : (s : Step) (q : TypePair) → IsAmongFirst cs n s q ⊎ IsStepTo (step.Named c.name) c.pair s q
+    on : (s : TypeStep) (q : TypePair) → IsAmongFirst cs n s q ⊎ IsStepTo (step.Named c.name) c.pair s q
         → IsAmongFirst cs (n + 1) s q
     on s q (inl h) = record {
       place = h.place;
@@ -275,7 +276,7 @@ adds_next {cs = cs} {n = n} {c = c} m there one = adds_as (adds_joined m one) on
     }
     on s q (inr h) = record { place = n; below = omega arith; field = c; there = there; step = h.0; pair = h.1 }
 
-    back : (s : Step) (q : TypePair) → IsAmongFirst cs (n + 1) s q
+    back : (s : TypeStep) (q : TypePair) → IsAmongFirst cs (n + 1) s q
         → IsAmongFirst cs n s q ⊎ IsStepTo (step.Named c.name) c.pair s q
     back s q h = by (eq-or-lt_of_le (omega (arith, h.below)))
       where
@@ -323,7 +324,7 @@ explored {T = T} {U = U} {p = p} {s = s} {t = t} {w = w} at shapes converts adde
   }) back;
 }
   where
-    back : (x : Step) (q : TypePair) → NamesByStep T U p x q → ConversionNames w x q
+    back : (x : TypeStep) (q : TypePair) → NamesByStep T U p x q → ConversionNames w x q
     back x q n =
         named_conversion converts.match converts.conversion
         (subst (λ (r : Shape). NamesPair r.kind t.kind x q) (one_stream n.shapes shapes)

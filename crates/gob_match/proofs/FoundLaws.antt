@@ -11,7 +11,7 @@ use borrow.Author.Tests.{eqb-true}
 use Rattle.gob_types.proofs.PublicLaws.{some_injective}
 use Rattle.gob_match.specs.declared.found.Origin.{Origin}
 use Rattle.gob_match.specs.declared.pair.TypePair.{TypePair}
-use Rattle.gob_match.specs.declared.step.Step.{Step}
+use Rattle.gob_match.specs.declared.step.TypeStep.{TypeStep}
 use Rattle.gob_match.specs.Machine.Search.{Entry, came, IsPathTo, at_start, from, HasPath, HasOrigin, IsAt, AddsPairs}
 
 -- ---- equal pairs
@@ -57,7 +57,7 @@ at_last (x ∷ es) e = at_last es e
 
 -- ---- paths
 
-pub path_within : {es : List Entry} {k : ℕ} {path : List Step} → IsPathTo es k path → k < length es
+pub path_within : {es : List Entry} {k : ℕ} {path : List TypeStep} → IsPathTo es k path → k < length es
 path_within {es = es} (at_start {p = p} e) = slice_get_within es 0 (p, None) e
 path_within {es = es} (from {place = k} {before = b} {p = p} {s = s} e below h) = slice_get_within es k (p, came b s) e
 
@@ -69,7 +69,7 @@ pub path_back : {es : List Entry} {k : ℕ} (o : Origin) → HasPath es k → Ha
     × HasPath es o.place
 path_back {es = es} o h there = back o h.is there
   where
-    back : {k : ℕ} {path : List Step} (o : Origin) → IsPathTo es k path → HasOrigin es k (Some o) → (o.place < k)
+    back : {k : ℕ} {path : List TypeStep} (o : Origin) → IsPathTo es k path → HasOrigin es k (Some o) → (o.place < k)
         × HasPath es o.place
     back o (at_start e) there = let f = ap (λ (x : Entry). x.1) (some_injective (sym e ∙ there.there)) in absurd
         (true≢false (sym (ap is_some f)))
@@ -79,7 +79,7 @@ path_back {es = es} o h there = back o h.is there
         let at : b ≡ o.place = ap (λ (x : Origin). x.place) same in
         (omega (arith, below, at), record { path = path; is = subst (λ n. IsPathTo es n path) at h })
 
-pub path_on : {es : List Entry} {k : ℕ} {path : List Step} (o : Origin) → HasOrigin es k (Some o) → o.place < k
+pub path_on : {es : List Entry} {k : ℕ} {path : List TypeStep} (o : Origin) → HasOrigin es k (Some o) → o.place < k
     → IsPathTo es o.place path → IsPathTo es k (path ++ o.step ∷ [])
 path_on o there below h = from there.there below h
 
@@ -87,7 +87,7 @@ path_on o there below h = from there.there below h
 pub path_begins : {es : List Entry} {k : ℕ} → HasPath es k → HasOrigin es k None → IsPathTo es k []
 path_begins {es = es} h there = begins h.is there
   where
-    begins : {k : ℕ} {path : List Step} → IsPathTo es k path → HasOrigin es k None → IsPathTo es k []
+    begins : {k : ℕ} {path : List TypeStep} → IsPathTo es k path → HasOrigin es k None → IsPathTo es k []
     begins (at_start e) there = at_start e
     begins (from e below h) there = let f = ap (λ (x : Entry). x.1) (some_injective (sym e ∙ there.there)) in absurd
         (true≢false (ap is_some f))
@@ -99,10 +99,10 @@ no_lookup None e = refl
 no_lookup (Some x) e = absurd (true≢false e)
 
 -- the pair, by the step
-abbrev pub IsStepTo : Step → TypePair → Step → TypePair → Type 0
+abbrev pub IsStepTo : TypeStep → TypePair → TypeStep → TypePair → Type 0
 IsStepTo step pair s q = (s ≡ step) × (q ≡ pair)
 
-pub adds_known : {es : List Entry} {place k : ℕ} {step : Step} {pair : TypePair} → IsAt es k pair
+pub adds_known : {es : List Entry} {place k : ℕ} {step : TypeStep} {pair : TypePair} → IsAt es k pair
     → AddsPairs es es place (IsStepTo step pair)
 adds_known {es = es} {k = k} at = record {
   more = [];
@@ -111,7 +111,7 @@ adds_known {es = es} {k = k} at = record {
   only = λ j e there. let f = there in cc;
 }
 
-pub at_new : (es : List Entry) {new : List Entry} (place : ℕ) (step : Step) {pair : TypePair}
+pub at_new : (es : List Entry) {new : List Entry} (place : ℕ) (step : TypeStep) {pair : TypePair}
     → new ≡ es ++ (pair, came place step) ∷ [] → IsAt new (length es) pair
 at_new es place step {pair = pair} e = record {
   origin = came place step;
@@ -119,7 +119,7 @@ at_new es place step {pair = pair} e = record {
       ∙ at_last es (pair, came place step);
 }
 
-pub adds_new : (es : List Entry) {new : List Entry} (place : ℕ) (step : Step) {pair : TypePair}
+pub adds_new : (es : List Entry) {new : List Entry} (place : ℕ) (step : TypeStep) {pair : TypePair}
     → new ≡ es ++ (pair, came place step) ∷ [] → AddsPairs es new place (IsStepTo step pair)
 adds_new es {new = new} place step {pair = pair} e = record {
   more = (pair, came place step) ∷ [];
@@ -128,13 +128,14 @@ adds_new es {new = new} place step {pair = pair} e = record {
   only = only;
 }
   where
-    only : (k : ℕ) (x : Entry) → slice_get ((pair, came place step) ∷ []) k ≡ Some x → (s : Step) × (q : TypePair)
+    only : (k : ℕ) (x : Entry) → slice_get ((pair, came place step) ∷ []) k ≡ Some x → (s : TypeStep) × (q : TypePair)
         × (x ≡ (q, came place s)) × IsStepTo step pair s q
     only zero x there = (step, pair, sym (some_injective there), (refl, refl))
     only (suc k) x there = let f = there in cc
 
 -- one more step in front of those that were turned round
-pub turned : (steps : List Step) {one pushed : List Step} (s : Step) (path : List Step) → one ≡ steps ++ s ∷ []
+pub turned : (steps : List TypeStep) {one pushed : List TypeStep} (s : TypeStep) (path : List TypeStep)
+    → one ≡ steps ++ s ∷ []
     → pushed ≡ one → (path ++ s ∷ []) ++ reverse steps ≡ path ++ reverse pushed
 turned steps s path e f =
     append_assoc path (s ∷ []) (reverse steps)

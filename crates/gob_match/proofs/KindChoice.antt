@@ -14,8 +14,8 @@ use Rattle.gob_types.proofs.PublicLaws.{some_injective}
 use Rattle.gob_match.specs.declared.pair.TypePair.{TypePair}
 use Rattle.gob_match.specs.declared.reason.ClashReason.{ClashReason}
 use Rattle.gob_match.specs.declared.reason.ClashReason.TheVariants as clash
-use Rattle.gob_match.specs.declared.step.Step.{Step}
-use Rattle.gob_match.specs.declared.step.Step.TheVariants as step
+use Rattle.gob_match.specs.declared.step.TypeStep.{TypeStep}
+use Rattle.gob_match.specs.declared.step.TypeStep.TheVariants as step
 use Rattle.gob_match.specs.Matching.{KindsMatch, basics, opaques, arrays, slices, maps, structs, KindsClash}
 use Rattle.gob_match.specs.Matching.{basics_differ, opaques_differ, lengths_differ, name_repeated, nothing_in_common}
 use Rattle.gob_match.specs.Matching.{unlike}
@@ -241,30 +241,31 @@ items_choice {X = X} P Q (x ∷ xs) choice = by (choice 0 x refl)
 
 -- each pair that the kinds name has the property
 pub record AllNamed (P : TypePair → Type 0) (k l : Kind) : Type 0 where
-  pub each : (s : Step) (q : TypePair) → NamesPair k l s q → P q
+  pub each : (s : TypeStep) (q : TypePair) → NamesPair k l s q → P q
 
 -- some pair that the kinds name has it
 pub record SomeNamed (P : TypePair → Type 0) (k l : Kind) : Type 0 where
-  pub step : Step
+  pub step : TypeStep
   pub pair : TypePair
   pub named : NamesPair k l step pair
   pub holds : P pair
 
 module _ (P Q : TypePair → Type 0) where
-  at_array : {e f : TypeId} {m n : ℕ} {s : Step} {q : TypePair} → P (of_types e f)
+  at_array : {e f : TypeId} {m n : ℕ} {s : TypeStep} {q : TypePair} → P (of_types e f)
       → NamesPair (kind.Array e m) (kind.Array f n) s q → P q
   at_array p element_of_arrays = p
 
-  at_slice : {e f : TypeId} {s : Step} {q : TypePair} → P (of_types e f) → NamesPair (kind.Slice e) (kind.Slice f) s q
+  at_slice : {e f : TypeId} {s : TypeStep} {q : TypePair} → P (of_types e f)
+      → NamesPair (kind.Slice e) (kind.Slice f) s q
       → P q
   at_slice p element_of_slices = p
 
-  at_map : {k l e f : TypeId} {s : Step} {q : TypePair} → P (of_types k l) → P (of_types e f)
+  at_map : {k l e f : TypeId} {s : TypeStep} {q : TypePair} → P (of_types k l) → P (of_types e f)
       → NamesPair (kind.Map k e) (kind.Map l f) s q → P q
   at_map o p key_of_maps = o
   at_map o p element_of_maps = p
 
-  at_struct : {fs gs : List Field} {s : Step} {q : TypePair}
+  at_struct : {fs gs : List Field} {s : TypeStep} {q : TypePair}
       → ((i j : ℕ) (f g : Field) → slice_get fs i ≡ Some f → slice_get gs j ≡ Some g → f.name ≡ g.name
       → P (of_types f.id g.id))
       → NamesPair (kind.Struct fs) (kind.Struct gs) s q → P q
@@ -272,7 +273,7 @@ module _ (P Q : TypePair → Type 0) where
       (each f.number g.number f.field g.field f.there g.there (f.named ∙ sym g.named))
 
   fields_choice : (fs gs : List Field)
-      → ((s : Step) (q : TypePair) → NamesPair (kind.Struct fs) (kind.Struct gs) s q → P q ⊎ Q q)
+      → ((s : TypeStep) (q : TypePair) → NamesPair (kind.Struct fs) (kind.Struct gs) s q → P q ⊎ Q q)
       → AllNamed P (kind.Struct fs) (kind.Struct gs) ⊎ SomeNamed Q (kind.Struct fs) (kind.Struct gs)
   fields_choice fs gs choice =
       elim (items_choice (λ f. (j : ℕ) (g : Field) → slice_get gs j ≡ Some g → f.name ≡ g.name → P (of_types f.id g.id))
@@ -310,8 +311,8 @@ module _ (P Q : TypePair → Type 0) where
       one i f a = items_choice (λ g. f.name ≡ g.name → P (of_types f.id g.id))
           (λ g. (f.name ≡ g.name) × Q (of_types f.id g.id)) gs (λ j g b. by i j f g a b (same_or_not f.name g.name))
 
-  one_choice : {k l : Kind} (s : Step) (q : TypePair) → NamesPair k l s q
-      → ((x : Step) (y : TypePair) → P q → NamesPair k l x y → P y) → P q ⊎ Q q → AllNamed P k l ⊎ SomeNamed Q k l
+  one_choice : {k l : Kind} (s : TypeStep) (q : TypePair) → NamesPair k l s q
+      → ((x : TypeStep) (y : TypePair) → P q → NamesPair k l x y → P y) → P q ⊎ Q q → AllNamed P k l ⊎ SomeNamed Q k l
   one_choice s q n on (inl p) = inl (record { each = λ x y m. on x y p m })
   one_choice s q n on (inr h) = inr (record { step = s; pair = q; named = n; holds = h })
 
@@ -322,7 +323,7 @@ module _ (P Q : TypePair → Type 0) where
   map_choice x y e f (inl o) (inr h) = inr (record
       { step = step.Element; pair = of_types e f; named = element_of_maps; holds = h })
 
-  pub named_choice : (k l : Kind) → ((s : Step) (q : TypePair) → NamesPair k l s q → P q ⊎ Q q)
+  pub named_choice : (k l : Kind) → ((s : TypeStep) (q : TypePair) → NamesPair k l s q → P q ⊎ Q q)
       → AllNamed P k l ⊎ SomeNamed Q k l
   named_choice (kind.Array e m) (kind.Array f n) choice = one_choice step.Element (of_types e f) element_of_arrays
       (λ x y p m. at_array p m) (choice step.Element (of_types e f) element_of_arrays)

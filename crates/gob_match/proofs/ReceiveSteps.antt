@@ -27,8 +27,8 @@ use Rattle.gob_match.specs.declared.common.CommonField.{CommonField}
 use Rattle.gob_match.specs.declared.conversion.Conversion.{Conversion}
 use Rattle.gob_match.specs.declared.conversion.Conversion.TheVariants as conversion
 use Rattle.gob_match.specs.declared.pair.TypePair.{TypePair}
-use Rattle.gob_match.specs.declared.step.Step.{Step}
-use Rattle.gob_match.specs.declared.step.Step.TheVariants as step
+use Rattle.gob_match.specs.declared.step.TypeStep.{TypeStep}
+use Rattle.gob_match.specs.declared.step.TypeStep.TheVariants as step
 use Rattle.gob_match.specs.Machine.Conversions.{IsConversion, ConversionNames}
 use Rattle.gob_match.specs.Machine.Conversions as kept
 use Rattle.gob_match.specs.Machine.Exploring.{ConvertsAt}
@@ -125,7 +125,8 @@ rising (x ∷ xs) s (suc i) (suc j) p q below one other = rising xs (fields_pref
 -- ---- the pairs that a conversion leads to
 
 module _ {T U : Table} {found : List Entry} {conversions : List Conversion} where
-  pub leads_on : {p q : TypePair} {w : Conversion} (s : Step) → IsOfMatch T U found conversions p → ConvertsAt T U p w
+  pub leads_on : {p q : TypePair} {w : Conversion} (s : TypeStep) → IsOfMatch T U found conversions p
+      → ConvertsAt T U p w
       → ConversionNames w s q → IsOfMatch T U found conversions q
   leads_on {p = p} {q = q} s m c n =
       let r = m.matched.named m.place p q s m.at (record

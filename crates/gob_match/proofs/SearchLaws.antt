@@ -23,7 +23,7 @@ use Rattle.gob_match.specs.declared.pair.TypePair.{TypePair}
 use Rattle.gob_match.specs.Faults.{IsMatchFault}
 use Rattle.gob_match.specs.Machine.Exploring.{EndsAt}
 use Rattle.gob_match.specs.declared.reason.ClashReason.{ClashReason}
-use Rattle.gob_match.specs.declared.step.Step.{Step}
+use Rattle.gob_match.specs.declared.step.TypeStep.{TypeStep}
 use Rattle.gob_match.specs.Clashing.{HasClashingShapes, LeadsBySteps, here, onward, IsLeastClash}
 use Rattle.gob_match.specs.Machine.Search.{Entry, came, IsPathTo, at_start, from, HasPath, IsAt, AddsPairs}
 use Rattle.gob_match.specs.Matching.{HasMatchingShapes, NamesByStep, Match}
@@ -50,7 +50,7 @@ below_or_past (suc k) (suc n) = by (below_or_past k n)
     by (inl h) = inl (omega arith)
     by (inr h) = inr (omega arith)
 
-length-push : (path : List Step) (s : Step) → length (path ++ s ∷ []) ≡ length path + 1
+length-push : (path : List TypeStep) (s : TypeStep) → length (path ++ s ∷ []) ≡ length path + 1
 length-push path s = length-append path (s ∷ [])
 
 -- an entry stays where it is when more are appended
@@ -75,14 +75,14 @@ at_back es more {k = k} within at = record {
 pub one_at : {es : List Entry} {k : ℕ} {p q : TypePair} → IsAt es k p → IsAt es k q → p ≡ q
 one_at g h = ap (λ (e : Entry). e.0) (some_injective (sym g.there ∙ h.there))
 
-kept_path : {es : List Entry} (more : List Entry) {k : ℕ} {path : List Step} → IsPathTo es k path
+kept_path : {es : List Entry} (more : List Entry) {k : ℕ} {path : List TypeStep} → IsPathTo es k path
     → IsPathTo (es ++ more) k path
 kept_path {es = es} more (at_start {p = p} e) = at_start
     (slice_get-append_left es more 0 (slice_get_within es 0 (p, None) e) ∙ e)
 kept_path {es = es} more (from {place = k} {before = b} {p = p} {s = s} e below h) =
     from (slice_get-append_left es more k (slice_get_within es k (p, came b s) e) ∙ e) below (kept_path more h)
 
-path_back_to : (es more : List Entry) {k : ℕ} {path : List Step} → k < length es → IsPathTo (es ++ more) k path
+path_back_to : (es more : List Entry) {k : ℕ} {path : List TypeStep} → k < length es → IsPathTo (es ++ more) k path
     → IsPathTo es k path
 path_back_to es more within (at_start e) = at_start (sym (slice_get-append_left es more 0 within) ∙ e)
 path_back_to es more within (from {place = k} {before = b} e below h) =
@@ -91,14 +91,14 @@ path_back_to es more within (from {place = k} {before = b} e below h) =
 
 -- ---- what the pairs named are ready for
 
-stream_named : {k l : Kind} {s : Step} {q : TypePair} → NamesPair k l s q → types.Names k q.stream
+stream_named : {k l : Kind} {s : TypeStep} {q : TypePair} → NamesPair k l s q → types.Names k q.stream
 stream_named element_of_arrays = refl
 stream_named element_of_slices = refl
 stream_named key_of_maps = inl refl
 stream_named element_of_maps = inr refl
 stream_named (field_of_structs f g) = record { number = f.number; field = f.field; there = f.there; type = f.typed }
 
-wanted_named : {k l : Kind} {s : Step} {q : TypePair} → NamesPair k l s q → types.Names l q.wanted
+wanted_named : {k l : Kind} {s : TypeStep} {q : TypePair} → NamesPair k l s q → types.Names l q.wanted
 wanted_named element_of_arrays = refl
 wanted_named element_of_slices = refl
 wanted_named key_of_maps = inl refl
@@ -110,7 +110,7 @@ pub record IsReadyPair (T U : Table) (p : TypePair) : Type 0 where
   pub stream : IsReady T p.stream
   pub wanted : IsReady U p.wanted
 
-pub named_ready : {T U : Table} {p q : TypePair} {s : Step} → IsReadyPair T U p → NamesByStep T U p s q
+pub named_ready : {T U : Table} {p q : TypePair} {s : TypeStep} → IsReadyPair T U p → NamesByStep T U p s q
     → IsReadyPair T U q
 named_ready r n = record {
   stream = growth.names_ready r.stream n.shapes.stream (stream_named n.named);
@@ -123,11 +123,11 @@ named_ready r n = record {
 -- the pair's names are there, no more than one step further on
 pub record NamesAreNear (T U : Table) (es : List Entry) (i : ℕ) (p : TypePair) : Type 0 where
   pub match : HasMatchingShapes T U p
-  pub named : (s : Step) (q : TypePair) → NamesByStep T U p s q → (j : ℕ) × IsAt es j q
-      × ((x y : List Step) → IsPathTo es i x → IsPathTo es j y → length y ≤ length x + 1)
+  pub named : (s : TypeStep) (q : TypePair) → NamesByStep T U p s q → (j : ℕ) × IsAt es j q
+      × ((x y : List TypeStep) → IsPathTo es i x → IsPathTo es j y → length y ≤ length x + 1)
 
 -- the pair was added from another, which has matching shapes and names it
-pub record WasNamed (T U : Table) (es : List Entry) (b : ℕ) (s : Step) (q : TypePair) : Type 0 where
+pub record WasNamed (T U : Table) (es : List Entry) (b : ℕ) (s : TypeStep) (q : TypePair) : Type 0 where
   pub pair : TypePair
   pub at : IsAt es b pair
   pub match : HasMatchingShapes T U pair
@@ -137,10 +137,10 @@ pub record WasNamed (T U : Table) (es : List Entry) (b : ℕ) (s : Step) (q : Ty
 pub record Searched (T U : Table) (start : TypePair) (es : List Entry) (next : ℕ) : Type 0 where
   pub begins : IsAt es 0 start
   pub first : (k : ℕ) (q : TypePair) → slice_get es k ≡ Some (q, None) → q ≡ start
-  pub later : (k b : ℕ) (s : Step) (q : TypePair) → slice_get es k ≡ Some (q, came b s) → WasNamed T U es b s q
+  pub later : (k b : ℕ) (s : TypeStep) (q : TypePair) → slice_get es k ≡ Some (q, came b s) → WasNamed T U es b s q
   pub paths : (k : ℕ) → k < length es → HasPath es k
-  pub rise : (i j : ℕ) (x y : List Step) → i ≤ j → IsPathTo es i x → IsPathTo es j y → length x ≤ length y
-  pub near : (j : ℕ) (x y : List Step) → IsPathTo es next x → IsPathTo es j y → length y ≤ length x + 1
+  pub rise : (i j : ℕ) (x y : List TypeStep) → i ≤ j → IsPathTo es i x → IsPathTo es j y → length x ≤ length y
+  pub near : (j : ℕ) (x y : List TypeStep) → IsPathTo es next x → IsPathTo es j y → length y ≤ length x + 1
   pub done : (i : ℕ) (p : TypePair) → i < next → IsAt es i p → NamesAreNear T U es i p
   pub ready : (i : ℕ) (p : TypePair) → IsAt es i p → IsReadyPair T U p
 
@@ -149,7 +149,7 @@ pub record Searched (T U : Table) (start : TypePair) (es : List Entry) (next : �
 abbrev pub alone : TypePair → List Entry
 alone p = (p, None) ∷ []
 
-only_start : {p : TypePair} {k : ℕ} {path : List Step} → IsPathTo (alone p) k path → (k ≡ 0) × (path ≡ [])
+only_start : {p : TypePair} {k : ℕ} {path : List TypeStep} → IsPathTo (alone p) k path → (k ≡ 0) × (path ≡ [])
 only_start (at_start e) = (refl, refl)
 only_start (from {place = zero} e below h) = absurd (omega (arith, below))
 only_start (from {place = suc k} e below h) = let f = e in cc
@@ -170,7 +170,7 @@ searched_start {T = T} {U = U} p r = record {
     first zero q e = sym (ap (λ (x : Entry). x.0) (some_injective e))
     first (suc k) q e = let f = e in cc
 
-    later : (k b : ℕ) (s : Step) (q : TypePair) → slice_get (alone p) k ≡ Some (q, came b s)
+    later : (k b : ℕ) (s : TypeStep) (q : TypePair) → slice_get (alone p) k ≡ Some (q, came b s)
         → WasNamed T U (alone p) b s q
     later zero b s q e = let f = ap (λ (x : Entry). x.1) (some_injective e) in absurd (true≢false (sym (ap is_some f)))
     later (suc k) b s q e = absurd (true≢false (sym (ap is_some e)))
@@ -209,13 +209,14 @@ searched_on {T = T} {U = U} {start = start} {p = p} {es = es} {new = new} {next 
     here_in = at_within at
 
     -- what stands behind es
-    entry_past : (k : ℕ) (e : Entry) → length es ≤ k → slice_get (es ++ more) k ≡ Some e → (s : Step) × (q : TypePair)
+    entry_past : (k : ℕ) (e : Entry) → length es ≤ k → slice_get (es ++ more) k ≡ Some e
+        → (s : TypeStep) × (q : TypePair)
         × (e ≡ (q, came next s)) × NamesByStep T U p s q
     entry_past k e past there = added.only (k - length es) e
         (sym (slice_get-append_right es more k (k - length es) (omega (arith, past))) ∙ there)
 
     -- a path there comes from the pair at next
-    last_step : {k : ℕ} {y : List Step} → length es ≤ k → IsPathTo (es ++ more) k y → (z : List Step)
+    last_step : {k : ℕ} {y : List TypeStep} → length es ≤ k → IsPathTo (es ++ more) k y → (z : List TypeStep)
         × IsPathTo es next z × (length y ≡ length z + 1)
     last_step past (at_start e) = absurd (omega (arith, past, here_in))
     last_step past (from {place = k} {before = b} {p = q} {s = s} {path = z} e below h) =
@@ -233,7 +234,7 @@ searched_on {T = T} {U = U} {start = start} {p = p} {es = es} {new = new} {next 
         by (inr past) = let w = entry_past k (q, None) past there in let f = ap (λ (x : Entry). x.1) w.2 in absurd
             (true≢false (sym (ap is_some f)))
 
-    later : (k b : ℕ) (s : Step) (q : TypePair) → slice_get (es ++ more) k ≡ Some (q, came b s)
+    later : (k b : ℕ) (s : TypeStep) (q : TypePair) → slice_get (es ++ more) k ≡ Some (q, came b s)
         → WasNamed T U (es ++ more) b s q
     later k b s q there = by (below_or_past k (length es))
       where
@@ -269,7 +270,7 @@ searched_on {T = T} {U = U} {start = start} {p = p} {es = es} {new = new} {next 
                   (kept_path more h.is);
             }
 
-    rise : (i j : ℕ) (x y : List Step) → i ≤ j → IsPathTo (es ++ more) i x → IsPathTo (es ++ more) j y
+    rise : (i j : ℕ) (x y : List TypeStep) → i ≤ j → IsPathTo (es ++ more) i x → IsPathTo (es ++ more) j y
         → length x ≤ length y
     rise i j x y le g h = by (below_or_past i (length es)) (below_or_past j (length es))
       where
@@ -282,7 +283,7 @@ searched_on {T = T} {U = U} {start = start} {p = p} {es = es} {new = new} {next 
             next w.0 z.0 (omega arith) w.1 z.1 in omega (arith, n, z.2, w.2)
 
     -- nothing is further than one step from the pair at next
-    near_here : (j : ℕ) (x y : List Step) → IsPathTo (es ++ more) next x → IsPathTo (es ++ more) j y
+    near_here : (j : ℕ) (x y : List TypeStep) → IsPathTo (es ++ more) next x → IsPathTo (es ++ more) j y
         → length y ≤ length x + 1
     near_here j x y g h = by (below_or_past j (length es))
       where
@@ -298,7 +299,7 @@ searched_on {T = T} {U = U} {start = start} {p = p} {es = es} {new = new} {next 
           (j.0, subst (λ zs. IsAt zs j.0 w) added.grown j.1, λ x y g h. near_here j.0 x y g h);
     }
 
-    near : (j : ℕ) (x y : List Step) → IsPathTo (es ++ more) (next + 1) x → IsPathTo (es ++ more) j y
+    near : (j : ℕ) (x y : List TypeStep) → IsPathTo (es ++ more) (next + 1) x → IsPathTo (es ++ more) j y
         → length y ≤ length x + 1
     near j x y g h =
         let z = r.paths next here_in in
@@ -376,13 +377,13 @@ searched_match {T = T} {U = U} {es = es} {next = next} r whole = record {
     in_keys k q at = contains_read (keys_of es) k q (key_at es k (q, at.origin) at.there)
 
 -- one more step at the end
-leads_further : {T U : Table} {p q r : TypePair} {path : List Step} {s : Step} → LeadsBySteps T U path p q
+leads_further : {T U : Table} {p q r : TypePair} {path : List TypeStep} {s : TypeStep} → LeadsBySteps T U path p q
     → HasMatchingShapes T U q → NamesByStep T U q s r → LeadsBySteps T U (path ++ s ∷ []) p r
 leads_further here m n = onward m n here
 leads_further (onward g h l) m n = onward g h (leads_further l m n)
 
 leads_to : {T U : Table} {start : TypePair} {es : List Entry} {next : ℕ} → Searched T U start es next
-    → {q : TypePair} {k : ℕ} {path : List Step} → IsPathTo es k path → IsAt es k q → LeadsBySteps T U path start q
+    → {q : TypePair} {k : ℕ} {path : List TypeStep} → IsPathTo es k path → IsAt es k q → LeadsBySteps T U path start q
 leads_to {T = T} {U = U} {start = start} r {q = q} (at_start {p = p} e) at =
     let is : start ≡ q = sym (r.first 0 p e) ∙ ap (λ (x : Entry). x.0) (some_injective (sym e ∙ at.there)) in
     subst (LeadsBySteps T U [] start) is here
@@ -393,8 +394,8 @@ leads_to {T = T} {U = U} {start = start} r {q = q}
     subst (LeadsBySteps T U (path ++ s ∷ []) start) is (leads_further (leads_to r h w.at) w.match w.named)
 
 -- no clash is nearer than the pair that the search comes to
-nearest : {T U : Table} {start : TypePair} {es : List Entry} {next : ℕ} {x : List Step} {reason : ClashReason}
-    → Searched T U start es next → IsPathTo es next x → {p q : TypePair} {i : ℕ} {y more : List Step}
+nearest : {T U : Table} {start : TypePair} {es : List Entry} {next : ℕ} {x : List TypeStep} {reason : ClashReason}
+    → Searched T U start es next → IsPathTo es next x → {p q : TypePair} {i : ℕ} {y more : List TypeStep}
     → IsAt es i p → IsPathTo es i y → LeadsBySteps T U more p q → HasClashingShapes T U q reason
     → length x ≤ length y + length more
 nearest {next = next} {x = x} r g {p = p} {i = i} {y = y} at h here clash =
@@ -418,11 +419,11 @@ begins_path : {T U : Table} {start : TypePair} {es : List Entry} {next : ℕ} �
     → IsPathTo es 0 []
 begins_path {es = es} r = at_zero (r.paths 0 (at_within r.begins)).is
   where
-    at_zero : {path : List Step} → IsPathTo es 0 path → IsPathTo es 0 []
+    at_zero : {path : List TypeStep} → IsPathTo es 0 path → IsPathTo es 0 []
     at_zero (at_start e) = at_start e
     at_zero (from e below h) = absurd (omega (arith, below))
 
-pub searched_least : {T U : Table} {t u : TypeId} {p : TypePair} {es : List Entry} {next : ℕ} {path : List Step}
+pub searched_least : {T U : Table} {t u : TypeId} {p : TypePair} {es : List Entry} {next : ℕ} {path : List TypeStep}
     {reason : ClashReason} → Searched T U (of_types t u) es next → IsAt es next p
     → HasClashingShapes T U p reason → IsPathTo es next path → IsLeastClash T U t u path reason
 searched_least {p = p} r at clash h = record {

@@ -12,7 +12,7 @@ use Rattle.gob_value.specs.Tree.{Tree, Trees, Pairs, Fields}
 use Rattle.gob_value.proofs.PublicLaws.{spells_on}
 use Rattle.gob_match.specs.declared.pair.TypePair.{TypePair}
 use Rattle.gob_match.specs.declared.reason.ClashReason.{ClashReason}
-use Rattle.gob_match.specs.declared.step.Step.{Step}
+use Rattle.gob_match.specs.declared.step.TypeStep.{TypeStep}
 use Rattle.gob_match.specs.Matching.{HasShapes, HasMatchingShapes, NamesByStep, Match}
 use Rattle.gob_match.specs.Clashing.{LeadsBySteps, here, onward, ClashAt, IsLeastClash}
 use Rattle.gob_match.specs.Received.{Receives, of_types as of_shapes, ReceivesAs, of_basics, of_opaques, of_arrays}
@@ -25,7 +25,7 @@ use Rattle.gob_match.proofs.UniqueLaws.{one}
 use Rattle.gob_match.proofs.HaveLaws.{have}
 
 -- the steps lead there, to a pair of ready types
-record LeadsReady (T U : Table) (path : List Step) (p q : TypePair) : Type 0 where
+record LeadsReady (T U : Table) (path : List TypeStep) (p q : TypePair) : Type 0 where
   leads : LeadsBySteps T U path p q
   ready : IsReadyPair T U q
 
@@ -37,14 +37,14 @@ module _ {T V U : Table} (keeps : Keeps T V) where
   matching_on : {p : TypePair} → HasMatchingShapes T U p → HasMatchingShapes V U p
   matching_on h = record { stream = h.stream; wanted = h.wanted; shapes = shapes_on h.shapes; match = h.match }
 
-  names_on : {p q : TypePair} {s : Step} → NamesByStep T U p s q → NamesByStep V U p s q
+  names_on : {p q : TypePair} {s : TypeStep} → NamesByStep T U p s q → NamesByStep V U p s q
   names_on h = record { stream = h.stream; wanted = h.wanted; shapes = shapes_on h.shapes; named = h.named }
 
-  leads_on : {path : List Step} {p q : TypePair} → LeadsBySteps T U path p q → LeadsBySteps V U path p q
+  leads_on : {path : List TypeStep} {p q : TypePair} → LeadsBySteps T U path p q → LeadsBySteps V U path p q
   leads_on here = here
   leads_on (onward m n l) = onward (matching_on m) (names_on n) (leads_on l)
 
-  pub clash_on : {t u : TypeId} {path : List Step} {reason : ClashReason} → ClashAt T U t u path reason
+  pub clash_on : {t u : TypeId} {path : List TypeStep} {reason : ClashReason} → ClashAt T U t u path reason
       → ClashAt V U t u path reason
   clash_on c = record {
     last = c.last;
@@ -97,7 +97,7 @@ module _ {T V U : Table} (keeps : Keeps T V) where
         h.match;
   }
 
-  names_back : {p q : TypePair} {s : Step} → IsReadyPair T U p → NamesByStep V U p s q → NamesByStep T U p s q
+  names_back : {p q : TypePair} {s : TypeStep} → IsReadyPair T U p → NamesByStep V U p s q → NamesByStep T U p s q
   names_back ready h = record {
     stream = h.stream;
     wanted = h.wanted;
@@ -106,7 +106,7 @@ module _ {T V U : Table} (keeps : Keeps T V) where
         h.named;
   }
 
-  leads_back : {path : List Step} {p q : TypePair} → IsReadyPair T U p → LeadsBySteps V U path p q
+  leads_back : {path : List TypeStep} {p q : TypePair} → IsReadyPair T U p → LeadsBySteps V U path p q
       → LeadsReady T U path p q
   leads_back ready here = record { leads = here; ready = ready }
   leads_back ready (onward m n l) =
@@ -114,7 +114,7 @@ module _ {T V U : Table} (keeps : Keeps T V) where
       let rest = leads_back (named_ready ready named) l in
       record { leads = onward (matching_back ready m) named rest.leads; ready = rest.ready }
 
-  pub clash_back : {t u : TypeId} {path : List Step} {reason : ClashReason} → IsReady T t → IsReady U u
+  pub clash_back : {t u : TypeId} {path : List TypeStep} {reason : ClashReason} → IsReady T t → IsReady U u
       → ClashAt V U t u path reason → ClashAt T U t u path reason
   clash_back r s c =
       let l = leads_back (record { stream = r; wanted = s }) c.leads in
@@ -129,7 +129,7 @@ module _ {T V U : Table} (keeps : Keeps T V) where
         };
       }
 
-  pub least_back : {t u : TypeId} {path : List Step} {reason : ClashReason} → IsReady T t → IsReady U u
+  pub least_back : {t u : TypeId} {path : List TypeStep} {reason : ClashReason} → IsReady T t → IsReady U u
       → IsLeastClash V U t u path reason → IsLeastClash T U t u path reason
   least_back r s c = record { clash = clash_back r s c.clash; least = λ other why h. c.least other why (clash_on h) }
 

@@ -15,7 +15,7 @@ use Rattle.gob_value.specs.Spelling as spelling
 use Rattle.gob_value.specs.Tree.{Tree, Trees, tree, Pairs, pair, Fields, field}
 use Rattle.gob_value.specs.Tree as Value
 use Rattle.gob_match.specs.declared.pair.TypePair.{TypePair}
-use Rattle.gob_match.specs.declared.step.Step.TheVariants as step
+use Rattle.gob_match.specs.declared.step.TypeStep.TheVariants as step
 use Rattle.gob_match.specs.Matching.{KindsMatch, structs, IsClosed}
 use Rattle.gob_match.specs.Pairs.{RepeatsName, element_of_arrays, element_of_slices, key_of_maps, element_of_maps}
 use Rattle.gob_match.specs.Pairs.{field_of_structs}

@@ -30,7 +30,7 @@ use Rattle.gob_match.specs.declared.conversion.Conversion.{Conversion}
 use Rattle.gob_match.specs.declared.conversion.Conversion.TheVariants as conversion
 use Rattle.gob_match.specs.declared.pair.TypePair.{TypePair}
 use Rattle.gob_match.specs.declared.receiving_whole.Length.{Length}
-use Rattle.gob_match.specs.declared.step.Step.TheVariants as step
+use Rattle.gob_match.specs.declared.step.TypeStep.TheVariants as step
 use Rattle.gob_match.specs.Machine.Conversions.{IsConversion}
 use Rattle.gob_match.specs.Machine.Conversions as kept
 use Rattle.gob_match.specs.Machine.Exploring.{ConvertsAt}

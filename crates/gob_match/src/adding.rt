@@ -7,7 +7,7 @@ ghost use Rattle.gob_match.specs.Machine.Conversions.{ConversionNames, HasCommon
 use crate::common::CommonField;
 use crate::conversion::Conversion;
 use crate::found::Found;
-use crate::step::{Step, copied_name};
+use crate::step::{TypeStep, copied_name};
 use gob_num::Memory;
 use std::alloc::Global;
 
@@ -23,11 +23,11 @@ pub(crate) fn add_named(
     match conversion {
         Conversion::Unchanged => {}
         Conversion::Elements(pair) => {
-            found.add(*pair, place, Step::Element)?;
+            found.add(*pair, place, TypeStep::Element)?;
         }
         Conversion::Entries { key, elem } => {
-            found.add(*key, place, Step::Key)?;
-            found.add(*elem, place, Step::Element)?;
+            found.add(*key, place, TypeStep::Key)?;
+            found.add(*elem, place, TypeStep::Element)?;
         }
         Conversion::Fields(common) => add_fields(alloc, found, place, common)?,
     }
@@ -43,7 +43,7 @@ fn add_fields(
     ensures { OnOk result (AddsPairs found.old found.new place (HasCommon common.now)) }
 {
     for field in common {
-        let step = Step::Named(copied_name(alloc, &field.name)?);
+        let step = TypeStep::Named(copied_name(alloc, &field.name)?);
         found.add(field.pair, place, step)?;
     }
     Ok(())

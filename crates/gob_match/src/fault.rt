@@ -1,7 +1,7 @@
 //! Why no match is given.
 
 use crate::reason::ClashReason;
-use crate::step::Step;
+use crate::step::TypeStep;
 use gob_num::Memory;
 use std::alloc::AllocFailed;
 
@@ -11,7 +11,7 @@ pub enum MatchFault {
     /// The steps lead to a pair of types whose shapes don't match, and no fewer steps lead to one.
     Clash {
         /// The steps from the two types to that pair.
-        path: Vec<Step>,
+        path: Vec<TypeStep>,
         /// Why its shapes don't match.
         reason: ClashReason,
     },

@@ -5,7 +5,7 @@ ghost use Rattle.std.specs.Option.{option_copied};
 ghost use Rattle.gob_match.specs.Machine.Search.{IsPathTo, HasPath, HasOrigin, IsAt, AddsPairs, came};
 
 use crate::pair::TypePair;
-use crate::step::Step;
+use crate::step::TypeStep;
 use gob_num::Memory;
 use indexmap::IndexMap;
 use std::alloc::Global;
@@ -15,7 +15,7 @@ use std::marker::Model;
 #[derive(Drop)]
 pub(crate) struct Origin {
     pub(crate) place: usize,
-    pub(crate) step: Step,
+    pub(crate) step: TypeStep,
 }
 
 /// The pairs that a search has found, in the order in which it found them: its queue, and the set of pairs that
@@ -72,7 +72,12 @@ impl Found {
     }
 
     /// Adds a pair, found by a step from the pair at `place`, unless it was found before. Gives its place.
-    pub(crate) fn add(&mut self, pair: TypePair, place: usize, step: Step) -> Result<usize, Memory>
+    pub(crate) fn add(
+        &mut self,
+        pair: TypePair,
+        place: usize,
+        step: TypeStep,
+    ) -> Result<usize, Memory>
         ensures at { IfOk result (λ k. IsAt self.new k pair) }
         ensures added { IfOk result (λ _. AddsPairs self.old self.new place (λ s q. (s ≡ step) × (q ≡ pair))) }
     {
@@ -86,7 +91,7 @@ impl Found {
     }
 
     /// The steps that lead from the first pair to the one at a place.
-    pub(crate) fn path_to(&self, alloc: Global, place: usize) -> Result<Vec<Step>, Memory>
+    pub(crate) fn path_to(&self, alloc: Global, place: usize) -> Result<Vec<TypeStep>, Memory>
         requires { HasPath self.now place }
         ensures { IfOk result (λ path. IsPathTo self.now place path.items) }
     {

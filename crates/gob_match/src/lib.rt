@@ -46,4 +46,4 @@ pub use pair::TypePair;
 pub use reason::ClashReason;
 pub use receiving::receive;
 pub use receiving_whole::receive_whole;
-pub use step::{PathText, Step};
+pub use step::{PathText, TypeStep};

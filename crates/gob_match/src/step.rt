@@ -9,7 +9,7 @@ use std::{fmt, str};
 
 /// A step from a pair of types to a pair that its shapes name. Display writes `[]`, `{}`, or a dot and the name.
 #[derive(Drop)]
-pub enum Step {
+pub enum TypeStep {
     /// To the elements of two arrays, slices or maps.
     Element,
     /// To the keys of two maps.
@@ -18,15 +18,15 @@ pub enum Step {
     Named(Name),
 }
 
-impl Step {
+impl TypeStep {
     /// A copy of the step.
-    pub(crate) fn copied(&self, alloc: Global) -> Result<Step, Memory>
+    pub(crate) fn copied(&self, alloc: Global) -> Result<TypeStep, Memory>
         ensures { IfOk result (λ step. step ≡ self.now) }
     {
         match self {
-            Step::Element => Ok(Step::Element),
-            Step::Key => Ok(Step::Key),
-            Step::Named(name) => Ok(Step::Named(copied_name(alloc, name)?)),
+            TypeStep::Element => Ok(TypeStep::Element),
+            TypeStep::Key => Ok(TypeStep::Key),
+            TypeStep::Named(name) => Ok(TypeStep::Named(copied_name(alloc, name)?)),
         }
     }
 }
@@ -38,7 +38,7 @@ pub(crate) fn copied_name(alloc: Global, name: &Name) -> Result<Name, Memory>
     Ok(Name::new(Vec::from_slice(alloc, name.as_bytes())?))
 }
 
-impl fmt::Display for Step {
+impl fmt::Display for TypeStep {
     ghost use Rattle.std.specs.Prelude.{Some};
     ghost use Rattle.gob_match.specs.ClashText.{step_text};
 
@@ -46,9 +46,9 @@ impl fmt::Display for Step {
 
     fn fmt<W: fmt::Write>(&self, f: &mut fmt::Formatter<W>) -> fmt::Result {
         match self {
-            Step::Element => f.write_str("[]"),
-            Step::Key => f.write_str("{}"),
-            Step::Named(name) => {
+            TypeStep::Element => f.write_str("[]"),
+            TypeStep::Key => f.write_str("{}"),
+            TypeStep::Named(name) => {
                 let name = NameText(name.as_bytes());
                 write!(f, ".{name}")
             }
@@ -58,7 +58,7 @@ impl fmt::Display for Step {
 
 /// A path of steps as it is printed: the steps one behind another, or `top` where there is none.
 #[derive(Clone, Copy)]
-pub struct PathText<'a>(pub &'a [Step]);
+pub struct PathText<'a>(pub &'a [TypeStep]);
 
 impl fmt::Display for PathText<'_> {
     ghost use Rattle.std.specs.Prelude.{Some};

@@ -8,7 +8,7 @@ use Rattle.gob_types.specs.Base.{base_table}
 use Rattle.gob_types.specs.Table.{Table}
 use Rattle.gob_value.specs.Tree.{Tree}
 use Rattle.gob_match.specs.declared.reason.ClashReason.{ClashReason}
-use Rattle.gob_match.specs.declared.step.Step.{Step}
+use Rattle.gob_match.specs.declared.step.TypeStep.{TypeStep}
 use Rattle.gob_match.specs.Clashing.{IsLeastClash}
 use Rattle.gob_match.specs.Matching.{Match}
 use Rattle.gob_match.specs.Received.{Receives}
@@ -59,7 +59,7 @@ pub record HasTakenItems (T U : Table) (u : TypeId) (items : List StreamItem) (P
 
 -- the bytes begin with the stream of some items and of a value whose type clashes with the wanted one, on this path
 -- of the fewest steps and for this reason, and this holds of the lines of the items before it
-pub record ClashesBehind (L : Bounds) (bytes : List ℕ) (U : Table) (u : TypeId) (path : List Step)
+pub record ClashesBehind (L : Bounds) (bytes : List ℕ) (U : Table) (u : TypeId) (path : List TypeStep)
     (reason : ClashReason) (P : List ℕ → Type 0) : Type 0 where
   pub items : List StreamItem
   pub id : TypeId
@@ -75,7 +75,7 @@ pub data Receiving (L : Bounds) (bytes : List ℕ) (now : Option (List ℕ)) (U 
   receives : {r : Result (Unit {0}) ToolFault}
       → RunAnswersIn strict L bytes now (λ T items. HasTakenItems T U u items Whole)
       (λ T items. HasTakenItems T U u items Cut) r → Receiving L bytes now U u Whole Cut r
-  clashes : {path : Vec Step Global} {reason : ClashReason} → ClashesBehind L bytes U u path.items reason Whole
+  clashes : {path : Vec TypeStep Global} {reason : ClashReason} → ClashesBehind L bytes U u path.items reason Whole
       → Receiving L bytes now U u Whole Cut (Err (fault.Clash path reason))
 
 -- nothing was written, and nothing was read of the input with these bytes left

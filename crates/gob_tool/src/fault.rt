@@ -3,7 +3,7 @@
 ghost use Rattle.std.specs.Prelude.{◌≡◌};
 ghost use Rattle.gob_tool.specs.Fault.{fault_status, wanted_fault};
 
-use gob_match::{ClashReason, MatchFault, PathText, Step};
+use gob_match::{ClashReason, MatchFault, PathText, TypeStep};
 use gob_num::Memory;
 use gob_stream::{Fault, Refusal, WriteFault};
 use std::fmt;
@@ -20,7 +20,7 @@ pub enum ToolFault {
     /// The type of a value doesn't match the wanted type.
     Clash {
         /// The fewest steps from the two types to a pair of types whose shapes don't match.
-        path: Vec<Step>,
+        path: Vec<TypeStep>,
         /// Why they don't.
         reason: ClashReason,
     },

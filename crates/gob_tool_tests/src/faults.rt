@@ -1,6 +1,6 @@
 //! The lines and the statuses of faults.
 
-use gob_match::{ClashReason, Step};
+use gob_match::{ClashReason, TypeStep};
 use gob_stream::Refusal;
 use gob_tool::{ToolFault, status};
 use gob_types::{Name, Reason, TypeId};
@@ -57,17 +57,17 @@ fn faults_have_lines_and_statuses(rt: HostRuntime) {
     }
 }
 
-fn named(alloc: Global, name: &[u8]) -> Result<Step, AllocError> {
-    Ok(Step::Named(Name::new(Vec::from_slice(alloc, name)?)))
+fn named(alloc: Global, name: &[u8]) -> Result<TypeStep, AllocError> {
+    Ok(TypeStep::Named(Name::new(Vec::from_slice(alloc, name)?)))
 }
 
 // The steps that the words are: [] an element, {} a key, else a field of this name.
-fn path_of(alloc: Global, words: &[&[u8]]) -> Result<Vec<Step>, AllocError> {
+fn path_of(alloc: Global, words: &[&[u8]]) -> Result<Vec<TypeStep>, AllocError> {
     let mut path = Vec::new(alloc);
     for word in words {
         match *word {
-            b"[]" => path.push(Step::Element)?,
-            b"{}" => path.push(Step::Key)?,
+            b"[]" => path.push(TypeStep::Element)?,
+            b"{}" => path.push(TypeStep::Key)?,
             name => path.push(named(alloc, name)?)?,
         }
     }

@@ -2,7 +2,7 @@
 
 use crate::due::due_in;
 use crate::words::{type_name, type_text};
-use gob_explain::{Awaited, Row, RowSink, Step, What, path_text, path_to, walk_body};
+use gob_explain::{Awaited, PartStep, Row, RowSink, What, path_text, path_to, walk_body};
 use gob_forms::{Head, head_of};
 use gob_num::{Memory, uint_at};
 use gob_stream::Limits;
@@ -114,7 +114,7 @@ impl RowSink for Unseen {
         Ok(())
     }
 
-    fn enter(&mut self, _: Step) -> Result<(), Memory> {
+    fn enter(&mut self, _: PartStep) -> Result<(), Memory> {
         Ok(())
     }
 

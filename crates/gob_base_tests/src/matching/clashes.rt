@@ -1,5 +1,5 @@
 //! Which types match, and where others clash.
-use gob_match::{ClashReason, MatchFault, Step, match_types};
+use gob_match::{ClashReason, MatchFault, TypeStep, match_types};
 use gob_num::Memory;
 use gob_types::{Table, TypeId};
 use std::alloc::Global;
@@ -53,18 +53,18 @@ inner structs without a name in both | 65 struct A 2 P 66; 66 struct V 2 | 65 st
 ";
 
 // Whether the step is written so. A name that isn't UTF-8 is written `.0xff`.
-fn is_step(step: &Step, word: &str) -> bool {
+fn is_step(step: &TypeStep, word: &str) -> bool {
     match step {
-        Step::Element => word == "[]",
-        Step::Key => word == "{}",
-        Step::Named(name) => {
+        TypeStep::Element => word == "[]",
+        TypeStep::Key => word == "{}",
+        TypeStep::Named(name) => {
             word.strip_prefix(".") == Some(std::str::from_utf8(name.as_bytes()).unwrap_or("0xff"))
         }
     }
 }
 
 // Whether this is the number of the reason, and the steps behind it are those of the path.
-fn is_clash(clash: &str, reason: ClashReason, path: &[Step]) -> bool {
+fn is_clash(clash: &str, reason: ClashReason, path: &[TypeStep]) -> bool {
     let mut words = clash.split_whitespace();
     let number = words.next().unwrap_or("");
     for step in path {
@@ -76,7 +76,7 @@ fn is_clash(clash: &str, reason: ClashReason, path: &[Step]) -> bool {
 }
 
 // Whether one of the clashes is this one.
-fn is_among(clashes: &str, reason: ClashReason, path: &[Step]) -> bool {
+fn is_among(clashes: &str, reason: ClashReason, path: &[TypeStep]) -> bool {
     for clash in clashes.split(" or ") {
         if is_clash(clash, reason, path) {
             return true;

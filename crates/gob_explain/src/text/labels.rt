@@ -4,7 +4,7 @@ ghost use Rattle.std.specs.Prelude.{◌≡◌, ◌++◌, IfOk, OnOk, string_byte
 ghost use Rattle.gob_types.specs.Table.{shape_of};
 ghost use Rattle.gob_explain.specs.Names.{field_in, held_name, path_text, step_text};
 
-use crate::row::Step;
+use crate::row::PartStep;
 use crate::text::names::{push_name, push_type_name};
 use gob_num::Memory;
 use gob_types::{Kind, Shapes, TypeId};
@@ -13,7 +13,7 @@ use std::alloc::{AllocError, Global};
 /// The path as text: `[2].Lines[0].Count`, with ` key` behind the index of a pair whose key it leads to, and with
 /// `.(Point)` into a Point that an interface holds. Names of fields and types are those of the table, with no character
 /// that a terminal obeys. Empty where there is no step.
-pub fn path_text<S: Shapes>(alloc: Global, shapes: &S, path: &[Step]) -> Result<String, Memory>
+pub fn path_text<S: Shapes>(alloc: Global, shapes: &S, path: &[PartStep]) -> Result<String, Memory>
     ensures { IfOk result (λ text. string_bytes text ≡ path_text (S.table shapes.now) path.now) }
 {
     let mut text = String::new(alloc);
@@ -26,20 +26,20 @@ pub fn path_text<S: Shapes>(alloc: Global, shapes: &S, path: &[Step]) -> Result<
 fn push_path_step<S: Shapes>(
     alloc: Global,
     shapes: &S,
-    step: Step,
+    step: PartStep,
     out: &mut String,
 ) -> Result<(), AllocError>
     ensures { OnOk result (string_bytes out.new ≡ string_bytes out.old ++ step_text (S.table shapes.now) step) }
 {
     match step {
-        Step::Element(index) => write!(out, "[{index}]"),
-        Step::Key(index) => write!(out, "[{index}] key"),
-        Step::Value(index) => write!(out, "[{index}]"),
-        Step::Field { of, number } => {
+        PartStep::Element(index) => write!(out, "[{index}]"),
+        PartStep::Key(index) => write!(out, "[{index}] key"),
+        PartStep::Value(index) => write!(out, "[{index}]"),
+        PartStep::Field { of, number } => {
             out.push('.')?;
             push_field(alloc, shapes, of, number, out)
         }
-        Step::Held(id) => {
+        PartStep::Held(id) => {
             out.push_str(".(")?;
             push_held(alloc, shapes, id, out)?;
             out.push_str(")")
@@ -69,13 +69,13 @@ fn push_held<S: Shapes>(
 pub(crate) fn push_label<S: Shapes>(
     alloc: Global,
     shapes: &S,
-    path: &[Step],
+    path: &[PartStep],
     out: &mut String,
 ) -> Result<(), AllocError> {
     let Some((last, around)) = path.split_last() else {
         return Ok(());
     };
-    if let Step::Field { of, number } = *last {
+    if let PartStep::Field { of, number } = *last {
         if push_place(around.last(), out)? {
             out.push('.')?;
         }
@@ -86,11 +86,11 @@ pub(crate) fn push_label<S: Shapes>(
 }
 
 // Puts behind the text the place in a list or map to which the step leads, if it leads to one.
-fn push_place(step: Option<&Step>, out: &mut String) -> Result<bool, AllocError> {
+fn push_place(step: Option<&PartStep>, out: &mut String) -> Result<bool, AllocError> {
     match step {
-        Some(Step::Element(index)) => write!(out, "[{}]", *index)?,
-        Some(Step::Key(_)) => out.push_str("key")?,
-        Some(Step::Value(_)) => out.push_str("value")?,
+        Some(PartStep::Element(index)) => write!(out, "[{}]", *index)?,
+        Some(PartStep::Key(_)) => out.push_str("key")?,
+        Some(PartStep::Value(_)) => out.push_str("value")?,
         _ => return Ok(false),
     }
     Ok(true)

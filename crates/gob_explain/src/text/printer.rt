@@ -13,7 +13,7 @@ ghost use Rattle.gob_explain.specs.Putting.{PutsMore};
 ghost use Rattle.gob_explain.specs.Walk.{between};
 
 use crate::body::{Walked, walk_body};
-use crate::row::{Row, Step, What};
+use crate::row::{PartStep, Row, What};
 use crate::sink::RowSink;
 use crate::text::heads::{size_meaning, type_meaning};
 use crate::text::labels::push_label;
@@ -43,7 +43,7 @@ struct Printer<'a, 'o, O: TextOut> {
     body: &'a [u8],
     offset: u64,
     // The steps to the part at hand.
-    path: Vec<Step>,
+    path: Vec<PartStep>,
     line: Option<Line>,
     // Where the lines that have ended go.
     lines: &'o mut LinesOut<O>,
@@ -227,7 +227,7 @@ impl<'a, O: TextOut> Printer<'a, '_, O> {
     fn end_of_struct(&self, id: TypeId) -> Result<String, AllocError> {
         let mut name = String::new(self.alloc);
         match self.path.last() {
-            Some(Step::Field { .. } | Step::Held(_)) | None => {
+            Some(PartStep::Field { .. } | PartStep::Held(_)) | None => {
                 push_type_name(self.alloc, self.table, id, &mut name)?;
             }
             _ => push_label(self.alloc, self.table, &self.path, &mut name)?,
@@ -351,7 +351,7 @@ impl<O: TextOut> RowSink for Printer<'_, '_, O> {
         Ok(())
     }
 
-    fn enter(&mut self, step: Step) -> Result<(), Infallible> {
+    fn enter(&mut self, step: PartStep) -> Result<(), Infallible> {
         if self.path.push(step).is_err() {
             self.lines.want_memory();
         }

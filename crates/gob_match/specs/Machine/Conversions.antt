@@ -11,8 +11,8 @@ use Rattle.gob_match.specs.declared.common.CommonField.{CommonField}
 use Rattle.gob_match.specs.declared.conversion.Conversion.{Conversion}
 use Rattle.gob_match.specs.declared.conversion.Conversion.TheVariants as conversion
 use Rattle.gob_match.specs.declared.pair.TypePair.{TypePair}
-use Rattle.gob_match.specs.declared.step.Step.{Step}
-use Rattle.gob_match.specs.declared.step.Step.TheVariants as step
+use Rattle.gob_match.specs.declared.step.TypeStep.{TypeStep}
+use Rattle.gob_match.specs.declared.step.TypeStep.TheVariants as step
 use Rattle.gob_match.specs.Machine.Struct.{AreCommonFields}
 use Rattle.gob_match.specs.Pairs.{of_types}
 
@@ -29,7 +29,7 @@ pub data IsConversion : Kind → Kind → Conversion → Type 0 where
       → IsConversion (kind.Struct fs) (kind.Struct gs) (conversion.Fields cs)
 
 -- one of these fields has this step and this pair
-pub record HasCommon (cs : List CommonField) (s : Step) (q : TypePair) : Type 0 where
+pub record HasCommon (cs : List CommonField) (s : TypeStep) (q : TypePair) : Type 0 where
   pub place : ℕ
   pub field : CommonField
   pub there : slice_get cs place ≡ Some field
@@ -37,7 +37,7 @@ pub record HasCommon (cs : List CommonField) (s : Step) (q : TypePair) : Type 0 
   pub pair : q ≡ field.pair
 
 -- the conversion leads to this pair, by this step
-abbrev pub ConversionNames : Conversion → Step → TypePair → Type 0
+abbrev pub ConversionNames : Conversion → TypeStep → TypePair → Type 0
 ConversionNames conversion.Unchanged s q = ⊥
 ConversionNames (conversion.Elements p) s q = (s ≡ step.Element) × (q ≡ p)
 ConversionNames (conversion.Entries k e) s q = ((s ≡ step.Key) × (q ≡ k)) ⊎ ((s ≡ step.Element) × (q ≡ e))

@@ -10,7 +10,7 @@ use Rattle.gob_match.specs.declared.fault.PairFault.{PairFault}
 use Rattle.gob_match.specs.declared.fault.PairFault.TheVariants as pair_fault
 use Rattle.gob_match.specs.declared.pair.TypePair.{TypePair}
 use Rattle.gob_match.specs.declared.reason.ClashReason.{ClashReason}
-use Rattle.gob_match.specs.declared.step.Step.{Step}
+use Rattle.gob_match.specs.declared.step.TypeStep.{TypeStep}
 use Rattle.gob_match.specs.Clashing.{HasClashingShapes}
 use Rattle.gob_match.specs.Machine.Conversions.{IsConversion}
 use Rattle.gob_match.specs.Machine.Search.{Entry, IsAt, IsPathTo, AddsPairs}
@@ -63,7 +63,7 @@ pub record KeepsExplored (T U : Table) (old new : List Entry) (place : ℕ) (bef
   pub kept : behind ≡ before ++ conversion ∷ []
 
 -- the pair at the place clashes, and this is a path to it
-pub record ClashesAlong (T U : Table) (found : List Entry) (place : ℕ) (path : List Step) (reason : ClashReason)
+pub record ClashesAlong (T U : Table) (found : List Entry) (place : ℕ) (path : List TypeStep) (reason : ClashReason)
     : Type 0 where
   pub pair : TypePair
   pub at : IsAt found place pair

@@ -8,7 +8,7 @@ use Rattle.gob_match.specs.declared.kept.KeptMatch.{KeptMatch}
 use Rattle.gob_match.specs.Clashing.{IsLeastClash}
 use Rattle.gob_match.specs.declared.fault.MatchFault.{MatchFault}
 use Rattle.gob_match.specs.declared.reason.ClashReason.{ClashReason}
-use Rattle.gob_match.specs.declared.step.Step.{Step}
+use Rattle.gob_match.specs.declared.step.TypeStep.{TypeStep}
 use Rattle.gob_match.specs.declared.fault.MatchFault.TheVariants as matching
 use Rattle.gob_match.specs.Matching.{Match}
 use Rattle.gob_match.specs.Calls.Matched.{IsKeptMatch, kept_type}
@@ -54,7 +54,7 @@ is_received_of_value U u T id v text = AreReceived T U u (puts id v ∷ []) text
 
 -- or it is a value of a type that clashes with u
 pub data Clashes (U : Table) (u : TypeId) (T : Table) : declared.Item Value → ToolFault → Type 0 where
-  clashes_with : {id : TypeId} {value : Value} {path : Vec Step Global} {reason : ClashReason}
+  clashes_with : {id : TypeId} {value : Value} {path : Vec TypeStep Global} {reason : ClashReason}
       → IsLeastClash T U id u path.items reason → Clashes U u T (variant.Put id value) (fault.Clash path reason)
 
 -- so a run makes it

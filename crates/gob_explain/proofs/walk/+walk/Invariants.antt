@@ -9,7 +9,7 @@ use Rattle.gob_types.specs.declared.kind.Shape.{Shape}
 use Rattle.gob_read.specs.Expects.{FieldsRun}
 use Rattle.gob_explain.specs.Open.{Open, a_filling, a_value, type_number}
 use Rattle.gob_explain.specs.Path.{PathOf}
-use Rattle.gob_explain.specs.declared.row.Step.{Step}
+use Rattle.gob_explain.specs.declared.row.PartStep.{PartStep}
 use Rattle.gob_explain.specs.Machine.Walking.{BeginsAt, BeginsEachKey, BeginsEachPart, BeginsEachValue}
 use Rattle.gob_explain.specs.Machine.Walking.{SpellsEntries, SpellsMany, Told}
 use Rattle.gob_explain.proofs.walk.+walk.Given as goal
@@ -54,7 +54,8 @@ decreases-walk_inside g l = 8 * (l.walk.now.most + 1 - l.filling.depth) + 3
 
 abbrev pub invariant-walk_elements-elements : goal.invariant-walk_elements-elements
 invariant-walk_elements-elements g l =
-    (t : TypeId) (base around : ℕ) (p : List ℕ) (outer : List Open) (way : List Step) → base + around + 1 ≡ l.each.depth
+    (t : TypeId) (base around : ℕ) (p : List ℕ) (outer : List Open) (way : List PartStep)
+    → base + around + 1 ≡ l.each.depth
     → l.begin ≤ length l.walk.body.now → IsReady (types l.walk.table.now) l.each.id
     → BeginsEachPart (types l.walk.table.now) t base p outer l.each.id l.count around way
     → (more : List ℕ) × SpellsMany (types l.walk.table.now) l.each.id l.index more
@@ -63,7 +64,7 @@ invariant-walk_elements-elements g l =
 
 abbrev pub invariant-walk_pairs-pairs : goal.invariant-walk_pairs-pairs
 invariant-walk_pairs-pairs g l =
-    (t : TypeId) (base around : ℕ) (p : List ℕ) (outer : List Open) (way : List Step)
+    (t : TypeId) (base around : ℕ) (p : List ℕ) (outer : List Open) (way : List PartStep)
     → base + around + 1 ≡ l.fn.each.depth
     → l.begin ≤ length l.walk.body.now → IsReady (types l.walk.table.now) l.fn.each.key
     → IsReady (types l.walk.table.now) l.fn.each.elem
@@ -76,7 +77,7 @@ invariant-walk_pairs-pairs g l =
 abbrev pub invariant-walk_fields-fields : goal.invariant-walk_fields-fields
 invariant-walk_fields-fields g l = record {
   within : l.next ≤ length l.fields;
-  walked : (t : TypeId) (base around : ℕ) (p : List ℕ) (outer : List Open) (way : List Step) (s : Shape)
+  walked : (t : TypeId) (base around : ℕ) (p : List ℕ) (outer : List Open) (way : List PartStep) (s : Shape)
       → base + around + 1 ≡ l.part.depth → l.begin ≤ length l.walk.body.now
       → IsReady (types l.walk.table.now) l.part.id → shape_of (types l.walk.table.now) l.part.id ≡ Some s
       → s.kind ≡ kind.Struct l.fields → BeginsAt (types l.walk.table.now) t base p outer l.part.id around way
@@ -90,7 +91,8 @@ decreases-walk_fields-fields g l = length l.fields - l.next
 
 abbrev pub invariant-walk_filling-definitions : goal.invariant-walk_filling-definitions
 invariant-walk_filling-definitions g l =
-    (outer : List Open) (way : List Step) → l.begin ≤ length l.walk.body.now → PathOf (types l.walk.table.now) outer way
+    (outer : List Open) (way : List PartStep) → l.begin ≤ length l.walk.body.now
+    → PathOf (types l.walk.table.now) outer way
     → (l.least ≤ l.at)
     × Told g.O.RowSink.tells (types l.walk.table.now) l.walk.body.now
     (a_filling l.filling.id l.filling.depth type_number ∷ outer) l.begin (l.fn.out, way) (l.out, way) (Ok tt)

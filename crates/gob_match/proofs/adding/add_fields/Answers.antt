@@ -1,7 +1,7 @@
 use Rattle.std.proofs.Common.{subst, length, refl}
 use Rattle.std.proofs.lemmas.Option.{slice_get_read}
 use Rattle.std.proofs.lemmas.Result.{IfOk-from_err}
-use Rattle.gob_match.specs.declared.step.Step.TheVariants as step
+use Rattle.gob_match.specs.declared.step.TypeStep.TheVariants as step
 use Rattle.gob_match.specs.Machine.Search.{AddsPairs}
 use Rattle.gob_match.proofs.ConversionLaws.{adds_next, adds_all}
 use Rattle.gob_match.proofs.FoundLaws.{IsStepTo}
