@@ -22,8 +22,8 @@ use std::alloc::{AllocError, Global};
 const MOST_DEPTH: u64 = 1000;
 
 /// The plain JSON of the value of the type that the body spells, no deeper than `depth`, compact, without a line feed,
-/// with `null` for each nil. What a reader of JSON reads there is the JSON that says the value. None says nothing of the
-/// body. It takes as much memory as the text, but where the style says of types what their values are.
+/// with `null` for each nil. What a reader of JSON reads there is the JSON that says the value. None says nothing of
+/// the body. It takes as much memory as the text, but where the style says of types what their values are.
 pub fn plain_text_of(
     alloc: Global,
     table: &Table,

@@ -48,7 +48,8 @@ const ROWS: [(&str, &str, &str); 24] = [
         "",
     ),
     (
-        "{\"define\":65,\"elem\":2,\"key\":6,\"kind\":\"map\",\"name\":\"\"}\n{\"type\":65,\"value\":[[\"a\",1],[\"a\",2]]}\n",
+        "{\"define\":65,\"elem\":2,\"key\":6,\"kind\":\"map\",\"name\":\"\"}\n\
+            {\"type\":65,\"value\":[[\"a\",1],[\"a\",2]]}\n",
         "0e ff 81 04 01 02 ff 82 00 01 0c 01 04 00 00 0a ff 82 00 02 01 61 02 01 61 04",
         "",
     ),
@@ -58,7 +59,8 @@ const ROWS: [(&str, &str, &str); 24] = [
         "",
     ),
     (
-        "{\"define\":65,\"fields\":[[\"X\",2],[\"Y\",2]],\"kind\":\"struct\",\"name\":\"Point\"}\n{\"type\":65,\"value\":[[0,\"X\",0],[1,\"Y\",33]]}\n",
+        "{\"define\":65,\"fields\":[[\"X\",2],[\"Y\",2]],\"kind\":\"struct\",\"name\":\"Point\"}\n\
+            {\"type\":65,\"value\":[[0,\"X\",0],[1,\"Y\",33]]}\n",
         "POINT 07 ff 82 01 00 01 42 00",
         "",
     ),
@@ -73,12 +75,14 @@ const ROWS: [(&str, &str, &str); 24] = [
         "gob: line 1, column 19: a whole number of 64 bits is due",
     ),
     (
-        "{\"define\":65,\"fields\":[[\"X\",2],[\"Y\",2]],\"kind\":\"struct\",\"name\":\"Point\"}\n{\"type\":65,\"value\":[[0,\"X\",true]]}\n",
+        "{\"define\":65,\"fields\":[[\"X\",2],[\"Y\",2]],\"kind\":\"struct\",\"name\":\"Point\"}\n\
+            {\"type\":65,\"value\":[[0,\"X\",true]]}\n",
         "POINT",
         "gob: line 2, column 28, at .X: a whole number of 64 bits is due",
     ),
     (
-        "{\"define\":65,\"fields\":[[\"X\",2],[\"Y\",2]],\"kind\":\"struct\",\"name\":\"Point\"}\n{\"type\":65,\"value\":[[1,\"Y\",1],[0,\"X\",1]]}\n",
+        "{\"define\":65,\"fields\":[[\"X\",2],[\"Y\",2]],\"kind\":\"struct\",\"name\":\"Point\"}\n\
+            {\"type\":65,\"value\":[[1,\"Y\",1],[0,\"X\",1]]}\n",
         "POINT",
         "gob: line 2, column 32: the number of a later field of the struct is due",
     ),
