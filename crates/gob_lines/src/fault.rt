@@ -111,7 +111,7 @@ pub struct Wrong {
 }
 
 impl Wrong {
-    // The same at the token itself, in place of the end of the one before.
+    // What is wrong, at the token itself, in place of the end of the one before.
     pub(crate) fn placed(self, line: &str) -> Wrong {
         let Wrong { at, due, path } = self;
         let rest = line.as_bytes().get(at..).unwrap_or(&[]);

@@ -50,7 +50,7 @@ fn whole_text_of(
     Ok(plain_text_of(alloc, session.table(), item.id, item.body, depth, style)?)
 }
 
-// The same as `json_of` of a stream that isn't refused, from the bytes in which the value stands whole.
+// The JSON of the last value of a stream that isn't refused, from the bytes in which the value stands whole.
 fn whole_json_of(alloc: Global, bytes: &[u8], style: Style<'_>) -> Result<String, Memory> {
     let mut session = Session::<TapeBuilder>::new(alloc, Limits::standard())?;
     let mut items = Vec::new(alloc);
