@@ -12,8 +12,8 @@
 //! a.gob: ok: 2 items, 1 types, 40 bytes   tell_file: a line for a file
 //! ```
 //!
-//! [`types_of`] makes the source of bytes in memory. [`run_view`] is the run of any of these, and of `gob why`,
-//! `gob explain` and `gob salvage`, which are those of `gob_why` and `gob_salvage`.
+//! [`types_of`] makes the source of bytes in memory, and [`values_of`] their lines. [`run_view`] is the run of any of
+//! these, and of `gob why`, `gob explain` and `gob salvage`, which are those of `gob_why` and `gob_salvage`.
 #![tactic(auto)]
 
 mod gathered;
@@ -25,7 +25,7 @@ mod values;
 mod verify;
 
 pub use gob_plain::Style;
-pub use in_memory::types_of;
+pub use in_memory::{types_of, values_of};
 pub use run::{limits_of, run_view};
 pub use types::{SourceForm, run_types};
 pub use value_line::ValueLines;
