@@ -355,6 +355,14 @@ int64_t gob_types_text(const void *bytes, size_t count, const gob_limits *limits
     return texted(told, out, size);
 }
 
+int64_t gob_values_text(const void *bytes, size_t count, const gob_limits *limits, char *out, size_t size) {
+    struct raw_text told;
+    struct raw_asked asked = asked_of(limits, false);
+    if (is_misused(bytes, count, out, size)) return -GOB_MISUSED;
+    gob_raw_values_text(some_bytes(bytes, count), count, &asked, room_of(out, size), room_for(size), &told);
+    return texted(told, out, size);
+}
+
 /* ---- the rest */
 
 uint32_t gob_abi(void) { return GOB_ABI; }

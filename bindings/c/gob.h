@@ -412,6 +412,10 @@ GOB_API int64_t gob_why_text(const void *bytes, size_t count, const gob_limits *
  * fills interfaces; of a refused stream those of the items before. */
 GOB_API int64_t gob_types_text(const void *bytes, size_t count, const gob_limits *limits, char *out, size_t size);
 
+/* So it gives what `gob values` prints: a line of plain JSON for each value of a stream; of a refused stream those of
+ * the items before. */
+GOB_API int64_t gob_values_text(const void *bytes, size_t count, const gob_limits *limits, char *out, size_t size);
+
 #ifdef __cplusplus
 }
 #endif

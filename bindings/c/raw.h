@@ -47,6 +47,8 @@ void gob_raw_why_text(const unsigned char *bytes, size_t count, const struct raw
                       struct raw_text *told);
 void gob_raw_types_text(const unsigned char *bytes, size_t count, const struct raw_asked *asked, unsigned char *room,
                         size_t size, struct raw_text *told);
+void gob_raw_values_text(const unsigned char *bytes, size_t count, const struct raw_asked *asked, unsigned char *room,
+                         size_t size, struct raw_text *told);
 
 /* What the archive asks of its caller: memory. A block that isn't had is told by `ok`, and its pointer isn't NULL. */
 struct raw_block {

@@ -244,3 +244,12 @@ void gob_raw_types_text(const unsigned char *bytes, size_t count, const struct r
     code_gob_raw_types_text(&box->wasm, box->bytes.at, count, box->piece, box->heads.at, size, box->told);
     say(box, room, size, told);
 }
+
+void gob_raw_values_text(const unsigned char *bytes, size_t count, const struct raw_asked *asked, unsigned char *room,
+                         size_t size, struct raw_text *told) {
+    sandbox *box = about(bytes, count, asked, size);
+    *told = (struct raw_text){.status = GOB_NO_MEMORY};
+    if (box == NULL) return;
+    code_gob_raw_values_text(&box->wasm, box->bytes.at, count, box->piece, box->heads.at, size, box->told);
+    say(box, room, size, told);
+}

@@ -401,6 +401,10 @@ static void texts_are_due(void) {
     DUE(strncmp(room, "refused 22 Ended at 36 seen 36\nwhat: The file ends within an item.\n", 67) == 0);
     DUE(strstr(room, "\nwhere: item 1, Point.X: a value of type 65, Point, which begins at byte 32\n") != NULL);
     DUE(gob_types_text(point, 36, NULL, room, sizeof room) == sizeof source - 1 && strcmp(room, source) == 0);
+    DUE(gob_values_text(point, sizeof point, NULL, room, sizeof room) == 16);
+    DUE(strcmp(room, "{\"X\":22,\"Y\":33}\n") == 0);
+    DUE(gob_values_text(point, sizeof point, NULL, room, 5) == 16 && strcmp(room, "{\"X\"") == 0);
+    DUE(gob_values_text(point, 36, NULL, room, sizeof room) == 0 && room[0] == 0);
     DUE(gob_why_text(NULL, 0, NULL, NULL, room, sizeof room) > 0);
     DUE(strcmp(room, "ok: 0 items, 0 types, 0 bytes\n") == 0);
     const gob_limits narrow = {30, 1000, 10000, 100}, none = {30, 0, 10000, 100};
@@ -409,8 +413,11 @@ static void texts_are_due(void) {
     DUE(strstr(room, "\nnext: gob why --item 31 'a b.gob'\n") != NULL);
     DUE(gob_why_text(point, sizeof point, &none, NULL, room, sizeof room) == -GOB_BAD_LIMITS && room[0] == 0);
     DUE(gob_types_text(point, sizeof point, &none, NULL, 0) == -GOB_BAD_LIMITS);
+    DUE(gob_values_text(point, sizeof point, &none, NULL, 0) == -GOB_BAD_LIMITS);
     DUE(gob_why_text(NULL, 1, NULL, NULL, room, sizeof room) == -GOB_MISUSED);
     DUE(gob_types_text(NULL, 1, NULL, room, sizeof room) == -GOB_MISUSED);
+    DUE(gob_values_text(NULL, 1, NULL, room, sizeof room) == -GOB_MISUSED);
+    DUE(gob_values_text(point, sizeof point, NULL, NULL, 1) == -GOB_MISUSED);
     DUE(gob_why_text(point, sizeof point, NULL, NULL, NULL, 1) == -GOB_MISUSED);
     DUE(gob_types_text(point, sizeof point, NULL, NULL, 1) == -GOB_MISUSED);
 }

@@ -1,4 +1,4 @@
-/* What `gob why` says of a stream, or with `types` what `gob types` prints, by the library: texts [types] <STREAM. */
+/* What `gob why`, `gob types` or `gob values` says of a stream, by the library: texts [COMMAND] <STREAM. */
 #include "../gob.h"
 
 #include <stdio.h>
@@ -26,17 +26,19 @@ static int read_all(void) {
     return all != NULL;
 }
 
-static int64_t text(int types, char *out, size_t room) {
-    return types ? gob_types_text(all, size, NULL, out, room) : gob_why_text(all, size, NULL, NULL, out, room);
+static int64_t text(const char *command, char *out, size_t room) {
+    if (strcmp(command, "types") == 0) return gob_types_text(all, size, NULL, out, room);
+    if (strcmp(command, "values") == 0) return gob_values_text(all, size, NULL, out, room);
+    return gob_why_text(all, size, NULL, NULL, out, room);
 }
 
 int main(int argc, char **argv) {
-    int types = argc > 1 && strcmp(argv[1], "types") == 0;
+    const char *command = argc > 1 ? argv[1] : "why";
     if (!read_all()) return lacks_memory();
-    int64_t due = text(types, NULL, 0);
+    int64_t due = text(command, NULL, 0);
     char *room = due < 0 ? NULL : malloc((size_t)due + 1);
     if (room == NULL) return lacks_memory();
-    int64_t is = text(types, room, (size_t)due + 1);
+    int64_t is = text(command, room, (size_t)due + 1);
     if (is == due) fputs(room, stdout);
     free(room);
     if (is == -GOB_NO_MEMORY) return lacks_memory();

@@ -1,10 +1,11 @@
 -- What the exports tell C of texts about bytes in memory.
-use Rattle.std.specs.Prelude.{◌≡◌, ℕ, List, ◌++◌, Option, Result, Ok, Err, length, take, drop}
+use Rattle.std.specs.Prelude.{◌≡◌, ℕ, false, List, [], ◌++◌, Option, None, Result, Ok, Err, length, take, drop}
 use Rattle.gob_num.specs.declared.memory.Memory.{Memory}
 use Rattle.gob_stream.specs.Bounds.{AreLimits, Bounds, deepest, within_trees}
 use Rattle.gob_stream.specs.declared.fault.Refusal.{Refusal}
-use Rattle.gob_views.specs.InMemory.{IsSourceText}
+use Rattle.gob_views.specs.InMemory.{IsSourceText, IsValuesText}
 use Rattle.gob_views.specs.declared.types.SourceForm.TheVariants as form
+use Rattle.gob_views.specs.declared.value_line.ValueLines.{ValueLines}
 use Rattle.gob_why.specs.Said.{SaysOf}
 use Rattle.gob_why.specs.declared.said.Said.{Said}
 use Rattle.gob_c.specs.declared.texts.TextTold.{TextTold}
@@ -17,6 +18,22 @@ IsWhyText limits bytes text = (refusal : Option Refusal) × SaysOf (within_trees
 abbrev pub IsTypesText : Bounds → (bytes : List ℕ) → (text : List ℕ) → Type 0
 IsTypesText limits bytes text =
     (refusal : Option Refusal) × IsSourceText form.Types (within_trees limits) bytes refusal text
+
+-- the lines that `gob values` prints where nothing else is asked of it
+pub record ArePlain (lines : ValueLines) : Type 0 where
+  pub zeros : lines.zeros ≡ false
+  pub raw : lines.raw ≡ false
+  pub kinds : lines.kinds.now ≡ []
+  pub tagged : lines.tagged ≡ false
+  pub typed : lines.typed ≡ false
+  pub only : lines.only ≡ None
+  pub each : lines.each ≡ false
+
+-- the text is such lines of the values of these bytes, up to their refusal where they have one
+abbrev pub IsLinesText : Bounds → (bytes : List ℕ) → (text : List ℕ) → Type 0
+IsLinesText limits bytes text =
+    (lines : ValueLines) × ArePlain lines
+    × ((refusal : Option Refusal) × IsValuesText lines (within_trees limits) bytes refusal text)
 
 -- the room with as much of the text at its front as there is room for
 abbrev pub put_in : (text room : List ℕ) → List ℕ

@@ -2,11 +2,12 @@
 
 ghost use Rattle.std.specs.Prelude.{◌≡◌};
 ghost use Rattle.gob_c.specs.Asked.{asked_bounds};
-ghost use Rattle.gob_c.specs.Texts.{IsTypesText, IsWhyText, PutsSaid, TellsText, put_in, text_told};
+ghost use Rattle.gob_c.specs.Texts.{ArePlain, IsLinesText, IsTypesText, IsWhyText, PutsSaid, TellsText};
+ghost use Rattle.gob_c.specs.Texts.{put_in, text_told};
 
 use crate::limits::Asked;
 use gob_num::Memory;
-use gob_views::{SourceForm, types_of};
+use gob_views::{SourceForm, ValueLines, types_of, values_of};
 use gob_why::{Said, why_of};
 use std::alloc::Global;
 
@@ -61,6 +62,26 @@ pub extern "C" fn gob_raw_types_text(
     *told = put_said(&types_of(alloc, bytes, limits, SourceForm::Types), room);
 }
 
+/// Gives the values of a stream as plain JSON, a line for each, as `gob values` does: of a refused one those of the
+/// items before. As much of the text is put into the room as there is room for.
+#[unsafe(no_mangle)]
+pub extern "C" fn gob_raw_values_text(
+    alloc: Global,
+    bytes: &[u8],
+    asked: &Asked,
+    room: &mut [u8],
+    told: &mut TextTold,
+)
+    ensures { TellsText (asked_bounds asked.now) (IsLinesText (asked_bounds asked.now) bytes.now) room.old room.new
+        told.new }
+{
+    let Some(limits) = asked.limits() else {
+        *told = TextTold::plain(4);
+        return;
+    };
+    *told = put_said(&values_of(alloc, bytes, limits, plain_lines()), room);
+}
+
 impl TextTold {
     /// A status alone.
     fn plain(status: u32) -> TextTold
@@ -68,6 +89,13 @@ impl TextTold {
     {
         TextTold { status, length: 0 }
     }
+}
+
+// How `gob values` prints values where nothing else is asked of it.
+fn plain_lines<'a>() -> ValueLines<'a>
+    ensures { ArePlain result }
+{
+    ValueLines::default()
 }
 
 // The name of the file that a text is about, where it has one that is UTF-8.
