@@ -12,7 +12,7 @@ import sys
 HERE = pathlib.Path(__file__).resolve().parent
 ROOT = HERE.parents[1]
 # what the page and its worker both have, and what the page alone has
-SHARED = ["texts.js", "types.js", "opaque.js", "lines.js", "library.js", "said.js", "find.js", "stream.js"]
+SHARED = ["texts.js", "types.js", "lines.js", "library.js", "said.js", "known.js", "find.js", "stream.js"]
 PAGE = ["tree.js", "bytes.js", "files.js", "search.js", "keys.js", "page.js"]
 EXAMPLES = {
     "two logins": "examples/logins.gob",

@@ -4,6 +4,7 @@
 import { once } from "node:events";
 import process from "node:process";
 import { check } from "./checking.js";
+import { knowing } from "./instances.js";
 import { Reading } from "./reading.js";
 import { Refused } from "./refused.js";
 import { PlainLines, ShowLines, unquoted } from "./shared.js";
@@ -25,7 +26,7 @@ const COMMANDS = {
 };
 
 async function* linesText(source, Lines) {
-    const reading = await Reading.open(), lines = new Lines(reading.types);
+    const reading = await Reading.open(), lines = new Lines(reading.types, knowing());
     for await (const batch of reading.batches(source)) {
         let text = "";
         for (const item of reading.items(batch)) text += lines.line(batch, item);

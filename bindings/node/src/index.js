@@ -1,6 +1,7 @@
 // Streams of Go's encoding/gob as JavaScript values. index.d.ts says what each name is for.
 
 import { check } from "./checking.js";
+import { knowing } from "./instances.js";
 import { Reading } from "./reading.js";
 import { Refused } from "./refused.js";
 import { PlainLines, ShowLines } from "./shared.js";
@@ -32,7 +33,7 @@ export async function load(source, options) {
 export async function* lines(source, { as = "values", ...options } = {}) {
     const makers = { values: PlainLines, show: ShowLines };
     if (!Object.hasOwn(makers, as)) throw new TypeError(`lines are as "values" or as "show", not as ${as}`);
-    const reading = await Reading.open(options), maker = new makers[as](reading.types);
+    const reading = await Reading.open(options), maker = new makers[as](reading.types, knowing());
     for await (const batch of reading.batches(source)) {
         for (const item of reading.items(batch)) {
             const line = maker.line(batch, item);

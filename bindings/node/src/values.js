@@ -1,12 +1,14 @@
 // JavaScript values of nodes.
 
-import {
-    HELD, LIST, MAP, STRUCT, hexOf, instantOf, knownNumber, knownText, signedOf, utf8, wholeOf,
-} from "./shared.js";
+import { knowing } from "./instances.js";
+import { HELD, LIST, MAP, STRUCT, hexOf, signedOf, utf8, wholeOf } from "./shared.js";
 
 const STRING = 6;
 // V8 keeps all of a text while it keeps a part of so many characters or more
 const SHORT = 12;
+// how the text of a time begins, of what is marshalled as gob
+const TIME = /^\d{4}-\d\d-\d\dT/;
+const YEAR_1_TO_1970 = 62135596800n; // in seconds
 
 /** What a type that encodes itself wrote. */
 export class Opaque {
@@ -32,17 +34,18 @@ export class Time extends Date {
 
 /** The value that is known of an opaque one by the name of its type, else the opaque one itself. */
 export function known(opaque) {
-    const { type, marshal, data } = opaque, named = { name: { text: type }, marshal };
-    const digits = knownNumber(named, data), text = knownText(named, data);
+    const { type, marshal, data } = opaque;
+    const { digits, text } = knowing().of({ name: { text: type }, marshal }, data);
     if (digits !== null) return BigInt(digits);
     if (text === null) return opaque;
-    // of what is marshalled as gob a time alone has a text
-    return marshal === "gob" ? new Time(millisecondsOf(data), text) : text;
+    return marshal === "gob" && TIME.test(text) ? new Time(millisecondsOf(data), text) : text;
 }
 
-function millisecondsOf(time) {
-    const { seconds, nanos } = instantOf(time);
-    return 1000 * seconds + Math.floor(nanos / 1e6);
+/** When a time was, since 1970 UTC: behind its version stand its seconds and the nanoseconds behind them. (Its text
+ * leaves out the seconds of its offset.) */
+function millisecondsOf(data) {
+    const time = new DataView(data.buffer, data.byteOffset, data.length);
+    return 1000 * Number(time.getBigInt64(1) - YEAR_1_TO_1970) + Math.floor(time.getUint32(9) / 1e6);
 }
 
 /** A name of a type or of a field. */

@@ -16,6 +16,11 @@ const TYPE = {
     floats: "0e ff 81 04 01 02 ff 82 00 01 08 01 04 00 00",
     time: "10 ff 81 05 01 01 04 54 69 6d 65 01 ff 82 00 00 00",
     int: "0f ff 81 05 01 01 03 49 6e 74 01 ff 82 00 00 00",
+    float: "11 ff 81 05 01 01 05 46 6c 6f 61 74 01 ff 82 00 00 00",
+    rat: "0f ff 81 05 01 01 03 52 61 74 01 ff 82 00 00 00",
+    own: "0d ff 81 05 01 01 01 54 01 ff 82 00 00 00",
+    nameless: "0a ff 81 05 01 02 ff 82 00 00 00",
+    text: "0d ff 81 07 01 01 01 54 01 ff 82 00 00 00",
 };
 const points = bytesOf(`${TYPE.point} 07 ff 82 01 2c 01 42 00 05 ff 82 02 42 00`);
 const due = [{ X: 22, Y: 33 }, { Y: 33 }];
@@ -48,6 +53,13 @@ const VALUES = [
     [`${TYPE.floats} 09 ff 82 00 02 00 02 ff 80 04`, gob.Pairs.from([[0, 1], [-0, 2]])],
     [`${TYPE.int} 06 ff 82 00 02 03 05`, -5n],
     [`${TYPE.time} 06 ff 82 00 02 0a 0b`, new gob.Opaque("Time", "gob", new Uint8Array([10, 11]))],
+    [`${TYPE.float} 16 ff 82 00 12 01 0a 00 00 00 35 00 00 00 01 c0 00 00 00 00 00 00 00`, "1.5"],
+    [`${TYPE.rat} 0b ff 82 00 07 02 00 00 00 01 03 02`, "3/2"],
+    [`${TYPE.own} 04 ff 82 00 00`, new gob.Opaque("T", "gob", new Uint8Array(0))],
+    [`${TYPE.nameless} 06 ff 82 00 02 03 05`, -5n],
+    [`${TYPE.text} 04 ff 82 00 00`, ""],
+    [`${TYPE.text} 08 ff 82 00 04 41 6a 3d 3d`, "Aj=="],
+    [`${TYPE.text} 05 ff 82 00 01 ff`, new gob.Opaque("T", "text", new Uint8Array([255]))],
 ];
 
 test("each kind of value", async () => {

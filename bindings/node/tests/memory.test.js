@@ -26,9 +26,10 @@ test("a stream of 30 MB takes no more than its largest item asks", async () => {
     }
     let values = 0, before = 0, most = 0;
     for await (const { value } of gob.read(source())) {
-        if (++values === 5000) before = process.memoryUsage().rss;
+        // (an assertion for each would take memory of its own)
+        if (value.length === 1000) values++;
+        if (values === 5000) before = process.memoryUsage().rss;
         if (values % 5000 === 0) most = Math.max(most, process.memoryUsage().rss);
-        assert.equal(value.length, 1000);
     }
     assert.equal(values, 30000);
     assert.deepEqual(await gob.check(source()), { items: 30000, types: 0, values: 30000, bytes: 30 * piece.length });

@@ -7,8 +7,9 @@ function folded(text) {
 
 /** Looks for a text in the parts of values. */
 class Finder {
-    constructor(types, text) {
+    constructor(types, text, known) {
         this.types = types;
+        this.known = known;
         this.wanted = folded(text);
         this.named = new Map();
     }
@@ -49,7 +50,8 @@ class Finder {
     }
 
     opaque(type, bytes) {
-        return knownNumber(type, bytes) ?? knownText(type, bytes);
+        const { digits, text } = this.known.of(type, bytes);
+        return digits ?? text;
     }
 
     pathOfHeld(node, path) {

@@ -113,8 +113,13 @@ class ShowLines extends Lines {
     }
 }
 
-/** The lines of `gob values`. */
+/** The lines of `gob values`; `known` knows opaque values. */
 class PlainLines extends Lines {
+    constructor(types, known) {
+        super(types);
+        this.known = known;
+    }
+
     defined() {
         return "";
     }
@@ -138,8 +143,7 @@ class PlainLines extends Lines {
     }
 
     opaque(bytes, type) {
-        const text = knownText(type, bytes);
-        return knownNumber(type, bytes) ?? (text === null ? this.bytes(bytes) : JSON.stringify(text));
+        return this.known.json(type, bytes);
     }
 
     // a map whose keys give names to members is an object

@@ -61,9 +61,14 @@ class Readings {
 }
 
 const readings = new Readings();
-const ready = readings.start();
+let known = null; // what knows opaque values, once the page is ready
+const ready = Promise.all([readings.start(), knowing()]);
 let shown = { file: null, told: null };
 let turn = 0;
+
+async function knowing() {
+    known = await Known.open(await WebAssembly.compile(bytesOf(scriptOf("module"))));
+}
 
 const setState = (state) => void (document.body.dataset.state = state);
 

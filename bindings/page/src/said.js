@@ -35,6 +35,11 @@ function sourceOf(calls, bytes, limits = 0n) {
     return textBy(calls, (at, count, room, size) => calls.gob_types_text(at, count, limits, room, size), bytes);
 }
 
+/** The lines that `gob values` prints of these bytes, likewise. */
+function valuesOf(calls, bytes, limits = 0n) {
+    return textBy(calls, (at, count, room, size) => calls.gob_values_text(at, count, limits, room, size), bytes);
+}
+
 /** The lines about a refusal behind its first, by their words: what, where, expected, found, cause, next. */
 function partsOf(said) {
     return Object.fromEntries(said.split("\n").slice(1, -1).map((line) => {

@@ -181,7 +181,7 @@ class Stream {
     /** Some values from one on that have a text, each with the path of it, and the number of the value to look on from:
      * null where there is none. */
     async find(text, first, progress) {
-        const finder = new Finder(this.all(), text), found = [];
+        const finder = new Finder(this.all(), text, await Known.open(this.module)), found = [];
         let next = first;
         try {
             for await (const [batch, values] of this.numbered(this.markOf(first), progress)) {
@@ -243,7 +243,7 @@ class Stream {
 
     /** The lines of `gob show --go` or of `gob values`, as a file. */
     async lines(kind, progress) {
-        const lines = kind === "show" ? new ShowLines(this.all()) : new PlainLines(this.all());
+        const lines = kind === "show" ? new ShowLines(this.all()) : await this.plainLines();
         const reader = await Reader.open(this.module);
         const parts = [], encoder = new TextEncoder();
         for await (const batch of this.batches(reader, 0, progress)) {
@@ -258,6 +258,10 @@ class Stream {
         }
         if (reader.fault.status === NO_MEMORY) throw new Error("the page has no memory for these items");
         return new Blob(parts, { type: "application/jsonl" });
+    }
+
+    async plainLines() {
+        return new PlainLines(this.all(), await Known.open(this.module));
     }
 
     all() {

@@ -3,6 +3,7 @@
 const SOME = 100; // so many parts are shown at once
 const ROOM = 100; // so many characters of a part are shown beside it
 const LEAST_ROOM = 12; // and of a leaf that is shown at all
+const MOST_SHOWN = 100000; // so many bytes of a text at the most
 
 function make(tag, name, ...parts) {
     const element = document.createElement(tag);
@@ -81,7 +82,7 @@ class Part {
         case 6: return this.briefText(room);
         case 7: return `${shownFloat(batch.real(node, 0))} and ${shownFloat(batch.real(node, 1))}i`;
         case 8: return "nil";
-        default: return cut(opaqueText(this.type, batch.bytesAt(node, 0), room), room);
+        default: return cut(opaqueText(this.type, beginningOf(batch.bytesAt(node, 0)), room), room);
         }
     }
 
@@ -122,8 +123,8 @@ function spaced(bytes, room) {
 
 /** What a type wrote of itself: as `gob values` shows it where something is known of it, else the bytes. */
 function opaqueText(type, bytes, room) {
-    const number = knownNumber(type, bytes), text = knownText(type, bytes);
-    if (number !== null) return number;
+    const { digits, text } = known.of(type, bytes);
+    if (digits !== null) return digits;
     return text === null ? spaced(bytes, room) : quoted(text.slice(0, 4 * room));
 }
 
@@ -168,11 +169,14 @@ function isLong(part) {
 
 /** All of a long text, or the bytes of a part; of very long ones the beginning. */
 function wholeText(part) {
-    const all = part.batch.bytesAt(part.node, 0), bytes = all.subarray(0, wholeUpTo(all, 100000));
+    const all = part.batch.bytesAt(part.node, 0), bytes = beginningOf(all);
     const rest = all.length > bytes.length ? `\n.. ${counted(all.length - bytes.length, "more byte")}` : "";
-    const text = part.kind === 6 ? textOf(bytes) : part.kind === OPAQUE ? knownText(part.type, bytes) : null;
+    const text = part.kind === 6 ? textOf(bytes) : part.kind === OPAQUE ? known.of(part.type, bytes).text : null;
     return (text === null ? spaced(bytes, bytes.length) : withoutControls(text)) + rest;
 }
+
+/** So many bytes as are shown at the most, without a character that is cut. */
+const beginningOf = (bytes) => bytes.subarray(0, wholeUpTo(bytes, MOST_SHOWN));
 
 /** The place, or one before it, where no character of UTF-8 is cut. */
 function wholeUpTo(bytes, place) {
