@@ -160,9 +160,30 @@ class Decoder:
 
         return opaque
 
+    def _numbers(self, id: int) -> _Decode | None:
+        """The decoder of a list of truths or numbers, without a call for each."""
+        first, second, reals = self.first, self.second, self.reals
+
+        def truths(i: int, base: int) -> list[bool]:
+            return [x == 1 for x in first[i + 1:i + second[i]]]
+
+        def integers(i: int, base: int) -> list[int]:
+            return [(x >> 1) ^ -(x & 1) for x in first[i + 1:i + second[i]]]
+
+        def unsigned(i: int, base: int) -> list[int]:
+            return first[i + 1:i + second[i]]
+
+        def floats(i: int, base: int) -> list[float]:
+            return reals[i + 1:i + second[i]]
+
+        return {1: truths, 2: integers, 3: unsigned, 4: floats}.get(id)
+
     def _list(self, shape: Type) -> _Decode:
         first, second = self.first, self.second
         element = self.of(shape.elem)
+        numbers = self._numbers(shape.elem)
+        if numbers is not None:
+            return numbers
         if self._is_leaf(shape.elem):
             def flat(i: int, base: int) -> list[Any]:
                 return [element(k, base) for k in range(i + 1, i + second[i])]
