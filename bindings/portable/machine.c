@@ -182,6 +182,19 @@ OPERATION f64 f64_reinterpret_i64(u64 bits) {
     return number;
 }
 
+/* The 64 bits of this float. */
+OPERATION u64 i64_reinterpret_f64(f64 number) {
+    u64 bits;
+    memcpy(&bits, &number, sizeof bits);
+    return bits;
+}
+
+/* The remainder of signed numbers; that of the least by -1 would overflow in C, and is 0. */
+OPERATION u32 I32_REM_S(u32 x, u32 y) {
+    if (y == 0) trap();
+    return y == UINT32_MAX ? 0 : (u32)((int32_t)x % (int32_t)y);
+}
+
 #define TRAP(why) (trap(), 0)
 #define UNREACHABLE trap()
 #define FUNC_PROLOGUE
