@@ -44,11 +44,12 @@ text_told status length = record { status = status; length = length }
 
 -- a text was put into the room, and its length is told; without memory the room is as it was
 abbrev pub PutsSaid : Result Said Memory → (room room' : List ℕ) → TextTold → Type 0
-PutsSaid (Ok said) room room' told = (room' ≡ put_in said.text.items room) × (told ≡ text_told 0 (length said.text.items))
+PutsSaid (Ok said) room room' told = (room' ≡ put_in said.text.items room)
+    × (told ≡ text_told 0 (length said.text.items))
 PutsSaid (Err _) room room' told = (room' ≡ room) × (told ≡ text_told 2 0)
 
--- a text of which this holds was put into the room, and its length is told; or there was no memory for it, or the limits
--- are none, and the room is as it was
+-- a text of which this holds was put into the room, and its length is told; or there was no memory for it, or the
+-- limits are none, and the room is as it was
 pub data TellsText (limits : Bounds) (P : List ℕ → Type 0) (room room' : List ℕ) (told : TextTold) : Type 0 where
   is_put : AreLimits deepest limits → (text : List ℕ) → P text → room' ≡ put_in text room
       → told ≡ text_told 0 (length text) → TellsText limits P room room' told

@@ -5,7 +5,8 @@ use Rattle.std.proofs.Common.{get_or, drop}
 use Rattle.serde_json.specs.Data.{Data, null}
 use Rattle.gob_types.specs.Table.{Table}
 use Rattle.gob_go.specs.declared.filled.Filling.{Filling}
-use Rattle.gob_json_writer.specs.Machine.Holding.{FillingShows, GapsShow, no_gap, gap_then, Fills, fills_none, fills_some}
+use Rattle.gob_json_writer.specs.Machine.Holding.{FillingShows, GapsShow, no_gap, gap_then, Fills, fills_none}
+use Rattle.gob_json_writer.specs.Machine.Holding.{fills_some}
 use Rattle.gob_json_writer.specs.Machine.Holding.{first_gap}
 
 -- nothing fills the part, and what was due is due then

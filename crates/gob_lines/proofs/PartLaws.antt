@@ -208,7 +208,8 @@ ReadsComplex read old = (p q : ℕ) (rest : List Token) → p < 2 ^ 64 → q < 2
     → Reads (pair_json (pattern_json p) (pattern_json q)) old rest → read p q rest
 
 pub complex_value_it : {T : Table} {v : Tree} {b : List ℕ} (t : TypeId) (p q : ℕ) (old new rest : List Token)
-    → ReadsComplex (λ m n rest. (◌≡◌ {A = ℕ × ℕ} (p, q) (m, n)) × (new ≡ rest)) old → SpellsAs T (kind.Basic basic.Complex) v b
+    → ReadsComplex (λ m n rest. (◌≡◌ {A = ℕ × ℕ} (p, q) (m, n)) × (new ≡ rest)) old
+    → SpellsAs T (kind.Basic basic.Complex) v b
     → Reads (value_json T t v) old rest → IsItsBasic (Tree.complex p q) v new rest
 complex_value_it t p q old new rest whole (of_complex {p = m} {q = n} f g) said =
     let r = whole m n rest (pattern_fits f) (pattern_fits g) said in

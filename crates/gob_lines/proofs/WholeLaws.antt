@@ -182,7 +182,8 @@ pair_at : {T : Table} {k e : TypeId} {limit : ℕ} {now rest : List Token} {ps :
     → pairs_depth left ≤ limit → pairs_before read left ≡ ps → now ≡ JS (pairs_json T k e left) ++ rest
     → after_end_array now ≡ None → NextPair T k e limit read ps now rest
 pair_at read no_pair s h d all stand n = absurd (no_end_there stand n)
-pair_at {T = T} {k = k} {e = e} {rest = rest} read (pair x w qs) (entry {a = a} {b = b} {c = c} o p ps) h d all stand n =
+pair_at {T = T} {k = k} {e = e} {rest = rest} read (pair x w qs) (entry {a = a} {b = b} {c = c} o p ps) h d all
+    stand n =
     record {
       key = x;
       next = w;

@@ -87,7 +87,8 @@ module _ {style : Style} {T : Table} where
       (append-nil (json_tokens t.0) ∙ sym t.2) (said.says_leaf t.0 t.1 said.says_nothing))
 
   pub raw_said : (s : Option Shape) (b : List ℕ) (ts : List Token)
-      → AreTokensOf (SaysContent (content_of style.raw s) b) ts → SaysEvents style T place.Free (raw s b ∷ []) ts place.Free
+      → AreTokensOf (SaysContent (content_of style.raw s) b) ts
+      → SaysEvents style T place.Free (raw s b ∷ []) ts place.Free
   raw_said s b ts t = subst (λ l. SaysEvents style T place.Free (raw s b ∷ []) l place.Free)
       (append-nil (json_tokens t.0) ∙ sym t.2) (said.says_raw t.0 t.1 said.says_nothing)
 

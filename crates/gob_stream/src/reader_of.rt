@@ -217,6 +217,14 @@ impl<S: Steps> ReaderOf<S> {
         self.waiting.bytes().len()
     }
 
+    /// The bytes that wait.
+    #[inline(always)]
+    pub fn bytes(&self) -> &[u8]
+        ensures { result.now ≡ waits_in self.now }
+    {
+        self.waiting.bytes()
+    }
+
     /// The item of a value that waits in front, where no byte of an item is under way, all of what comes of it at once
     /// is there, its type is ready and the limits allow its length. It takes no memory, and looks at no byte of the
     /// value: where its body is a value of its type in which no interface holds another, the item is whole with it.

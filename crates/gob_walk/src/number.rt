@@ -8,9 +8,9 @@ ghost use Rattle.gob_walk.specs.Standing.{EndsAt, IsNextField, NumberFrom};
 use gob_num::known_uint_at;
 use gob_types::{Field, Fields};
 
-/// The number that stands in the body from the place on, and where it ends. None says that none stands there. Where one
-/// is known to stand it isn't looked at whether it does: then some number and a place are answered where none stands.
-// number: a byte below 80, or the negated count of the bytes that follow it, the first of them not 0
+/// The number that stands in the body from the place on, and where it ends. A number is a byte below 80, or the negated
+/// count of the bytes that follow it, the first of them not 0. None says that none stands there. Where one is known to
+/// stand it isn't looked at whether it does: then some number and a place are answered where none stands.
 #[inline(always)]
 pub fn number_at<const KNOWN: bool>(body: &[u8], at: usize) -> Option<(u64, usize)>
     requires { at ≤ length body.now }

@@ -49,7 +49,8 @@ use Rattle.gob_lines.specs.declared.line.Line.TheVariants as line
 use Rattle.gob_write.specs.Faults.{IsWrongAt}
 use Rattle.gob_write.specs.declared.fault.LinesFault.{LinesFault}
 use Rattle.gob_write.specs.declared.fault.LinesFault.TheVariants as lines
-use Rattle.gob_write.specs.Says.{SaysItem, SaysNoValue, LineAnswers, says_value, refuses_item, refuses_type, WritesSaid, HasWrittenLines}
+use Rattle.gob_write.specs.Says.{SaysItem, SaysNoValue, LineAnswers, says_value, refuses_item, refuses_type}
+use Rattle.gob_write.specs.Says.{WritesSaid, HasWrittenLines}
 use Rattle.gob_write.specs.Says.{HasDefinableShape}
 use Rattle.gob_write.specs.Says.{wrote_said, says_definition}
 use Rattle.gob_write.specs.declared.writer.LineWriter.{LineWriter}

@@ -12,8 +12,10 @@ use Rattle.gob_c.proofs.texts.gob_raw_types_text.Goals as goal
 pub returns : goal.returns
 returns c =
     let L = asked_bounds c.args.asked.now in
-    tells_said L (IsTypesText L c.args.bytes.now) c.types_of.result c.args.room.now c.put_said.new.room c.put_said.result
+    tells_said L (IsTypesText L c.args.bytes.now) c.types_of.result c.args.room.now c.put_said.new.room
+    c.put_said.result
     (c.in-Some.ensures.some.0 refl)
     (IfOk-weaker c.types_of.result _ _ (λ s h. (s.refusal, h))
-    (subst (λ L. IfOk c.types_of.result (IsSourceOf form.Types (within_trees L) c.args.bytes.now)) c.in-Some.ensures.given
+    (subst (λ L. IfOk c.types_of.result (IsSourceOf form.Types (within_trees L) c.args.bytes.now))
+    c.in-Some.ensures.given
     c.types_of.ensures)) c.put_said.ensures

@@ -12,14 +12,16 @@ use Rattle.gob_lines.proofs.leaf.read_basic.Goals as goal
 pub returns-in_err-read_int-in-Int-clause-whole : goal.returns-in_err-read_int-in-Int-clause-whole
 returns-in_err-read_int-in-Int-clause-whole c = λ T t v b rest spelled holds said.
     let at = rw c.in-Int.is at spelled in
-    fault_reads view c.from_residual-in_err-read_int-in-Int.result c.in_err-read_int-in-Int.field-0.0 c.read_int.new.tokens v rest
+    fault_reads view c.from_residual-in_err-read_int-in-Int.result c.in_err-read_int-in-Int.field-0.0
+    c.read_int.new.tokens v rest
     c.from_residual-in_err-read_int-in-Int.ensures.1
     (λ w. no_int t c.args.tokens.now rest (c.in_err-read_int-in-Int.ensures.none w) at said)
 
 pub returns-in_ok-read_int-in-Int-clause-whole : goal.returns-in_ok-read_int-in-Int-clause-whole
 returns-in_ok-read_int-in-Int-clause-whole c = λ T t v b rest spelled holds said.
     let at = rw c.in-Int.is at spelled in
-    let r = int_it t c.in_ok-read_int-in-Int.field-0 c.args.tokens.now c.read_int.new.tokens rest c.in_ok-read_int-in-Int.ensures.fits
+    let r = int_it t c.in_ok-read_int-in-Int.field-0 c.args.tokens.now c.read_int.new.tokens rest
+    c.in_ok-read_int-in-Int.ensures.fits
     c.in_ok-read_int-in-Int.ensures.ok at said in
     let i = c.in_ok-read_int-in-Int.field-0 in (
       ap (λ k. view (Int k)) (to_z-of_z w64 i c.in_ok-read_int-in-Int.ensures.fits) ∙ view-Int i ∙ r.0,
@@ -29,35 +31,40 @@ returns-in_ok-read_int-in-Int-clause-whole c = λ T t v b rest spelled holds sai
 pub returns-in_err-read_uint-in-Uint-clause-whole : goal.returns-in_err-read_uint-in-Uint-clause-whole
 returns-in_err-read_uint-in-Uint-clause-whole c = λ T t v b rest spelled holds said.
     let at = rw c.in-Uint.is at spelled in
-    fault_reads view c.from_residual-in_err-read_uint-in-Uint.result c.in_err-read_uint-in-Uint.field-0.0 c.read_uint.new.tokens v rest
+    fault_reads view c.from_residual-in_err-read_uint-in-Uint.result c.in_err-read_uint-in-Uint.field-0.0
+    c.read_uint.new.tokens v rest
     c.from_residual-in_err-read_uint-in-Uint.ensures.1
     (λ w. no_uint t c.args.tokens.now rest (c.in_err-read_uint-in-Uint.ensures.none w) at said)
 
 pub returns-in_ok-read_uint-in-Uint-clause-whole : goal.returns-in_ok-read_uint-in-Uint-clause-whole
 returns-in_ok-read_uint-in-Uint-clause-whole c = λ T t v b rest spelled holds said.
     let at = rw c.in-Uint.is at spelled in
-    let r = uint_it t c.in_ok-read_uint-in-Uint.field-0 c.args.tokens.now c.read_uint.new.tokens rest c.in_ok-read_uint-in-Uint.ensures.fits
+    let r = uint_it t c.in_ok-read_uint-in-Uint.field-0 c.args.tokens.now c.read_uint.new.tokens rest
+    c.in_ok-read_uint-in-Uint.ensures.fits
     c.in_ok-read_uint-in-Uint.ensures.ok at said in
     (view-Uint c.in_ok-read_uint-in-Uint.field-0 ∙ r.0, r.1)
 
 pub returns-in_err-read_pattern-in-Float-clause-whole : goal.returns-in_err-read_pattern-in-Float-clause-whole
 returns-in_err-read_pattern-in-Float-clause-whole c = λ T t v b rest spelled holds said.
     let at = rw c.in-Float.is at spelled in
-    fault_reads view c.from_residual-in_err-read_pattern-in-Float.result c.in_err-read_pattern-in-Float.field-0.0 c.read_pattern.new.tokens v rest
+    fault_reads view c.from_residual-in_err-read_pattern-in-Float.result c.in_err-read_pattern-in-Float.field-0.0
+    c.read_pattern.new.tokens v rest
     c.from_residual-in_err-read_pattern-in-Float.ensures.1
     (λ w. no_float t c.args.tokens.now rest (c.in_err-read_pattern-in-Float.ensures.none w) at said)
 
 pub returns-in_ok-read_pattern-in-Float-clause-whole : goal.returns-in_ok-read_pattern-in-Float-clause-whole
 returns-in_ok-read_pattern-in-Float-clause-whole c = λ T t v b rest spelled holds said.
     let at = rw c.in-Float.is at spelled in
-    let r = float_it t c.in_ok-read_pattern-in-Float.field-0 c.args.tokens.now c.read_pattern.new.tokens rest c.in_ok-read_pattern-in-Float.ensures.fits
+    let r = float_it t c.in_ok-read_pattern-in-Float.field-0 c.args.tokens.now c.read_pattern.new.tokens rest
+    c.in_ok-read_pattern-in-Float.ensures.fits
     c.in_ok-read_pattern-in-Float.ensures.ok at said in
     (view-Float c.in_ok-read_pattern-in-Float.field-0 ∙ r.0, r.1)
 
 pub returns-in_err-read_hex-in-Bytes-clause-whole : goal.returns-in_err-read_hex-in-Bytes-clause-whole
 returns-in_err-read_hex-in-Bytes-clause-whole c = λ T t v b rest spelled holds said.
     let at = rw c.in-Bytes.is at spelled in
-    fault_reads view c.from_residual-in_err-read_hex-in-Bytes.result c.in_err-read_hex-in-Bytes.field-0.0 c.read_hex.new.tokens v rest
+    fault_reads view c.from_residual-in_err-read_hex-in-Bytes.result c.in_err-read_hex-in-Bytes.field-0.0
+    c.read_hex.new.tokens v rest
     c.from_residual-in_err-read_hex-in-Bytes.ensures.1
     (λ w. no_bytes t c.args.tokens.now rest (c.in_err-read_hex-in-Bytes.ensures.none w) at holds said)
 

@@ -13,7 +13,8 @@ use Rattle.gob_lines.proofs.ReadLaws.{two_members}
 use Rattle.gob_lines.proofs.UniqueLaws.{behind}
 use Rattle.gob_lines.proofs.line.read_item.Goals as goal
 
-pub returns-in_ok-take_object_end-in-Some-Key-type-clause-tells : goal.returns-in_ok-take_object_end-in-Some-Key-type-clause-tells
+pub returns-in_ok-take_object_end-in-Some-Key-type-clause-tells :
+    goal.returns-in_ok-take_object_end-in-Some-Key-type-clause-tells
 returns-in_ok-take_object_end-in-Some-Key-type-clause-tells c =
     let object = rw c.in-Some-BeginObject.field-0-is at c.in-Some-BeginObject.ensures.value in
     let key = rw c.in-Some-Key-type.field-0-is at c.in-Some-Key-type.ensures.value in
