@@ -58,9 +58,6 @@ record Split (M : List ℕ → List ℕ → Type 0) (at end : ℕ) (p q g : List
 cons_inj : {x y : ℕ} {l k : List ℕ} → x ∷ l ≡ y ∷ k → (x ≡ y) × (l ≡ k)
 cons_inj e = (cc, cc)
 
-none : {x : ℕ} {l : List ℕ} {A : Type 0} → [] ≡ x ∷ l → A
-none e = cc
-
 -- bytes at the front stand in the segment
 split_end : {M : List ℕ → List ℕ → Type 0} {at end : ℕ} (p q s : List ℕ) → p ++ q ≡ s → AreBytes s → at + length s ≡ end
     → Split M at end p q s

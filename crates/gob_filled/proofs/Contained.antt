@@ -88,9 +88,6 @@ record Behind (r a z : List ℕ) (m : ℕ) : Type 0 where
   pub taken : take (m - length a) rest ≡ z
   pub short : length a ≤ m
 
-take_none : (r : List ℕ) → take 0 r ≡ []
-take_none r = refl
-
 tail_of : {x y : ℕ} {l k : List ℕ} → x ∷ l ≡ y ∷ k → l ≡ k
 tail_of e = cc
 
@@ -129,10 +126,6 @@ first_in : {T : Table} {t : TypeId} {limit n m : ℕ} {y z : List ℕ} {S : body
 first_in {T = T} {t = t} {limit = limit} {n = n} {y = y} {S = S} e f k =
     subst (λ z. IsFirst T t limit n z S) f (subst (λ m. IsFirst T t limit m y S) e k)
 
-may_of : {base : Table} {L : Bounds} {T U : Table} {t : TypeId} {v : Tree} {b : List ℕ} → Defines base L T t v b U
-    → MayDefine base L T t
-may_of (defines may de ds j r sp) = may
-
 -- the definition at the front, where the type number is that of one
 same_id_there : {base : Table} {L : Bounds} {T U : Table} {x y a : List ℕ} {id t : TypeId} {v : Tree} {k : ℕ}
     (z : List ℕ) → y ≡ a ++ z → t.0 ≡ k + 1 → IsSigned (negsuc k) a
@@ -162,8 +155,8 @@ no_number : {base : Table} {L : Bounds} {T U : Table} {x y : List ℕ} {id : Typ
     → Defines base L T id v x U → x ≡ y → ⊥
 no_number none (defines {a = c} {b = b} may de ds j (negative s) sp) f = none c b _ s (sym f)
 
-no_type_there : {base : Table} {L : Bounds} {T U : Table} {x y a : List ℕ} {id : TypeId} {v : Tree} {k : ℕ} (z : List ℕ)
-    → y ≡ a ++ z → IsSigned (pos k) a
+pub no_type_there : {base : Table} {L : Bounds} {T U : Table} {x y a : List ℕ} {id : TypeId} {v : Tree} {k : ℕ}
+    (z : List ℕ) → y ≡ a ++ z → IsSigned (pos k) a
     → Defines base L T id v x U → x ≡ y → ⊥
 no_type_there z e s (defines {b = b} may de ds j r sp) f = pos_negsuc (signed_prefix z b s r (sym e ∙ sym f)).value
 

@@ -28,9 +28,6 @@ pub data State : Type 0 where
 abbrev pub bytes_of : State → List ℕ
 bytes_of (state z U levels next left) = z
 
-abbrev pub StandsAt : Table → Bounds → Table → ℕ → State → Type 0
-StandsAt base L T offset (state z U levels next left) = Stands base L T offset z U levels next left
-
 -- one step, over these bytes
 pub data Step (base : Table) (L : Bounds) (offset : ℕ) : State → List ℕ → State → Type 0 where
   by_name : {z a : List ℕ} {U : Table} {lv : Level} {levels : List Level} {d left : ℕ} (c s : List ℕ)

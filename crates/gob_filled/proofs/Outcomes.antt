@@ -94,9 +94,6 @@ no_bytes e (refused_body r f u l s k ns) = some r u (sym e ∙ f)
 no_bytes {z = z} e (refused_value {w = w} f p h) = let b = begins w z p f in
     some (b.number ++ b.rest) b.counts (sym e ∙ b.whole)
 
-nothing_behind : (f z : List ℕ) → f ≡ f ++ z → z ≡ []
-nothing_behind f z e = same_end f z [] (sym e ∙ sym (append_nil f))
-
 one_ending : {L : Bounds} {bytes : List ℕ} {items : List FilledItem} {e f : Ending}
     → EndsFilled base_table L bytes items e → EndsFilled base_table L bytes items f → e ≡ f
 one_ending (at_the_end s) (at_the_end r) = refl

@@ -3,6 +3,7 @@ pub mod Filled
 pub mod Laws
 pub mod Stream
 pub mod Standing
+pub mod Opens
 pub mod Uncounted
 pub mod Outcome
 pub mod OutcomeLaws

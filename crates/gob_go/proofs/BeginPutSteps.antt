@@ -17,7 +17,7 @@ use Rattle.gob_stream.specs.Machine.HasRead.{IsCount}
 use Rattle.gob_filled.specs.Standing.{new_level, Stands}
 use Rattle.gob_filled.specs.Standing as standing
 use Rattle.gob_go.specs.Meaning.{AreFillings, no_fillings}
-use Rattle.gob_go.specs.Opens.{nothing_said}
+use Rattle.gob_filled.specs.Opens.{nothing_said}
 use Rattle.gob_go.specs.declared.level.Level.{Level}
 use Rattle.gob_go.specs.declared.levels.Levels.{Levels}
 use Rattle.gob_go.specs.declared.part.PartTaken.{PartTaken}

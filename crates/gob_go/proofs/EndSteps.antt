@@ -22,7 +22,7 @@ use Rattle.gob_filled.specs.Filled.{filled}
 use Rattle.gob_filled.specs.Standing.{Level, in_value, Stands, behind_inner}
 use Rattle.gob_filled.specs.Stream.{putting, IsFilledItem}
 use Rattle.gob_go.specs.Meaning.{IsFilled, is_filled, AreFillings, no_fillings, filling_then, definitions_of}
-use Rattle.gob_go.specs.Opens.{Open, opens, held_in, and_filling}
+use Rattle.gob_filled.specs.Opens.{Open, opens, held_in, and_filling}
 use Rattle.gob_go.specs.declared.filled.Filling.{Filling, out-Filling}
 use Rattle.gob_go.specs.declared.filled.Filled.{out-Filled}
 use Rattle.gob_go.specs.declared.level.Level as declared
@@ -36,7 +36,7 @@ use Rattle.gob_go.specs.Machine.Stages.{filling_ends, filling_refused, no_memory
 use Rattle.gob_go.specs.Machine.Stages.{value_goes_on, goes_to_end, goes_refused, no_memory_there}
 use Rattle.gob_go.proofs.NestedLaws.{levels_nest}
 use Rattle.gob_go.proofs.NilSteps.{FillsNil}
-use Rattle.gob_go.proofs.OpensLaw.{stands_as_item}
+use Rattle.gob_filled.proofs.Sound.{stands_as_item}
 
 -- ---- the last of a list
 

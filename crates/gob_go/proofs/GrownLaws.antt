@@ -18,7 +18,7 @@ use Rattle.gob_filled.specs.Filled.{Fillings}
 use Rattle.gob_filled.specs.Filled as spelled
 use Rattle.gob_filled.specs.Standing.{Level}
 use Rattle.gob_go.specs.Meaning.{IsFilled, is_filled, AreFillings, no_fillings, filling_then}
-use Rattle.gob_go.specs.Opens.{Open}
+use Rattle.gob_filled.specs.Opens.{Open}
 use Rattle.gob_go.specs.declared.filled.Filled.{Filled}
 use Rattle.gob_go.specs.declared.filled.Filling.{Filling}
 use Rattle.gob_go.specs.declared.level.Level as declared

@@ -24,7 +24,7 @@ use Rattle.gob_filled.specs.Outcome as outcome
 use Rattle.gob_filled.specs.Standing.{Level, in_filling, Stands}
 use Rattle.gob_num.proofs.PublicLaws.{begins_prefix}
 use Rattle.gob_go.specs.Meaning.{definitions_of}
-use Rattle.gob_go.specs.Opens.{Open, opens, defined, and_definition}
+use Rattle.gob_filled.specs.Opens.{Open, opens, defined, and_definition}
 use Rattle.gob_go.specs.Reading.{RefusesWith, HasTypesWithin, within_value}
 use Rattle.gob_go.specs.Reading.{behind_definition as types_behind_definition}
 use Rattle.gob_go.specs.declared.description.Described.{Described}

@@ -25,7 +25,7 @@ use Rattle.gob_filled.specs.Outcome.{RefusesInner, refused_value, inner_count}
 use Rattle.gob_filled.specs.Outcome as outcome
 use Rattle.gob_filled.specs.Standing.{Level, new_level, in_value, in_filling, Stands, at_inner}
 use Rattle.gob_go.specs.Meaning.{AreFillings, no_fillings}
-use Rattle.gob_go.specs.Opens.{Open, nothing_said}
+use Rattle.gob_filled.specs.Opens.{Open, nothing_said}
 use Rattle.gob_go.specs.Reading.{RefusesWith, HasTypesWithin, within_value}
 use Rattle.gob_go.specs.declared.level.Level as declared
 use Rattle.gob_go.specs.declared.levels.Levels.{Levels}

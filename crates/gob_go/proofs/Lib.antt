@@ -28,7 +28,6 @@ pub mod NilLaws
 pub mod NilSteps
 pub mod NumberStages
 pub mod NumberSteps
-pub mod OpensLaw
 pub mod PartNames
 pub mod PlaceLaws
 pub mod PutEndSteps

@@ -27,7 +27,7 @@ use Rattle.gob_stream.specs.Refusing as refusing
 use Rattle.gob_filled.specs.Outcome.{NothingStands, refused_value, short_name}
 use Rattle.gob_filled.specs.Standing.{Level, in_value, in_filling, Stands, behind_name}
 use Rattle.gob_go.specs.Meaning.{definitions_of}
-use Rattle.gob_go.specs.Opens.{Open, opens, named}
+use Rattle.gob_filled.specs.Opens.{Open, opens, named}
 use Rattle.gob_go.specs.Reading.{RefusesWith, HasTypesWithin, within_value}
 use Rattle.gob_go.specs.declared.level.Held.{Held}
 use Rattle.gob_go.specs.declared.level.Level as declared
@@ -496,10 +496,10 @@ name_whole {L = L} {T = T} {offset = offset} {behind = behind} {used = used} {d 
     (number_begins (n ∙ numbered_from here w.ends) (omega arith))))
 
 -- nothing stands in an empty segment
-no_number : NoNumber []
+pub no_number : NoNumber []
 no_number n c x u f = let l = ap length f in absurd (omega (arith, unsigned_length u, length-append c x))
 
-nothing_in : {L : Bounds} {T : Table} (at : ℕ) → RefusesBody base_table L T at 0 [] (refuses at at reason.Short)
+pub nothing_in : {L : Bounds} {T : Table} (at : ℕ) → RefusesBody base_table L T at 0 [] (refuses at at reason.Short)
 nothing_in {L = L} {T = T} at =
     let zero : at + 0 ≡ at = omega arith in
     subst (λ n. RefusesBody base_table L T at 0 [] (refuses n n reason.Short)) zero

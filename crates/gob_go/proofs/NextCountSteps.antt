@@ -7,7 +7,6 @@ use Rattle.std.proofs.lemmas.Option.{none-some}
 use Rattle.std.specs.Prelude.{slice_get}
 use Rattle.gob_types.proofs.PublicLaws.{some_injective}
 use Rattle.gob_num.specs.Unsigned.{IsUnsigned}
-use Rattle.gob_num.proofs.PublicLaws.{begins_prefix, unsigned_length}
 use Rattle.gob_types.specs.declared.id.TypeId.{TypeId}
 use Rattle.gob_types.specs.declared.reason.Reason.TheVariants as reason
 use Rattle.gob_types.specs.Base.{base_table}
@@ -34,7 +33,7 @@ use Rattle.gob_go.specs.declared.levels.Levels.{Levels}
 use Rattle.gob_go.specs.declared.number.NumberStage.{NumberStage}
 use Rattle.gob_go.specs.declared.number.NumberTaken.TheVariants as taken
 use Rattle.gob_go.specs.declared.part.PutPart.TheVariants as part
-use Rattle.gob_go.specs.Opens.{Open}
+use Rattle.gob_filled.specs.Opens.{Open}
 use Rattle.gob_go.specs.Reading.{RefusesWith}
 use Rattle.gob_go.specs.Machine.Levels.{LevelAtNil, HeldIs, AreOuter, none_outer, outer_then}
 use Rattle.gob_go.specs.Machine.HasRead.{PartHasRead, in_held_number, in_next_count, NumberIs, OthersAre, end_around}
@@ -44,10 +43,11 @@ use Rattle.gob_go.specs.Machine.Parts.{above_stream}
 use Rattle.gob_go.specs.Machine.Parts.{last_end, with_segment, ending_at, BeginsSegment, of_item, of_outer}
 use Rattle.gob_go.specs.Machine.Parts.{item_refused, outer_refused, ItemHasRoom, LiesWithin, CountBegins}
 use Rattle.gob_go.specs.Machine.Stages.{IsInPut, PartSteps, part_goes_on, part_refused}
+use Rattle.gob_go.proofs.NameSteps.{no_number, nothing_in}
 use Rattle.gob_go.proofs.NestedLaws.{AreNested, levels_nest}
 use Rattle.gob_go.proofs.NumberStages.{AtNumber, at_number, number_goes_on, number_begins, WholeNumber, number_is_whole}
 use Rattle.gob_go.proofs.NumberStages.{NumberFault, number_fault, fault_of_number}
-use Rattle.gob_go.proofs.Refusals.{NoNumber, nothing_there, count_numbered, inner_numbered, number_shown}
+use Rattle.gob_go.proofs.Refusals.{nothing_there, count_numbered, inner_numbered, number_shown}
 use Rattle.gob_go.proofs.DefinitionSteps.{held_refused}
 
 -- ---- where the segments around end
@@ -252,12 +252,6 @@ segment_begins : {K L : Bounds} {U : Table} {old : Levels} {lv : Level} {around 
 segment_begins k u b others (of_item e l s) = of_item_begins (is_alone others.outer e) u b others l (omega arith)
 segment_begins k u b others (of_outer n l) = of_outer_begins (is_within others.outer n) u b others l
 
--- it ends no earlier than its count
-pub begun_order : {K : Bounds} {at place count : ℕ} {old new : Levels} {done : Unit {0}}
-    → BeginsSegment K at place count old new (Ok done) → at ≤ new.innermost.end
-begun_order (of_item e l s) = omega arith
-begun_order (of_outer n l) = omega arith
-
 ending : {U : Table} {l : declared.Level} {lv : Level} {d : ℕ} (end : ℕ) → LevelAtNil U l lv [] d
     → LevelAtNil U (ending_at l end) (record lv { end = end }) [] d
 ending end h = record {
@@ -286,16 +280,6 @@ behind_count z b q x = append_nil (z ++ (b ++ (q ++ x))) ∙ sym (spread z b q x
 
 numbered_from : {a b m n : ℕ} → a ≡ b → m ≡ n → numbered_as a m ≡ numbered_as b n
 numbered_from e f = cc
-
--- nothing stands in an empty segment
-no_number : NoNumber []
-no_number n c x u f = let l = ap length f in absurd (omega (arith, unsigned_length u, length-append c x))
-
-nothing_in : {L : Bounds} {T : Table} (at : ℕ) → RefusesBody base_table L T at 0 [] (refuses at at reason.Short)
-nothing_in {L = L} {T = T} at =
-    let zero : at + 0 ≡ at = omega arith in
-    subst (λ n. RefusesBody base_table L T at 0 [] (refuses n n reason.Short)) zero
-    (refusing.RefusesBody.short refl (begins_prefix {bytes = []} tt))
 
 short_shown : reason.Short ≢ reason.Ended
 short_shown e = cc
@@ -501,19 +485,6 @@ next_bounded {L = L} {d = d} {levels = levels} {number = number} w most = from w
         → number.rest.end ≤ no_end
     from (in_next_count {around = around} q p said def_ e nil others held n) =
         let l = around_ends around p most in let ends = n.ends in omega arith
-
-pub empty_at : (ls : List declared.Level) → None ≡ slice_get ls (length ls - 1) → ls ≡ []
-empty_at [] e = refl
-empty_at (k ∷ []) e = absurd (none-some _ e)
-empty_at (k ∷ (m ∷ ls)) e =
-    let same : length (k ∷ (m ∷ ls)) - 1 ≡ suc (length (m ∷ ls) - 1) = omega arith in
-    absurd (not_none m ls (e ∙ ap (λ n. slice_get (k ∷ (m ∷ ls)) n) same))
-  where
-    not_none : (m : declared.Level) (ls : List declared.Level) → None ≡ slice_get (m ∷ ls) (length (m ∷ ls) - 1) → ⊥
-    not_none m [] e = none-some _ e
-    not_none m (k ∷ ls) e =
-        let same : length (m ∷ (k ∷ ls)) - 1 ≡ suc (length (k ∷ ls) - 1) = omega arith in
-        not_none k ls (e ∙ ap (λ n. slice_get (m ∷ (k ∷ ls)) n) same)
 
 pub some_at : (ls : List declared.Level) (l : declared.Level) → Some l ≡ slice_get ls (length ls - 1) → ls ≢ []
 some_at [] l e f = none-some _ (sym e)

@@ -31,7 +31,7 @@ use Rattle.gob_stream.proofs.Reader.BodySteps.{within_body}
 use Rattle.gob_filled.specs.Outcome.{refused_value}
 use Rattle.gob_filled.specs.Outcome as outcome
 use Rattle.gob_filled.specs.Standing.{Level, in_value, Stands}
-use Rattle.gob_go.specs.Opens.{Open, opens}
+use Rattle.gob_filled.specs.Opens.{Open, opens}
 use Rattle.gob_go.specs.Reading.{RefusesWith}
 use Rattle.gob_go.specs.declared.level.Level as declared
 use Rattle.gob_go.specs.declared.levels.Levels.{Levels}
@@ -42,7 +42,7 @@ use Rattle.gob_go.specs.Machine.Parts.{FillAnswers}
 use Rattle.gob_go.specs.Machine.Stages.{NilByteRead, nil_byte, ValueIsWhole, value_whole, FillingSteps}
 use Rattle.gob_go.specs.Machine.Stages.{filling_goes_on}
 use Rattle.gob_go.specs.Machine.Stages.{filling_ends, filling_refused, no_memory_for_filling}
-use Rattle.gob_go.proofs.NestedLaws.{levels_nest, within_stream}
+use Rattle.gob_go.proofs.NestedLaws.{levels_nest}
 use Rattle.gob_go.proofs.NilLaws.{no_interface, never_ended}
 use Rattle.gob_go.proofs.ReaderLaws.{fits, read_once}
 
@@ -130,11 +130,6 @@ nil_order h =
       length-append h.spelled (0 ∷ []),
       ap length h.skeleton,
     )
-
-pub nil_end : {L : Bounds} {T : Table} {offset kept : ℕ} {U : Table} {l : declared.Level}
-    {outer : List declared.Level} {z : List ℕ} → FillsNil L T offset U l outer kept z → l.end ≤ L.stream
-nil_end {L = L} h =
-    let n = within_stream L h.around h.lv _ (levels_nest h.stands) in let e = h.end in omega arith
 
 pub nil_fits : {L : Bounds} {T : Table} {offset kept : ℕ} {U : Table} {l : declared.Level}
     {outer : List declared.Level} {z : List ℕ} → FillsNil L T offset U l outer kept z

@@ -32,7 +32,7 @@ use Rattle.gob_stream.proofs.Stream.RefusalLaws.{type_met, id_met}
 use Rattle.gob_filled.specs.Definition.{Defines, defines}
 use Rattle.gob_filled.specs.Outcome.{NothingStands, RefusesInner}
 use Rattle.gob_filled.specs.Outcome as outcome
-use Rattle.gob_filled.proofs.Contained.{no_whole_definition}
+use Rattle.gob_filled.proofs.Contained.{no_type_there, no_whole_definition}
 use Rattle.gob_go.specs.Machine.HasRead.{no_end}
 use Rattle.gob_go.specs.Machine.Parts.{RefusesNumber, bad_head, not_minimal, short}
 
@@ -203,11 +203,6 @@ nothing_readable {L = L} {T = T} {y = y} {m = m} {R = R} z w e i s may h = recor
 
 -- ---- the number of a type at the front
 
-no_definition_behind : {base : Table} {L : Bounds} {T U : Table} {x y a : List ℕ} {id : TypeId} {v : Tree} {k : ℕ}
-    (z : List ℕ) → y ≡ a ++ z → IsSigned (pos k) a → Defines base L T id v x U → x ≡ y → ⊥
-no_definition_behind z e s (defines {b = b} may de ds j r sp) f =
-    pos_negsuc (signed_prefix z b s r (sym e ∙ sym f)).value
-
 pos_injective : {m n : ℕ} → pos m ≡ pos n → m ≡ n
 pos_injective e = cc
 
@@ -221,5 +216,5 @@ pub nothing_typed : {L : Bounds} {T : Table} {y a : List ℕ} {t : TypeId} {m : 
     → y ≡ a ++ z → IsSigned (pos t.0) a → RefusesType T t r → NothingStands base_table L T m y
 nothing_typed z e s h = record {
   no_type = no_other_type z e s (λ may. type_met h may);
-  no_definition = λ id v U l d. no_definition_behind z e s d refl;
+  no_definition = λ id v U l d. no_type_there z e s d refl;
 }

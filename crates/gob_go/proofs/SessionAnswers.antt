@@ -6,7 +6,6 @@ use Rattle.std.proofs.Common.{Bool, true, false, IsTrue, MatchBool}
 use Rattle.std.proofs.lemmas.List.{length-take-le}
 use Rattle.gob_num.proofs.PublicLaws.{unsigned_length}
 use Rattle.gob_types.specs.Base.{base_table}
-use Rattle.gob_types.specs.Defined.{types}
 use Rattle.gob_types.specs.Table.{Table}
 use Rattle.gob_types.specs.declared.reason.Reason.TheVariants as reason
 use Rattle.gob_stream.specs.Bounds.{Bounds, within_trees}

@@ -77,141 +77,74 @@ description_viable {L = L} {U = U} {y = y} d =
     let b = d.begins in let e = d.ends in
     subst (λ n. IsViable U wire_type L.depth n y) (omega arith) d.read.viable
 
+rests_at : {L : Bounds} {T S U : Table} {offset : ℕ} {z : List ℕ} {levels : List Level} {next : Next} {left : ℕ}
+    (behind : List ℕ) → Stands base_table L T offset z S levels next left
+    → ((p x : List ℕ) (R : State) → Step base_table L offset (state z S levels next left) p R → p ++ x ≡ behind → ⊥)
+    → ((R : Refusal) → RefusesAt base_table L (offset + length z) S behind levels next left R → ⊥)
+    → ((lv : Level) → levels ≡ lv ∷ [] → next ≡ in_value → offset + length (z ++ behind) < lv.end)
+    → DefinesAtMost L offset (state z S levels next left) behind U → LeadsToTypes L T offset (z ++ behind) U
+    → AtRest L T offset U (z ++ behind)
+rests_at {S = S} {z = z} {levels = levels} {next = next} {left = left} behind p step refusal on types leads = record {
+  before = z;
+  behind = behind;
+  table = S;
+  levels = levels;
+  next = next;
+  left = left;
+  stands = p;
+  whole = refl;
+  no_step = step;
+  no_refusal = refusal;
+  goes_on = on;
+  types = types;
+  leads = leads;
+}
+
 pub part_at_rest : {L : Bounds} {T U : Table} {offset : ℕ} {levels : Levels} {next : PutPart} {y : List ℕ}
     → PartHasRead L T offset U levels next y → AtRest L T offset U y
-part_at_rest {U = U} {offset = offset} (in_skeleton {z = z} {lv = lv} {around = around} {left = left} c p said w o) =
+part_at_rest {offset = offset} (in_skeleton {z = z} {lv = lv} c p said w o) =
     let r = w.rest in let short = w.viable.room in
     let room : offset + length (z ++ c) < lv.end = omega arith in
     let announced : w.announced ≡ length lv.done + (lv.end - (offset + length z)) =
     omega (arith, length-append z c, length-append lv.done c) in
-    record {
-      before = z;
-      behind = c;
-      table = U;
-      levels = lv ∷ around;
-      next = in_value;
-      left = left;
-      stands = p;
-      whole = refl;
-      no_step = λ q x S s e. skeleton_step x w.viable room s e;
-      no_refusal = λ R h. skeleton_refusal (subst (λ n. IsViable lv.table lv.type lv.limit n (lv.done ++ c)) announced
-          w.viable) h;
-      goes_on = λ l e f. room_of e room;
-      types = none_in_value;
-      leads = stands_lead c (z ++ c) p refl;
-    }
-part_at_rest {U = U} {offset = offset} (in_name_length {z = z} {lv = lv} {around = around} {left = left} c a p said n o
-    num rest) =
+    let viable = subst (λ n. IsViable lv.table lv.type lv.limit n (lv.done ++ c)) announced w.viable in
+    rests_at c p (λ q x S s e. skeleton_step x w.viable room s e) (λ R h. skeleton_refusal viable h)
+    (λ l e f. room_of e room) none_in_value (stands_lead c (z ++ c) p refl)
+part_at_rest {offset = offset} (in_name_length {z = z} {lv = lv} c a p said n o num rest) =
     let r = num.room in
     let room : offset + length (z ++ (c ++ a)) < lv.end =
     omega (arith, length-append z c, length-append z (c ++ a), length-append c a) in
     let viable = nil_viable (offset + length z) c lv n.expects n.not_deep n.shallow num.prefix
     (omega (arith, length-append z (c ++ a))) in
-    record {
-      before = z;
-      behind = c ++ a;
-      table = U;
-      levels = lv ∷ around;
-      next = in_value;
-      left = left;
-      stands = p;
-      whole = refl;
-      no_step = λ q x S s e. skeleton_step x viable room s e;
-      no_refusal = λ R h. skeleton_refusal viable h;
-      goes_on = λ l e f. room_of e room;
-      types = none_in_value;
-      leads = stands_lead (c ++ a) (z ++ (c ++ a)) p refl;
-    }
-part_at_rest {U = U} {offset = offset} (in_name {z = z} {lv = lv} {around = around} {left = left} c a s p said n o
-    rest u size some fits name defs room) = record {
-      before = z;
-      behind = c ++ (a ++ s);
-      table = U;
-      levels = lv ∷ around;
-      next = in_value;
-      left = left;
-      stands = p;
-      whole = refl;
-      no_step = λ q x S st e. name_step c s x n.expects u (omega arith) room st e;
-      no_refusal = λ R h. name_refusal c s n.expects n.not_deep n.shallow u (omega arith)
-          (omega (arith, length-append z (c ++ (a ++ s)))) h;
-      goes_on = λ l e f. room_of e room;
-      types = none_in_value;
-      leads = stands_lead (c ++ (a ++ s)) (z ++ (c ++ (a ++ s))) p refl;
-    }
-part_at_rest {U = U} {offset = offset} (in_held_number {z = z} {lv = lv} {around = around} {left = left} {d = d} a p
-    said n o held num) =
+    rests_at (c ++ a) p (λ q x S s e. skeleton_step x viable room s e) (λ R h. skeleton_refusal viable h)
+    (λ l e f. room_of e room) none_in_value (stands_lead (c ++ a) (z ++ (c ++ a)) p refl)
+part_at_rest (in_name {z = z} c a s p said n o rest u size some fits name defs room) =
+    rests_at (c ++ (a ++ s)) p (λ q x S st e. name_step c s x n.expects u (omega arith) room st e)
+    (λ R h. name_refusal c s n.expects n.not_deep n.shallow u (omega arith)
+    (omega (arith, length-append z (c ++ (a ++ s)))) h) (λ l e f. room_of e room) none_in_value
+    (stands_lead (c ++ (a ++ s)) (z ++ (c ++ (a ++ s))) p refl)
+part_at_rest (in_held_number {z = z} a p said n o held num) =
     let r = num.room in
-    record {
-      before = z;
-      behind = a;
-      table = U;
-      levels = lv ∷ around;
-      next = in_filling d;
-      left = left;
-      stands = p;
-      whole = refl;
-      no_step = λ q x S s e. held_number_step x num.prefix s e;
-      no_refusal = λ R h. held_number_refusal num.prefix (omega arith) h;
-      goes_on = λ l e f. not_in_value f;
-      types = none_so_short (omega (arith, length-append z a));
-      leads = stands_lead a (z ++ a) p refl;
-    }
-part_at_rest {U = U} {offset = offset} (in_held_description {z = z} {lv = lv} {around = around} {left = left} {d = d} a
-    y p said n o held desc) =
+    rests_at a p (λ q x S s e. held_number_step x num.prefix s e)
+    (λ R h. held_number_refusal num.prefix (omega arith) h) (λ l e f. not_in_value f)
+    (none_so_short (omega (arith, length-append z a))) (stands_lead a (z ++ a) p refl)
+part_at_rest {offset = offset} (in_held_description {z = z} {lv = lv} a y p said n o held desc) =
     let viable = description_viable desc in let short = viable.room in
     let room : offset + length (z ++ (a ++ y)) < lv.end =
     omega (arith, length-append z (a ++ y), length-append a y) in
-    record {
-      before = z;
-      behind = a ++ y;
-      table = U;
-      levels = lv ∷ around;
-      next = in_filling d;
-      left = left;
-      stands = p;
-      whole = refl;
-      no_step = λ q x S s e. held_description_step y x desc.number room s e;
-      no_refusal = λ R h. held_description_refusal desc.id_is desc.number desc.may viable h;
-      goes_on = λ l e f. not_in_value f;
-      types = none_so_short room;
-      leads = stands_lead (a ++ y) (z ++ (a ++ y)) p refl;
-    }
-part_at_rest {offset = offset} (in_next_count {z = z} {b = b} {S = S} {lv = lv} {around = around} {left = left} {d = d}
-    q p said def_ ends n o held num) =
-    record {
-      before = z;
-      behind = b ++ q;
-      table = S;
-      levels = lv ∷ around;
-      next = in_filling d;
-      left = left;
-      stands = p;
-      whole = refl;
-      no_step = λ r x R s e. next_count_step x def_ num.prefix s e;
-      no_refusal = λ R h. next_count_refusal def_ (omega (arith, length-append z b)) num.prefix num.room h;
-      goes_on = λ l e f. not_in_value f;
-      types = one_defined q def_;
-      leads = behind_whole q p def_ ends refl;
-    }
-part_at_rest {U = U} {offset = offset} (in_inner_count {z = z} {n = n} {lv = lv} {around = around} {left = left}
-    {d = d} q p said may sg nil o held num) =
+    rests_at (a ++ y) p (λ q x S s e. held_description_step y x desc.number room s e)
+    (λ R h. held_description_refusal desc.id_is desc.number desc.may viable h) (λ l e f. not_in_value f)
+    (none_so_short room) (stands_lead (a ++ y) (z ++ (a ++ y)) p refl)
+part_at_rest (in_next_count {z = z} {b = b} q p said def_ ends n o held num) =
+    rests_at (b ++ q) p (λ r x R s e. next_count_step x def_ num.prefix s e)
+    (λ R h. next_count_refusal def_ (omega (arith, length-append z b)) num.prefix num.room h)
+    (λ l e f. not_in_value f) (one_defined q def_) (behind_whole q p def_ ends refl)
+part_at_rest (in_inner_count {z = z} {n = n} q p said may sg nil o held num) =
     let r = num.room in
-    record {
-      before = z;
-      behind = n ++ q;
-      table = U;
-      levels = lv ∷ around;
-      next = in_filling d;
-      left = left;
-      stands = p;
-      whole = refl;
-      no_step = λ r x S s e. inner_count_step x sg num.prefix s e;
-      no_refusal = λ R h. inner_count_refusal may sg num.prefix (omega (arith, length-append z n)) h;
-      goes_on = λ l e f. not_in_value f;
-      types = none_so_short (omega (arith, length-append z n, length-append z (n ++ q), length-append n q));
-      leads = stands_lead (n ++ q) (z ++ (n ++ q)) p refl;
-    }
+    rests_at (n ++ q) p (λ r x S s e. inner_count_step x sg num.prefix s e)
+    (λ R h. inner_count_refusal may sg num.prefix (omega (arith, length-append z n)) h) (λ l e f. not_in_value f)
+    (none_so_short (omega (arith, length-append z n, length-append z (n ++ q), length-append n q)))
+    (stands_lead (n ++ q) (z ++ (n ++ q)) p refl)
 
 -- ---- nothing leads on
 abbrev AtState : Bounds → ℕ → State → List ℕ → Refusal → Type 0

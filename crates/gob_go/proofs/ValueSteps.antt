@@ -26,7 +26,7 @@ use Rattle.gob_stream.specs.declared.fault.Fault.{Fault}
 use Rattle.gob_stream.specs.declared.fault.Fault.TheVariants as fault
 use Rattle.gob_stream.specs.Bounds.{Bounds}
 use Rattle.gob_filled.specs.Standing.{Level}
-use Rattle.gob_go.specs.Opens.{Open}
+use Rattle.gob_filled.specs.Opens.{Open}
 use Rattle.gob_go.specs.Reading.{HasTypesWithin, within_value}
 use Rattle.gob_go.specs.declared.level.Level as declared
 use Rattle.gob_go.specs.declared.level.Came.{Came}

@@ -1,6 +1,5 @@
 pub mod Meaning
 pub mod Ids
-pub mod Opens
 pub mod Reading
 pub mod Honest
 pub mod Machine

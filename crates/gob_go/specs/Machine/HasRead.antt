@@ -19,7 +19,7 @@ use Rattle.gob_filled.specs.Filled as spelled
 use Rattle.gob_filled.specs.Stream.{FilledItem, putting, IsFilledItem, FilledStream}
 use Rattle.gob_filled.specs.Standing.{Level, in_value, in_filling, Stands}
 use Rattle.gob_go.specs.Meaning.{AreFillings}
-use Rattle.gob_go.specs.Opens.{Open, opens, defined}
+use Rattle.gob_filled.specs.Opens.{Open, opens, defined}
 use Rattle.gob_go.specs.Machine.Levels.{LevelAtNil, LevelWithin, FillingsAre, HeldIs, AreOuter}
 use Rattle.gob_go.specs.Machine.SessionState.{SessionState}
 use Rattle.gob_go.specs.declared.description.DescriptionStage.{DescriptionStage}

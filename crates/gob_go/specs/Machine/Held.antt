@@ -8,7 +8,7 @@ use Rattle.gob_stream.specs.declared.stage.Extent.{Extent}
 use Rattle.gob_stream.specs.Bounds.{Bounds}
 use Rattle.gob_stream.specs.Machine.ReadParts.{AreTypes}
 use Rattle.gob_filled.specs.Standing.{Level, in_filling, Stands}
-use Rattle.gob_go.specs.Opens.{Open, opens}
+use Rattle.gob_filled.specs.Opens.{Open, opens}
 use Rattle.gob_go.specs.Machine.HasRead.{OthersAre}
 use Rattle.gob_go.specs.Machine.Levels.{LevelAtNil, HeldIs}
 use Rattle.gob_go.specs.Machine.Stages.{PartSteps}

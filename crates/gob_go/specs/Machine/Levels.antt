@@ -10,7 +10,7 @@ use Rattle.gob_read.specs.Calls.Builders.{skip_building}
 use Rattle.gob_read.specs.Calls.UnderWay.{HasReadBody}
 use Rattle.gob_read.specs.Calls.UpToNil.{NoNilBegun, IsBeforeNil}
 use Rattle.gob_filled.specs.Standing.{Level}
-use Rattle.gob_go.specs.Opens.{Open}
+use Rattle.gob_filled.specs.Opens.{Open}
 use Rattle.gob_go.specs.Meaning.{AreFillings, definitions_of}
 use Rattle.gob_go.specs.declared.level.Level as declared
 use Rattle.gob_go.specs.declared.level.Held.{Held}

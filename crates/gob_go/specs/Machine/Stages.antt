@@ -19,7 +19,7 @@ use Rattle.gob_stream.specs.Machine.HasRead.{IsCount}
 use Rattle.gob_stream.specs.Machine.ReadParts.{AreTypes}
 use Rattle.gob_filled.specs.Standing.{Level, in_value, Stands}
 use Rattle.gob_filled.specs.Stream.{FilledItem, IsFilledItem}
-use Rattle.gob_go.specs.Opens.{Open, opens}
+use Rattle.gob_filled.specs.Opens.{Open, opens}
 use Rattle.gob_go.specs.Machine.Levels.{LevelAtNil, LevelUnderWay}
 use Rattle.gob_go.specs.Meaning.{ItemMeans}
 use Rattle.gob_go.specs.Reading.{RefusesWith, ShowsRefusal, RefusesBehind, HasTypesWithin, HasTypesBeyond}
