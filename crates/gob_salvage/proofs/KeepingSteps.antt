@@ -17,7 +17,7 @@ use Rattle.gob_filled.specs.Stream.{FilledItem, IsFilledItem, FilledStream, AreF
 use Rattle.gob_go.specs.Calls.Session.{HasRead, IsBetweenItems, ReadsItems, limits_of, table_of, types_of}
 use Rattle.gob_go.specs.Machine.SessionState.{SessionState}
 use Rattle.gob_go.proofs.FeedSteps.{rest_of}
-use Rattle.gob_go.proofs.GoReaderLaws.{table_between}
+use Rattle.gob_go.proofs.SessionAnswers.{table_between}
 use Rattle.gob_go.proofs.ItemsLaws.{item_ends, item_grown, last_of, one_more, one_reading}
 use Rattle.gob_salvage.specs.declared.gap.Gap.{Gap}
 use Rattle.gob_salvage.specs.Keeping.{EndsTwice, GoesOn, HasKept, HasKeptWith, IsRefusedNext, IsTwice, KeepsMore}

@@ -20,7 +20,7 @@ use Rattle.gob_go.specs.Machine.Stages.{AdvancesOver, over_some, over_item}
 use Rattle.gob_go.specs.declared.item.GoItem.{GoItem}
 use Rattle.gob_go.proofs.FeedSteps.{StepsOver, rest_of}
 use Rattle.gob_go.proofs.FinishSteps.{count_begins_here, nothing_expects}
-use Rattle.gob_go.proofs.GoReaderLaws.{table_between}
+use Rattle.gob_go.proofs.SessionAnswers.{table_between}
 use Rattle.gob_go.proofs.WholeSteps.{between_at}
 use Rattle.gob_salvage.specs.Taking.{HasReadAll, OneMore, ReadsOne, RefusesNext}
 

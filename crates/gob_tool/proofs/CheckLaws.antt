@@ -6,17 +6,13 @@ use Rattle.std.specs.Result.{IsErrAnd}
 use Rattle.std.proofs.KnownBytes.{Appends-kept}
 use Rattle.gob_types.specs.Defined.{definition_count}
 use Rattle.gob_types.specs.Table.{Table}
-use Rattle.gob_read.specs.Calls.Builders.{skip_building}
-use Rattle.gob_read.specs.declared.skip_builder.SkipBuilder.{SkipBuilder}
 use Rattle.gob_stream.specs.Body.{Body, definition, value}
 use Rattle.gob_stream.specs.Bounds.{Bounds, AreLimits, deepest}
 use Rattle.gob_stream.specs.Calls.ReaderOf.{EndsWithIn, FillsBy, HasReadBy, PassesBy, StepsOnBy, StopsBy, StopsIn}
 use Rattle.gob_stream.specs.Calls.ReaderOf.{session_of}
-use Rattle.gob_stream.specs.Calls.Session.{HasRead}
 use Rattle.gob_stream.specs.Devices.{counts_up}
 use Rattle.gob_stream.specs.Grammar.{Grammar, StreamIn}
 use Rattle.gob_stream.specs.Item.{StreamItem}
-use Rattle.gob_stream.specs.Machine.SessionState.{SessionState}
 use Rattle.gob_stream.specs.Outcome.{strict}
 use Rattle.gob_stream.specs.Reading.{CountsReads}
 use Rattle.gob_stream.specs.Stepping.{GivesItemsOf, gives_none, gives_one, StandsBy, Stepping}
@@ -26,7 +22,6 @@ use Rattle.gob_stream.specs.declared.fault.Fault.TheVariants as reading
 use Rattle.gob_stream.specs.declared.reader_of.ReaderOf.{ReaderOf}
 use Rattle.gob_stream.specs.declared.session.Step.{Step}
 use Rattle.gob_stream.specs.declared.values.Passed.{Passed}
-use Rattle.gob_stream.proofs.PublicLaws.{counted_some, items_few}
 use Rattle.gob_stream.proofs.Reader.ReaderOfLaws.{goes_on}
 use Rattle.gob_tool.specs.Checking.{ChecksIn, counts_line, definitions_in, IsCountedIn, IsNoStreamIn, is_accepted}
 use Rattle.gob_tool.specs.Checking.{is_cut, is_stopped, definitions_behind}
@@ -34,7 +29,7 @@ use Rattle.gob_tool.specs.Ending.{EndsRun, ends_so, flush_fails}
 use Rattle.gob_tool.specs.Fault.{reading_fault}
 use Rattle.gob_tool.specs.Machine.Counting.{CountsCounting, CountsNext, CountsOn, CountsSo, EndsCountingIn, given_count}
 use Rattle.gob_tool.specs.declared.fault.ToolFault.{ToolFault}
-use Rattle.gob_tool.specs.declared.in_memory.Tally.{Tally}
+use Rattle.gob_tool.specs.declared.check.Tally.{Tally}
 use Rattle.gob_tool.proofs.EndLaws.{prefix_kept}
 
 -- ---- definitions
@@ -49,19 +44,13 @@ one_first (StreamItem.defines id v) items = omega arith
 one_first (StreamItem.puts id v) items = omega arith
 
 -- a stream defines so many types
-pub stream_defines : {base : Table} {L : Bounds} {T U : Table} {offset : ℕ} {items : List StreamItem} {b : List ℕ}
+stream_defines : {base : Table} {L : Bounds} {T U : Table} {offset : ℕ} {items : List StreamItem} {b : List ℕ}
     → AreItems base L T offset items b U → length U ≡ length T + definitions_in items
 stream_defines no_more = omega arith
 stream_defines (and_then {i = i} {items = items} (counted u l s p) e r) =
     let one = body_defines p in
     let rest = stream_defines r in
     omega (arith, one_first i items, one, rest)
-
--- ---- how many items and bytes there are at most
-pub items_within : {s : SessionState SkipBuilder (Unit {0})} {items : List StreamItem} {taken : List ℕ}
-    → HasRead skip_building s items taken → length items ≤ length taken
-items_within a = let few = items_few (λ T U offset i b q. counted_some q) a.stream in
-    omega (arith, ap length a.whole, length-append a.prefix a.under_way)
 
 pub limits_as : {L M : Bounds} → L ≡ M → AreLimits deepest M → AreLimits deepest L
 limits_as same l = subst (λ (L : Bounds). AreLimits deepest L) (sym same) l

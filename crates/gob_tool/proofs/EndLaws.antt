@@ -20,8 +20,8 @@ use Rattle.gob_tool.specs.Fault.{IsOfWanted, reading_fault, writing_fault}
 use Rattle.gob_tool.specs.Showing.{AppendsPrefix, CountsReadFaults}
 
 -- what holds of the error holds of the answer that a `?` returns with it
-pub at_error : {A : Type 0} (P : Result A ToolFault → Type 0) (r : Result A ToolFault) (f : ToolFault)
-    → IsErrAnd r (λ e. e ≡ f) → P (Err f) → P r
+pub at_error : {A E : Type 0} (P : Result A E → Type 0) (r : Result A E) (f : E) → IsErrAnd r (λ e. e ≡ f) → P (Err f)
+    → P r
 at_error P (Ok u) f e h = absurd e
 at_error P (Err g) f e h = subst (λ f. P (Err f)) (sym e) h
 

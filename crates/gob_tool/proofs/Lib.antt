@@ -7,7 +7,6 @@ pub mod EndLaws
 pub mod ShowLaws
 pub mod TextLaws
 pub mod CheckLaws
-pub mod TallyLaws
 pub mod TidyStays
 pub mod RewriteLaws
 mod TidiedLaws

@@ -17,6 +17,7 @@ use Rattle.gob_value.specs.Spelling.{of_bytes, of_text, of_opaque, of_slice, of_
 use Rattle.gob_value.specs.Spelling.{no_element, element, SpellsPairs, no_entry, entry, SpellsFields, end_of_fields}
 use Rattle.gob_value.specs.Spelling.{next_field}
 use Rattle.gob_value.specs.Top.{SpellsTop, at_once, tagged}
+use Rattle.gob_read.specs.Machine.Kinds.{HasKind}
 use Rattle.gob_stream.specs.Bounds.{Bounds}
 use Rattle.gob_stream.specs.Item.{StreamItem, defines, puts}
 use Rattle.gob_stream.specs.Body.{Body, definition, value}
@@ -25,12 +26,6 @@ use Rattle.gob_json.specs.Json.{element_type, key_type, struct_fields, field_typ
 use Rattle.gob_json.specs.Json.{pairs_json, fields_json}
 use Rattle.gob_json.specs.DefinitionJson.{definition_json}
 use Rattle.gob_tool.specs.Line.{line, lines}
-
--- the type has a shape of this kind
-pub record HasKind (T : Table) (t : TypeId) (k : Kind) : Type 0 where
-  pub shape : Shape
-  pub there : shape_of T t ≡ Some shape
-  pub kind : shape.kind ≡ k
 
 pub kept_kind : {T U : Table} {t : TypeId} {k : Kind} → Keeps T U → HasKind T t k → HasKind U t k
 kept_kind keeps h = record { shape = h.shape; there = keeps.shape _ _ h.there; kind = h.kind }

@@ -45,7 +45,8 @@ use Rattle.gob_tool.specs.Machine.Lines.{Trees}
 use Rattle.gob_tool.specs.Machine.Receiver.{Clashes, clashes_with, IsClash, IsReceived, KeepsKnown}
 use Rattle.gob_tool.specs.Machine.Receiver.{ReceivesNone, StaysKnown}
 use Rattle.gob_tool.specs.Showing.{AppendsPrefix, CountsReadFaults}
-use Rattle.gob_tool.specs.Machine.Taken.{AreSent, CountsWanted, defined, sent, views_given}
+use Rattle.gob_tool.specs.Machine.Counting.{CountsCounting}
+use Rattle.gob_tool.specs.Machine.Taken.{AreSent, defined, sent, views_given}
 use Rattle.gob_tool.proofs.EndLaws.{all_kept, prefix_kept}
 use Rattle.gob_tool.proofs.LinesStay.{keeps_itself}
 use Rattle.gob_tool.proofs.ReaderRuns.{last_item, read_alone}
@@ -270,7 +271,7 @@ then_counts wanted wanted' failures failures' (Err fault.Write) same h = (same, 
 then_counts wanted wanted' failures failures' (Err fault.Memory) same h = (same, h)
 
 -- or alone
-pub wanted_alone : (wanted wanted' failures : ℕ) (f : ToolFault) → CountsWanted wanted wanted' (Err f)
+pub wanted_alone : (wanted wanted' failures : ℕ) (f : ToolFault) → CountsCounting {A = TypeId} wanted wanted' (Err f)
     → CountsTakeReads wanted wanted' failures failures (Err f)
 wanted_alone wanted wanted' failures (fault.Refused R) h = (h, refl)
 wanted_alone wanted wanted' failures (fault.Wanted R) h = (h, refl)
@@ -280,7 +281,7 @@ wanted_alone wanted wanted' failures fault.Read h = inl (h, refl)
 wanted_alone wanted wanted' failures fault.Write h = absurd h
 wanted_alone wanted wanted' failures fault.Memory h = (h, refl)
 
-pub wanted_unwritten : (wanted wanted' out : ℕ) (f : ToolFault) → CountsWanted wanted wanted' (Err f)
+pub wanted_unwritten : (wanted wanted' out : ℕ) (f : ToolFault) → CountsCounting {A = TypeId} wanted wanted' (Err f)
     → CountsOnlyWrites {A = Unit {0}} out out (Err f)
 wanted_unwritten wanted wanted' out (fault.Refused R) h = refl
 wanted_unwritten wanted wanted' out (fault.Wanted R) h = refl

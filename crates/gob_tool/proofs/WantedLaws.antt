@@ -1,21 +1,20 @@
 -- How a stream is read for the type of its first value.
-use Rattle.std.proofs.Common.{◌≡◌, ℕ, ◌+◌, ◌-◌, ◌<◌, arith, List, [], ◌∷◌, ◌++◌, Option, Some, None, Result, Ok, Err}
+use Rattle.std.proofs.Common.{◌≡◌, ℕ, ◌+◌, arith, List, [], ◌∷◌, ◌++◌, Option, Some, None, Result, Ok, Err}
 use Rattle.std.proofs.Common.{◌∙◌, ap, sym, subst, refl}
-use Rattle.std.specs.Result.{IsErrAnd}
 use Rattle.gob_types.specs.declared.id.TypeId.{TypeId}
 use Rattle.gob_types.specs.Ready.{IsReady}
 use Rattle.gob_types.specs.Table.{Table}
 use Rattle.gob_read.specs.Calls.Builders.{tree_building}
 use Rattle.gob_value.specs.declared.value.Value.{Value}
 use Rattle.gob_stream.specs.Bounds.{Bounds, within_trees}
-use Rattle.gob_stream.specs.Calls.Session.{limits_of, taken_of, types_of}
+use Rattle.gob_stream.specs.Calls.Session.{types_of}
+use Rattle.gob_stream.specs.Devices.{counts_up}
 use Rattle.gob_stream.specs.Item.{StreamItem, defines, puts}
 use Rattle.gob_stream.specs.Reading.{CountsReads}
 use Rattle.gob_stream.specs.declared.fault.Fault.{Fault}
 use Rattle.gob_stream.specs.declared.fault.Fault.TheVariants as reading
 use Rattle.gob_stream.specs.declared.item.Item as declared
 use Rattle.gob_stream.specs.declared.session.Step.{Step}
-use Rattle.gob_stream.proofs.PublicLaws.{stands_within}
 use Rattle.gob_stream.specs.Calls.Reader.{EndsWith, HasReadFrom, StepsOnFrom, Stops, session_of}
 use Rattle.gob_tool.specs.declared.fault.ToolFault.{ToolFault}
 use Rattle.gob_tool.specs.declared.fault.ToolFault.TheVariants as fault
@@ -107,49 +106,20 @@ wanted_ends L M T T' taken items bytes now (Some id) same table e is =
       holds = (sym table, refl);
     })
 
-pub wanted_at : (L : Bounds) (bytes : List ℕ) (now : Option (List ℕ)) (T : Table) (r : Result (Option TypeId) Fault)
-    (e : Fault) → IsErrAnd r (λ x. x ≡ e) → ReadsWanted L bytes now T (Err e) → ReadsWanted L bytes now T r
-wanted_at L bytes now T (Ok b) e x h = absurd x
-wanted_at L bytes now T (Err f) e x h = subst (λ e. ReadsWanted L bytes now T (Err e)) (sym x) h
-
-pub first_at : (T : Table) (r : Result (Option TypeId) Fault) (e : Fault) → IsErrAnd r (λ x. x ≡ e) → FirstIsReady T r
-first_at T (Ok first) e x = absurd x
-first_at T (Err f) e x = tt
-
--- each turn takes a byte at least
-pub finds_fall : {r' : Trees} {read now : Option (List ℕ)} {items : List StreamItem} (r : Trees) (before : ℕ)
-    → limits_of (session_of r') ≡ limits_of (session_of r) → HasReadFrom tree_building r' read now items
-    → before < taken_of (session_of r')
-    → (limits_of (session_of r')).stream + 9 - taken_of (session_of r') < (limits_of (session_of r)).stream + 9 - before
-finds_fall r before same h onward =
-    let bound = stands_within h.gave in
-    let stream = ap (λ (L : Bounds). L.stream) same in
-    omega (arith, h.gave.taken, onward, stream, bound)
-
 -- ---- what is counted
-pub piece_at : (A B : Type 0) (old mid new : ℕ) (r : Result A Fault) (e : Fault) → IsErrAnd r (λ x. x ≡ e) → mid ≡ old
-    → CountsReads {A = B} mid new (Err e) → CountsPiece old new r
-piece_at A B old mid new (Ok a) e x same h = absurd x
-piece_at A B old mid new (Err f) e x same h =
-    subst (λ e. CountsPiece {A = A} old new (Err e)) (sym x) (subst (λ n. CountsPiece {A = A} n new (Err e)) same
-    (at e h))
-  where
-    at : (e : Fault) → CountsReads {A = B} mid new (Err e) → CountsPiece {A = A} mid new (Err e)
-    at (reading.Refused R) h = h
-    at reading.Read h = h.0
-    at reading.Memory h = h
-    at reading.Failed h = h
+pub piece_counts : (B : Type 0) (old mid new : ℕ) (e : Fault) → mid ≡ old → CountsReads {A = B} mid new (Err e)
+    → CountsPiece {A = Option TypeId} old new (Err e)
+piece_counts B old mid new (reading.Refused R) same h = h ∙ same
+piece_counts B old mid new reading.Read same h = h.0 ∙ ap (λ n. counts_up n 1) same
+piece_counts B old mid new reading.Memory same h = h ∙ same
+piece_counts B old mid new reading.Failed same h = h ∙ same
 
-pub step_counts : {A : Type 0} (old new : ℕ) (r : Result A Fault) (e : Fault) → IsErrAnd r (λ x. x ≡ e) → new ≡ old
-    → (e ≡ reading.Read → ⊥) → CountsPiece old new r
-step_counts old new (Ok a) e x same h = absurd x
-step_counts {A = A} old new (Err f) e x same h = subst (λ e. CountsPiece {A = A} old new (Err e)) (sym x) (at e h)
-  where
-    at : (e : Fault) → (e ≡ reading.Read → ⊥) → CountsPiece {A = A} old new (Err e)
-    at (reading.Refused R) h = same
-    at reading.Read h = absurd (h refl)
-    at reading.Memory h = same
-    at reading.Failed h = same
+pub step_counts : (old new : ℕ) (e : Fault) → new ≡ old → (e ≡ reading.Read → ⊥)
+    → CountsPiece {A = Option TypeId} old new (Err e)
+step_counts old new (reading.Refused R) same other = same
+step_counts old new reading.Read same other = absurd (other refl)
+step_counts old new reading.Memory same other = same
+step_counts old new reading.Failed same other = same
 
 -- ---- the run
 pub found_taken : {L : Bounds} {wanted : List ℕ} {wanted_now : Option (List ℕ)} {V : Table} {t : TypeId}

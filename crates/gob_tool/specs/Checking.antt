@@ -3,18 +3,14 @@
 use Rattle.std.specs.Prelude.{◌≡◌, ℕ, ◌+◌, List, [], ◌∷◌, ◌++◌, length, codes, Option, Some, Result, Ok, Err}
 use Rattle.std.specs.Fmt.{decimal}
 use Rattle.std.specs.Io.KnownBytes.{Appends}
-use Rattle.gob_types.specs.Base.{base_table}
 use Rattle.gob_types.specs.Defined.{definition_count}
 use Rattle.gob_types.specs.Table.{Table}
-use Rattle.gob_stream.specs.declared.fault.Fault.{Fault}
-use Rattle.gob_stream.specs.declared.fault.Fault.TheVariants as reading
 use Rattle.gob_stream.specs.Bounds.{Bounds}
 use Rattle.gob_stream.specs.Item.{StreamItem, defines, puts}
 use Rattle.gob_stream.specs.Grammar.{Grammar, LongestIn, OutcomeIn, StreamIn}
-use Rattle.gob_stream.specs.Outcome.{Outcome, refused, strict}
+use Rattle.gob_stream.specs.Outcome.{refused, strict}
 use Rattle.gob_stream.specs.Reading.{SomeTaken}
-use Rattle.gob_stream.specs.Stream.{Stream}
-use Rattle.gob_tool.specs.declared.in_memory.Tally.{Tally}
+use Rattle.gob_tool.specs.declared.check.Tally.{Tally}
 use Rattle.gob_tool.specs.declared.fault.ToolFault.{ToolFault}
 use Rattle.gob_tool.specs.declared.fault.ToolFault.TheVariants as fault
 use Rattle.gob_tool.specs.Showing.{AppendsPrefix}
@@ -77,21 +73,3 @@ pub data ChecksIn {Told : Type 0} (G : Grammar Told) (defined : List Told → Ta
 abbrev pub CheckAnswers : Bounds → (bytes : List ℕ) → (now old new : Option (List ℕ)) → Result (Unit {0}) ToolFault
     → Type 0
 CheckAnswers L bytes now old new result = ChecksIn strict (λ items T. definitions_in items) L bytes now old new result
-
--- the bytes are the stream of some items, and the tally is theirs
-pub record IsTallied (L : Bounds) (bytes : List ℕ) (tally : Tally) : Type 0 where
-  pub items : List StreamItem
-  pub table : Table
-  pub stream : Stream base_table L items bytes table
-  pub items_are : tally.items ≡ length items
-  pub types_are : tally.types ≡ definitions_in items
-  pub bytes_are : tally.bytes ≡ length bytes
-
--- what counting a stream that is held in memory answers
-abbrev pub TalliesStream : Bounds → (bytes : List ℕ) → Result Tally Fault → Type 0
-TalliesStream L bytes (Ok tally) = IsTallied L bytes tally
-TalliesStream L bytes (Err (reading.Refused R)) =
-    (items : List StreamItem) × Outcome base_table L bytes items (refused R)
-TalliesStream L bytes (Err reading.Read) = ⊥
-TalliesStream L bytes (Err reading.Memory) = Unit {0}
-TalliesStream L bytes (Err reading.Failed) = ⊥

@@ -3,7 +3,6 @@ pub mod Receiver
 pub mod Lines
 pub mod Texts
 pub mod Counting
-pub mod Tallying
 pub mod Rewritten
 pub mod Taken
 pub mod FormsGo

@@ -1,22 +1,45 @@
 //! The run that says whether bytes are a stream, and how much there is in it.
 
-ghost use Rattle.std.specs.Prelude.{◌≡◌, ◌≢◌, ◌+◌, ◌<◌, ℕ, List, Option, Some, IfErr, IfOk, length};
+ghost use Rattle.std.specs.Prelude.{◌≡◌, ◌≢◌, ◌+◌, ◌<◌, ℕ, List, Option, Some, IfErr, IfOk, length, string_bytes};
 ghost use Rattle.gob_stream.specs.Bounds.{deepest, no_deeper};
 ghost use Rattle.gob_stream.specs.Calls.Ends.{failed_reads, failed_writes, reader_of, writer_of};
 ghost use Rattle.gob_stream.specs.Calls.ReaderOf.{HasReadBy, session_of, waits_in};
 ghost use Rattle.gob_stream.specs.Stepping.{StandsBy};
-ghost use Rattle.gob_tool.specs.Checking.{CheckAnswers, ChecksIn, definitions_behind};
+ghost use Rattle.gob_tool.specs.Checking.{CheckAnswers, ChecksIn, definitions_behind, tally_line};
 ghost use Rattle.gob_tool.specs.Ending.{CountsOnlyWrites};
 ghost use Rattle.gob_tool.specs.Machine.Counting.{CountsCounting, CountsNext, EndsCountingIn, given_count};
 ghost use Rattle.gob_tool.specs.Showing.{CountsReadFaults, CountsWriteFaults, IsFlushedSince};
 
 use crate::end::end_run;
 use crate::fault::ToolFault;
-use crate::in_memory::Tally;
+use gob_num::Memory;
 use gob_read::SkipBuilder;
 use gob_stream::{Fault, Input, Limits, Output, Passed, ReaderOf, Session, Steps};
 use std::alloc::Global;
 use std::io::{Read, Write};
+
+/// How much there is in a stream.
+#[derive(Clone, Copy, Debug, PartialEq, Eq)]
+pub struct Tally {
+    /// How many items.
+    pub items: u64,
+    /// How many of the items define a type.
+    pub types: u64,
+    /// How many bytes.
+    pub bytes: u64,
+}
+
+impl Tally {
+    /// The line that says so of a whole stream: `ok: 6 items, 4 types, 185 bytes`, and its line feed.
+    pub fn line(self, alloc: Global) -> Result<String, Memory>
+        ensures { IfOk result (λ line. string_bytes line ≡ tally_line self) }
+    {
+        let items = self.items;
+        let types = self.types;
+        let bytes = self.bytes;
+        Ok(format!(in alloc; "ok: {items} items, {types} types, {bytes} bytes\n")?)
+    }
+}
 
 /// Reads a stream to its end, and writes one line of it: `ok: I items, T types, B bytes`, of which T counts the
 /// definitions. Ok exactly at the end of a whole stream; before any other answer but `ToolFault::Write` nothing is

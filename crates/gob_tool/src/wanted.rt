@@ -7,7 +7,8 @@ ghost use Rattle.gob_stream.specs.Calls.Ends.{failed_reads, reader_of};
 ghost use Rattle.gob_stream.specs.Bounds.{within_trees};
 ghost use Rattle.gob_stream.specs.Calls.Session.{limits_of, types_of};
 ghost use Rattle.gob_stream.specs.Calls.Reader.{HasReadFrom, session_of};
-ghost use Rattle.gob_tool.specs.Machine.Taken.{CountsPiece, CountsWanted, FindsWanted, ReadsWanted, first_type_of};
+ghost use Rattle.gob_tool.specs.Machine.Counting.{CountsCounting};
+ghost use Rattle.gob_tool.specs.Machine.Taken.{CountsPiece, FindsWanted, ReadsWanted, first_type_of};
 ghost use Rattle.gob_tool.specs.Machine.Taken.{views_given};
 ghost use Rattle.gob_tool.specs.Machine.Taken.{FirstIsReady};
 ghost use Rattle.gob_tool.specs.Taking.{first_type};
@@ -32,7 +33,7 @@ pub(crate) fn read_wanted<Q: Read>(
         → FindsWanted (within_trees (limits_of (session_of reader.old))) bytes (Q.remaining (reader_of input.new))
         (types_of (session_of reader.new)) result }
     ensures ready { IfOk result (λ id. IsReady (types_of (session_of reader.new)) id) }
-    ensures reads { CountsWanted (failed_reads input.old) (failed_reads input.new) result }
+    ensures reads { CountsCounting (failed_reads input.old) (failed_reads input.new) result }
 {
     match read_type(alloc, input, reader) {
         Ok(Some(id)) => Ok(id),

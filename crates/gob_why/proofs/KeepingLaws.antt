@@ -19,7 +19,7 @@ use Rattle.gob_go.specs.Machine.Stages.{AdvancesOver, over_some, over_item}
 use Rattle.gob_go.specs.Reading.{RefusesBehind, ShowsRefusal}
 use Rattle.gob_go.specs.declared.item.GoItem.{GoItem}
 use Rattle.gob_go.proofs.FinishSteps.{count_begins_here}
-use Rattle.gob_go.proofs.GoReaderLaws.{table_between}
+use Rattle.gob_go.proofs.SessionAnswers.{table_between}
 use Rattle.gob_go.proofs.ItemsLaws.{one_reading}
 use Rattle.gob_go.proofs.SessionAnswers.{few_items, read_within}
 use Rattle.gob_tool.specs.Machine.Counting.{given_count}

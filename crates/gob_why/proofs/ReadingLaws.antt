@@ -26,7 +26,7 @@ use Rattle.gob_go.proofs.UnderWayLaws.{no_item_yet}
 use Rattle.gob_go.proofs.WholeSteps.{types_between}
 use Rattle.gob_tool.specs.Fault.{reading_fault}
 use Rattle.gob_tool.specs.Machine.Counting.{EndsCountingIn}
-use Rattle.gob_tool.specs.declared.in_memory.Tally.{Tally}
+use Rattle.gob_tool.specs.declared.check.Tally.{Tally}
 use Rattle.gob_tool.specs.declared.fault.ToolFault.{ToolFault}
 use Rattle.gob_tool.specs.declared.fault.ToolFault.TheVariants as fault
 use Rattle.gob_tool.proofs.CheckLaws.{counted_whole}

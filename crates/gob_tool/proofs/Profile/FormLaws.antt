@@ -28,7 +28,7 @@ use Rattle.gob_go.specs.declared.filled.Filling.{Filling}
 use Rattle.gob_go.specs.declared.item.GoItem.{GoItem}
 use Rattle.gob_go.specs.declared.item.GoItem.TheVariants as item
 use Rattle.gob_go.specs.Calls.Reader.{GoReader}
-use Rattle.gob_go.proofs.GoReaderLaws.{table_between}
+use Rattle.gob_go.proofs.SessionAnswers.{table_between}
 use Rattle.gob_go.proofs.ItemsLaws.{grown_keeps, items_grown, last_of}
 use Rattle.gob_go_tidy.specs.TidyItem.{BecomesTidy, tidies_filled, tidies_none, tidies_value}
 use Rattle.gob_go_tidy.specs.Machine.Tidied.{TidiesClosely, tidies_closely, none_left}

@@ -12,7 +12,7 @@ use Rattle.gob_types.specs.declared.id.TypeId.{TypeId}
 use Rattle.gob_value.specs.Tree.{Tree}
 use Rattle.gob_value.specs.View.{view}
 use Rattle.gob_stream.specs.Item.{defines, puts}
-use Rattle.gob_filled.specs.Filled.{Definitions, Fillings, no_filling, filling}
+use Rattle.gob_filled.specs.Filled.{Fillings, no_filling}
 use Rattle.gob_filled.specs.Filled as spelled
 use Rattle.gob_value.specs.declared.value.Value.{Value}
 use Rattle.gob_filled.specs.Stream.{FilledItem}
@@ -55,10 +55,6 @@ pub record IsMade (T : Table) (kept : Filled) (fs : Fillings) (number : ℕ) (ol
   pub rest : Fillings
   pub left : AreFillings T (drop number (out-Filled kept).fillings.items) rest
   pub so : old ++ filling_lines T fs ≡ new ++ filling_lines T rest
-
-pub none_made : {T : Table} {kept : Filled} {fs : Fillings} (old : List ℕ)
-    → AreFillings T (out-Filled kept).fillings.items fs → IsMade T kept fs 0 old old
-none_made {fs = fs} old a = record { rest = fs; left = a; so = refl }
 
 one_more : {T : Table} {f : Filling} {fs : List Filling} {all : Fillings} {new : List ℕ} (mid : List ℕ)
     → AreFillings T (f ∷ fs) all

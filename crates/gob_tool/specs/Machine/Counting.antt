@@ -12,7 +12,7 @@ use Rattle.gob_stream.specs.declared.values.Passed.{Passed}
 use Rattle.gob_tool.specs.Checking.{IsCountedIn, IsNoStreamIn, tally_line, definitions_behind}
 use Rattle.gob_tool.specs.declared.fault.ToolFault.{ToolFault}
 use Rattle.gob_tool.specs.declared.fault.ToolFault.TheVariants as fault
-use Rattle.gob_tool.specs.declared.in_memory.Tally.{Tally}
+use Rattle.gob_tool.specs.declared.check.Tally.{Tally}
 
 -- what was taken was counted
 pub record CountsSo {X I Told : Type 0} (d : Stepping X I Told) (r : ReaderOf X I) (read now : Option (List ℕ))

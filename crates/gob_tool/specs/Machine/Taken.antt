@@ -64,9 +64,3 @@ FirstIsReady T _ = Unit {0}
 abbrev pub CountsPiece : {A : Type 0} → (failures failures' : ℕ) → Result A Fault → Type 0
 CountsPiece failures failures' (Err reading.Read) = failures' ≡ counts_up failures 1
 CountsPiece failures failures' _ = failures' ≡ failures
-
--- and no write did
-abbrev pub CountsWanted : (failures failures' : ℕ) → Result TypeId ToolFault → Type 0
-CountsWanted failures failures' (Err fault.Read) = failures' ≡ counts_up failures 1
-CountsWanted failures failures' (Err fault.Write) = ⊥
-CountsWanted failures failures' _ = failures' ≡ failures

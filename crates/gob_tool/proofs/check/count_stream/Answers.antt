@@ -7,7 +7,7 @@ use Rattle.gob_stream.proofs.Reader.ReaderOfLaws.{goes_on, has_ended}
 use Rattle.gob_tool.specs.Checking.{IsNoStreamIn}
 use Rattle.gob_tool.specs.Fault.{reading_fault}
 use Rattle.gob_tool.specs.Machine.Counting.{CountsCounting, EndsCountingIn}
-use Rattle.gob_tool.specs.declared.in_memory.Tally.{Tally}
+use Rattle.gob_tool.specs.declared.check.Tally.{Tally}
 use Rattle.gob_tool.proofs.CheckLaws.{counted_stops, counted_whole, counting_stops, counting_unread, counts_end}
 use Rattle.gob_tool.proofs.CheckLaws.{counts_fall, counts_first, counts_turn, limits_as}
 use Rattle.gob_tool.proofs.EndLaws.{at_error}

@@ -8,7 +8,7 @@ use Rattle.gob_filled.specs.Outcome.{profile}
 use Rattle.gob_go.specs.Calls.Session.{limits_of}
 use Rattle.gob_tool.specs.Fault.{reading_fault}
 use Rattle.gob_tool.specs.Machine.Counting.{EndsCountingIn}
-use Rattle.gob_tool.specs.declared.in_memory.Tally.{Tally}
+use Rattle.gob_tool.specs.declared.check.Tally.{Tally}
 use Rattle.gob_tool.proofs.CheckLaws.{limits_as}
 use Rattle.gob_tool.proofs.EndLaws.{at_error}
 use Rattle.gob_tool.specs.CheckingGo.{IsNoGoStream}
