@@ -10,7 +10,6 @@ pub mod EndSteps
 pub mod FeedSteps
 pub mod FillSteps
 pub mod FinishSteps
-pub mod GoReaderLaws
 pub mod GrownLaws
 pub mod HeldBeginSteps
 pub mod HeldDefinitionSteps

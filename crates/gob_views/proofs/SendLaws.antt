@@ -1,5 +1,5 @@
 -- How a run ends that sends one text.
-use Rattle.std.proofs.Common.{◌≡◌, ℕ, List, [], ◌++◌, Option, Result, Ok, Err, IfErr, ◌∙◌, ap, sym, subst, append_assoc}
+use Rattle.std.proofs.Common.{ℕ, List, [], ◌++◌, Option, Result, Ok, Err, ◌∙◌, ap, sym, subst, append_assoc}
 use Rattle.std.specs.Io.KnownBytes.{Appends, Keeps}
 use Rattle.std.proofs.KnownBytes.{Appends-kept, Appends-trans}
 use Rattle.gob_stream.specs.Calls.Writing.{SentPrefix}
@@ -49,15 +49,3 @@ sends_ended old mid new text answer result k (ends_so e) h =
 sends_ended old mid new text answer result k (flush_fails o e) h =
     subst (λ r. SendsText old new text r) (sym e)
     (all_kept old mid new text (subst (λ r. SendsText old mid text r) o h) k)
-
--- what sends a text reads nothing
-pub sends_unread : (old new : Option (List ℕ)) (text : List ℕ) (res : Result (Unit {0}) ToolFault)
-    → SendsText old new text res → IfErr res (λ f. f ≡ fault.Read → ⊥)
-sends_unread old new text (Ok u) h = tt
-sends_unread old new text (Err fault.Write) h = λ is. cc
-sends_unread old new text (Err fault.Memory) h = λ is. cc
-sends_unread old new text (Err (fault.Refused R)) h = absurd h
-sends_unread old new text (Err (fault.Wanted R)) h = absurd h
-sends_unread old new text (Err fault.NoWantedType) h = absurd h
-sends_unread old new text (Err (fault.Clash path reason)) h = absurd h
-sends_unread old new text (Err fault.Read) h = absurd h

@@ -14,14 +14,14 @@ use Rattle.gob_source.specs.Registered.{Naming}
 use Rattle.gob_stream.specs.Bounds.{Bounds, greatest_depth, within_trees}
 use Rattle.gob_stream.specs.Devices.{Rose, counts_up}
 use Rattle.gob_stream.specs.Honest.{OfRefusal}
-use Rattle.gob_stream.specs.Reading.{CountsReads, SomeTaken}
+use Rattle.gob_stream.specs.Reading.{CountsReads}
 use Rattle.gob_stream.specs.declared.fault.Fault.{Fault}
 use Rattle.gob_stream.specs.declared.fault.Refusal.{Refusal}
 use Rattle.gob_stream.specs.declared.fault.Fault.TheVariants as reading
 use Rattle.gob_stream.specs.Item.{puts}
 use Rattle.gob_stream.proofs.PublicLaws.{counted_some, whole_item}
 use Rattle.gob_filled.specs.Filled.{filled, no_filling}
-use Rattle.gob_filled.specs.Outcome.{FilledOutcome, refused}
+use Rattle.gob_filled.specs.Outcome.{profile}
 use Rattle.gob_filled.specs.Stream.{FilledItem, FilledStream, putting}
 use Rattle.gob_go.specs.Calls.Reader.{EndsWith, HasReadFrom, KnowsTypes, PassesOne, StepsOnFrom, StopsFrom, session_of}
 use Rattle.gob_go.specs.Calls.Reader.{waits_in}
@@ -36,12 +36,12 @@ use Rattle.gob_tool.specs.declared.fault.ToolFault.{ToolFault}
 use Rattle.gob_tool.specs.declared.fault.ToolFault.TheVariants as fault
 use Rattle.gob_tool.specs.Ending.{EndsRun, ends_so, flush_fails}
 use Rattle.gob_tool.specs.Showing.{AppendsPrefix}
+use Rattle.gob_tool.specs.RunningGo.{BeginsGo, EndsWholeGo}
 use Rattle.gob_tool.proofs.EndLaws.{all_kept, prefix_kept}
-use Rattle.gob_tool.specs.RunningGo.{BeginsGo, EndsWholeGo, IsRefusedGo}
+use Rattle.gob_tool.proofs.TextLaws.{ended_begins, shown_whole}
 use Rattle.gob_views.specs.Gathering.{registered_names, value_types}
-use Rattle.gob_views.specs.Machine.Gathered.{GathersAll, GathersNext, GathersSo, GathersUpTo, GathersWhole, IsEmpty}
-use Rattle.gob_views.specs.Machine.Gathered.{IsGathered, ItemGiven, StopsGathering, TypeGathered, WaitsWhole}
-use Rattle.gob_views.specs.Machine.Gathered.{gathered_text}
+use Rattle.gob_views.specs.Machine.Gathered.{GathersAll, GathersSo, IsEmpty, IsGathered, ItemGiven, TellsTypes}
+use Rattle.gob_views.specs.Machine.Gathered.{TypeGathered, WaitsWhole, gathered_text}
 use Rattle.gob_views.specs.Sending.{SendsText}
 use Rattle.gob_views.specs.Types.{OfSource, TypesAnswers, source_text}
 use Rattle.gob_views.specs.declared.gathered.Gathered.{Gathered}
@@ -96,55 +96,57 @@ gathers_step s some st e = (
   omega (arith, some, st.takes.onward),
 )
 
--- ---- what stops it
-pub gathers_stopped : {r : GoReader} {read now : Option (List ℕ)} {g : Gathered} (A : Type 0) (r' : GoReader)
-    (next : Option (List ℕ)) (e : Fault) (T : Table) (s : GathersSo r read now g)
-    → limits_of (session_of r') ≡ limits_of (session_of r) → StopsFrom (session_of r) T read next s.given e
-    → OfRefusal {A = A} (λ _. KnowsTypes (limits_of (session_of r)) read next s.given (types_of (session_of r')))
-    (Err e) → StopsGathering r' read next g e
-gathers_stopped A r' next (reading.Refused R) T s same stops knows = λ bytes known. record {
-  given = s.given;
-  outcome = subst (λ (L : Bounds). FilledOutcome base_table (within_trees L) bytes s.given (refused R)) (sym same)
-      (stops bytes known).outcome;
-  known = subst (λ (L : Bounds). SomeTaken bytes next
-      (λ came. LeadsBehind (within_trees L) came s.given (types_of (session_of r')))) (sym same) (knows bytes known);
-  gathered = s.gathered;
+-- ---- how it ends
+-- behind a whole stream its types are all
+whole_leads : {L : Bounds} {bytes : List ℕ} {items : List FilledItem} {T : Table}
+    → FilledStream base_table L items bytes T → LeadsBehind L bytes items T
+whole_leads {bytes = bytes} {T = T} s = record {
+  prefix = bytes;
+  rest = [];
+  table = T;
+  stream = s;
+  whole = sym (append-nil bytes);
+  types = leads_nowhere refl (λ b.
+      let some = (unsigned_length b.counts).0 in
+      omega (arith, some, ap length b.whole, length-append b.count (b.number ++ b.rest)));
 }
-gathers_stopped A r' next reading.Read T s same stops knows = tt
-gathers_stopped A r' next reading.Memory T s same stops knows = tt
-gathers_stopped A r' next reading.Failed T s same stops knows = tt
-
-pub up_to_refusal : (r : GoReader) (read now : Option (List ℕ)) (g : Gathered) (e : Fault) (R : Refusal)
-    → e ≡ reading.Refused R → StopsGathering r read now g e → (bytes : List ℕ) → read ≡ Some bytes
-    → GathersUpTo r bytes now g R
-up_to_refusal r read now g e R is h = subst (λ e. StopsGathering r read now g e) is h
-
--- at the error that a `?` returns
-pub next_at : (r r' : GoReader) (read now : Option (List ℕ)) (g : Gathered) (res : Result (Unit {0}) Fault)
-    (e : Fault) → IsErrAnd res (λ x. x ≡ e) → StopsGathering r' read now g e → GathersNext r r' read now g res
-next_at r r' read now g (Ok u) e is h = absurd is
-next_at r r' read now g (Err f) e is h = subst (λ e. StopsGathering r' read now g e) (sym is) h
-
-pub all_at : (r : GoReader) (read now : Option (List ℕ)) (g : Gathered) (res : Result (Unit {0}) Fault)
-    (e : Fault) → IsErrAnd res (λ x. x ≡ e) → StopsGathering r read now g e → GathersAll r read now g res
-all_at r read now g (Ok u) e is h = absurd is
-all_at r read now g (Err f) e is h = subst (λ e. StopsGathering r read now g e) (sym is) h
 
 -- all of it was read
 pub gathers_whole : {r : GoReader} {read now : Option (List ℕ)} {bytes : List ℕ} {g : Gathered} {taken : ℕ}
-    (r' : GoReader) (next : Option (List ℕ)) (s : GathersSo r read now g)
-    → limits_of (session_of r') ≡ limits_of (session_of r) → types_of (session_of r') ≡ types_of (session_of r)
-    → EndsWith (within_trees (limits_of (session_of r))) (types_of (session_of r)) taken s.given bytes next
-    → GathersWhole r' bytes next g
-gathers_whole {r = r} {bytes = bytes} r' next s same_limits same_types e = record {
-  given = s.given;
-  stream = subst (λ (L : Bounds). FilledStream base_table (within_trees L) s.given bytes (types_of (session_of r')))
-      (sym same_limits)
-      (subst (λ (T : Table). FilledStream base_table (within_trees (limits_of (session_of r))) s.given bytes T)
-      (sym same_types) e.stream);
-  end = e.end;
-  gathered = s.gathered;
-}
+    {L : Bounds} (r' : GoReader) (next : Option (List ℕ)) (s : GathersSo r read now g)
+    → types_of (session_of r') ≡ types_of (session_of r)
+    → EndsWith L (types_of (session_of r)) taken s.given bytes next → GathersAll L r' bytes next g (Ok tt)
+gathers_whole {bytes = bytes} {g = g} {L = L} r' next s same e =
+    shown_whole profile (λ T items. TellsTypes L r' bytes next g items) e (record {
+      gathered = s.gathered;
+      known = record {
+        bytes = bytes;
+        taken = record { left = []; known = e.end; whole = sym (append-nil bytes) };
+        holds = subst (λ (T : Table). LeadsBehind L bytes s.given T) (sym same) (whole_leads e.stream);
+      };
+    })
+
+pub gathers_stopped : {r : GoReader} {read now : Option (List ℕ)} {g : Gathered} (A : Type 0) (M : Bounds)
+    (r' : GoReader) (next : Option (List ℕ)) (e : Fault) (T : Table) (s : GathersSo r read now g)
+    → limits_of (session_of r) ≡ M → StopsFrom (session_of r) T read next s.given e
+    → OfRefusal {A = A} (λ _. KnowsTypes (limits_of (session_of r)) read next s.given (types_of (session_of r')))
+    (Err e) → (bytes : List ℕ) → read ≡ Some bytes → GathersAll (within_trees M) r' bytes next g (Err e)
+gathers_stopped {g = g} A M r' next (reading.Refused R) T s same stops knows bytes known =
+    subst (λ (M : Bounds). GathersAll (within_trees M) r' bytes next g (Err (reading.Refused R))) same (record {
+      items = s.given;
+      outcome = (stops bytes known).outcome;
+      holds = record { gathered = s.gathered; known = knows bytes known };
+    })
+gathers_stopped A M r' next reading.Read T s same stops knows bytes known = tt
+gathers_stopped A M r' next reading.Memory T s same stops knows bytes known = tt
+gathers_stopped A M r' next reading.Failed T s same stops knows bytes known = tt
+
+pub refused_at : (L M : Bounds) (r : GoReader) (bytes : List ℕ) (now : Option (List ℕ)) (g : Gathered) (e : Fault)
+    (R : Refusal) → L ≡ M → e ≡ reading.Refused R → GathersAll (within_trees L) r bytes now g (Err e)
+    → GathersAll (within_trees M) r bytes now g (Err (reading.Refused R))
+refused_at L M r bytes now g e R same is h =
+    subst (λ (M : Bounds). GathersAll (within_trees M) r bytes now g (Err (reading.Refused R))) same
+    (subst (λ (e : Fault). GathersAll (within_trees L) r bytes now g (Err e)) is h)
 
 -- ---- reads that failed
 pub counts_at : (A : Type 0) (old mid new : ℕ) (res : Result (Unit {0}) Fault) (e : Fault) → IsErrAnd res (λ x. x ≡ e)
@@ -171,20 +173,6 @@ counts_unread old new (Err f) e is same unread = at f (λ read. unread (sym is �
     at reading.Failed unread = same
 
 -- ---- the source
--- behind a whole stream its types are all
-whole_leads : {L : Bounds} {bytes : List ℕ} {items : List FilledItem} {T : Table}
-    → FilledStream base_table L items bytes T → LeadsBehind L bytes items T
-whole_leads {bytes = bytes} {T = T} s = record {
-  prefix = bytes;
-  rest = [];
-  table = T;
-  stream = s;
-  whole = sym (append-nil bytes);
-  types = leads_nowhere refl (λ b.
-      let some = (unsigned_length b.counts).0 in
-      omega (arith, some, ap length b.whole, length-append b.count (b.number ++ b.rest)));
-}
-
 -- of what was gathered
 source_given : (form : SourceForm) (T : Table) {g : Gathered} {items : List FilledItem} → IsGathered g items
     → gathered_text form T g
@@ -194,96 +182,62 @@ source_given form T {g = g} {items = items} a =
     ∙ ap (λ (names : List Naming). source_text form T (defined_ids items) names g.values.keys) a.names
     ∙ ap (λ (values : List TypeId). source_text form T (defined_ids items) (registered_names items) values) a.values
 
-whole_source : {P : List ℕ → Type 0} {r : GoReader} {bytes : List ℕ} {now : Option (List ℕ)} {g : Gathered}
-    (form : SourceForm) (text : List ℕ) (w : GathersWhole r bytes now g)
-    → text ≡ gathered_text form (types_of (session_of r)) g → P text
-    → OfSource form (within_trees (limits_of (session_of r))) bytes now P w.given
-whole_source {P = P} {r = r} {bytes = bytes} form text w e h = record {
+source_of : {P : List ℕ → Type 0} {L : Bounds} {r : GoReader} {bytes : List ℕ} {now : Option (List ℕ)} {g : Gathered}
+    {items : List FilledItem} (form : SourceForm) (text : List ℕ) → TellsTypes L r bytes now g items
+    → text ≡ gathered_text form (types_of (session_of r)) g → P text → OfSource form L bytes now P items
+source_of {P = P} {r = r} form text t e h = record {
   types = types_of (session_of r);
-  known = record {
-    bytes = bytes;
-    taken = record { left = []; known = w.end; whole = sym (append-nil bytes) };
-    holds = whole_leads w.stream;
-  };
-  holds = subst P (e ∙ source_given form (types_of (session_of r)) w.gathered) h;
+  known = t.known;
+  holds = subst P (e ∙ source_given form (types_of (session_of r)) t.gathered) h;
 }
 
-refused_source : {P : List ℕ → Type 0} {r : GoReader} {bytes : List ℕ} {now : Option (List ℕ)} {g : Gathered}
-    {R : Refusal} (form : SourceForm) (text : List ℕ) (w : GathersUpTo r bytes now g R)
-    → text ≡ gathered_text form (types_of (session_of r)) g → P text
-    → OfSource form (within_trees (limits_of (session_of r))) bytes now P w.given
-refused_source {P = P} {r = r} form text w e h = record {
-  types = types_of (session_of r);
-  known = w.known;
-  holds = subst P (e ∙ source_given form (types_of (session_of r)) w.gathered) h;
-}
+-- a prefix of it went out, or nothing
+stops_sending : (form : SourceForm) (L : Bounds) (bytes : List ℕ) (now old new : Option (List ℕ)) (text : List ℕ)
+    (f : ToolFault) → SendsText old new text (Err f)
+    → (AppendsPrefix old new text → BeginsGo L bytes (OfSource form L bytes now (AppendsPrefix old new)))
+    → TypesAnswers form L bytes now old new (Err f)
+stops_sending form L bytes now old new text fault.Write h cut = cut h
+stops_sending form L bytes now old new text fault.Memory h cut = h
+stops_sending form L bytes now old new text (fault.Refused R) h cut = absurd h
+stops_sending form L bytes now old new text (fault.Wanted R) h cut = absurd h
+stops_sending form L bytes now old new text fault.NoWantedType h cut = absurd h
+stops_sending form L bytes now old new text (fault.Clash path reason) h cut = absurd h
+stops_sending form L bytes now old new text fault.Read h cut = absurd h
 
--- of all types, or a prefix of it
+-- that of all types
 pub whole_sent : (form : SourceForm) (L : Bounds) (r : GoReader) (bytes : List ℕ) (now old new : Option (List ℕ))
-    (g : Gathered) (text : List ℕ) (res : Result (Unit {0}) ToolFault) → limits_of (session_of r) ≡ L
-    → GathersWhole r bytes now g → text ≡ gathered_text form (types_of (session_of r)) g → SendsText old new text res
-    → TypesAnswers form (within_trees L) bytes now old new res
-whole_sent form L r bytes now old new g text (Ok u) same w e h =
-    subst (λ (M : Bounds). EndsWholeGo (within_trees M) bytes now (OfSource form (within_trees M) bytes now
-    (Appends old new))) same (record {
-      items = w.given;
-      table = types_of (session_of r);
-      stream = w.stream;
-      end = w.end;
-      holds = whole_source {P = Appends old new} form text w e h;
-    })
-whole_sent form L r bytes now old new g text (Err fault.Write) same w e h =
-    subst (λ (M : Bounds). BeginsGo (within_trees M) bytes (OfSource form (within_trees M) bytes now
-    (AppendsPrefix old new))) same (record {
-      items = w.given;
-      begins = record {
-        prefix = bytes;
-        rest = [];
-        table = types_of (session_of r);
-        stream = w.stream;
-        whole = sym (append-nil bytes);
-      };
-      holds = whole_source {P = AppendsPrefix old new} form text w e h;
-    })
-whole_sent form L r bytes now old new g text (Err fault.Memory) same w e h = h
-whole_sent form L r bytes now old new g text (Err (fault.Refused R)) same w e h = absurd h
-whole_sent form L r bytes now old new g text (Err (fault.Wanted R)) same w e h = absurd h
-whole_sent form L r bytes now old new g text (Err fault.NoWantedType) same w e h = absurd h
-whole_sent form L r bytes now old new g text (Err (fault.Clash path reason)) same w e h = absurd h
-whole_sent form L r bytes now old new g text (Err fault.Read) same w e h = absurd h
+    (g : Gathered) (text : List ℕ) (res : Result (Unit {0}) ToolFault) → GathersAll L r bytes now g (Ok tt)
+    → text ≡ gathered_text form (types_of (session_of r)) g → SendsText old new text res
+    → TypesAnswers form L bytes now old new res
+whole_sent form L r bytes now old new g text (Ok u) w e h = record {
+  items = w.items;
+  table = w.table;
+  stream = w.stream;
+  end = w.end;
+  holds = source_of {P = Appends old new} form text w.holds e h;
+}
+whole_sent form L r bytes now old new g text (Err f) w e h = stops_sending form L bytes now old new text f h
+    (λ p. ended_begins profile w (λ T items t. source_of {P = AppendsPrefix old new} form text t e p))
 
--- of those of the items before a refusal
+-- that of the items before a refusal
 pub refused_sent : (form : SourceForm) (L : Bounds) (r : GoReader) (bytes : List ℕ) (now old new : Option (List ℕ))
-    (g : Gathered) (text : List ℕ) (R : Refusal) → limits_of (session_of r) ≡ L → GathersUpTo r bytes now g R
+    (g : Gathered) (text : List ℕ) (R : Refusal) → GathersAll L r bytes now g (Err (reading.Refused R))
     → text ≡ gathered_text form (types_of (session_of r)) g → Appends old new text
-    → TypesAnswers form (within_trees L) bytes now old new (Err (fault.Refused R))
-refused_sent form L r bytes now old new g text R same w e h =
-    subst (λ (M : Bounds). IsRefusedGo (within_trees M) bytes R (OfSource form (within_trees M) bytes now
-    (Appends old new))) same (record {
-      items = w.given;
-      outcome = w.outcome;
-      holds = refused_source {P = Appends old new} form text w e h;
-    })
+    → TypesAnswers form L bytes now old new (Err (fault.Refused R))
+refused_sent form L r bytes now old new g text R w e h = record
+    { items = w.items; outcome = w.outcome; holds = source_of {P = Appends old new} form text w.holds e h }
 
 -- which a write or want of memory stopped
 pub refused_unsent : (form : SourceForm) (L : Bounds) (r : GoReader) (bytes : List ℕ) (now old new : Option (List ℕ))
-    (g : Gathered) (text : List ℕ) (R : Refusal) (f : ToolFault) → limits_of (session_of r) ≡ L
-    → GathersUpTo r bytes now g R
+    (g : Gathered) (text : List ℕ) (R : Refusal) (f : ToolFault) → GathersAll L r bytes now g (Err (reading.Refused R))
     → text ≡ gathered_text form (types_of (session_of r)) g → SendsText old new text (Err f)
-    → TypesAnswers form (within_trees L) bytes now old new (Err f)
-refused_unsent form L r bytes now old new g text R fault.Write same w e h =
-    subst (λ (M : Bounds). BeginsGo (within_trees M) bytes (OfSource form (within_trees M) bytes now
-    (AppendsPrefix old new))) same (record {
-      items = w.given;
+    → TypesAnswers form L bytes now old new (Err f)
+refused_unsent form L r bytes now old new g text R f w e h = stops_sending form L bytes now old new text f h
+    (λ p. record {
+      items = w.items;
       begins = w.outcome.gives.begins;
-      holds = refused_source {P = AppendsPrefix old new} form text w e h;
+      holds = source_of {P = AppendsPrefix old new} form text w.holds e p;
     })
-refused_unsent form L r bytes now old new g text R fault.Memory same w e h = h
-refused_unsent form L r bytes now old new g text R (fault.Refused Q) same w e h = absurd h
-refused_unsent form L r bytes now old new g text R (fault.Wanted Q) same w e h = absurd h
-refused_unsent form L r bytes now old new g text R fault.NoWantedType same w e h = absurd h
-refused_unsent form L r bytes now old new g text R (fault.Clash path reason) same w e h = absurd h
-refused_unsent form L r bytes now old new g text R fault.Read same w e h = absurd h
 
 -- ---- behind the flush
 source_as : {form : SourceForm} {L : Bounds} {bytes : List ℕ} {now : Option (List ℕ)} {P Q : List ℕ → Type 0}

@@ -128,10 +128,10 @@ fn gather_types<R: Read>(
 ) -> Result<(), Fault>
     requires new { HasReadFrom reader.old (R.remaining (reader_of input.old)) (R.remaining (reader_of input.old)) [] }
     requires empty { IsEmpty gathered.old }
-    ensures gathered { GathersAll reader.new (R.remaining (reader_of input.old)) (R.remaining (reader_of input.new))
-        gathered.new result }
+    ensures gathered { (bytes : List ℕ) → R.remaining (reader_of input.old) ≡ Some bytes
+        → GathersAll (within_trees (limits_of (session_of reader.old))) reader.new bytes
+        (R.remaining (reader_of input.new)) gathered.new result }
     ensures counted { CountsReads (failed_reads input.old) (failed_reads input.new) result }
-    ensures limits { limits_of (session_of reader.new) ≡ limits_of (session_of reader.old) }
 {
     'items: while reader.more(input)? {
         gather_next(alloc, reader, gathered)?;

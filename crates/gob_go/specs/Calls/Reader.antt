@@ -1,16 +1,14 @@
 -- What a reader of streams of Go's encoder has read of its input, and what its calls answer: the words of any reader,
 -- for the profile.
-use Rattle.std.specs.Prelude.{ℕ, List, Option, Result, Bool}
+use Rattle.std.specs.Prelude.{ℕ, List, Option}
 use Rattle.gob_types.specs.Table.{Table}
 use Rattle.gob_stream.specs.Bounds.{Bounds}
-use Rattle.gob_stream.specs.Calls.ReaderOf.{EndsWithIn, FillsBy, GivesAllButIn, HasReadBy, KnowsTypesBy, PassesBy}
-use Rattle.gob_stream.specs.Calls.ReaderOf.{PassesOneBy, StepsOnBy, StopsBy, StopsIn, TakesBy}
-use Rattle.gob_stream.specs.Grammar.{GivesIn}
+use Rattle.gob_stream.specs.Calls.ReaderOf.{EndsWithIn, HasReadBy, KnowsTypesBy}
+use Rattle.gob_stream.specs.Calls.ReaderOf.{PassesOneBy, StepsOnBy, StopsBy}
 use Rattle.gob_stream.specs.Stepping.{GivesItemsOf}
 use Rattle.gob_stream.specs.declared.fault.Fault.{Fault}
 use Rattle.gob_stream.specs.declared.reader_of.ReaderOf.{ReaderOf}
 use Rattle.gob_stream.specs.declared.session.Step.{Step}
-use Rattle.gob_stream.specs.declared.values.Passed.{Passed}
 use Rattle.gob_filled.specs.Outcome.{profile}
 use Rattle.gob_filled.specs.Stream.{FilledItem}
 use Rattle.gob_go.specs.GoStepping.{go_stepping}
@@ -35,34 +33,13 @@ abbrev pub EndsWith : Bounds → Table → (taken : ℕ) → List FilledItem →
     → Type 0
 EndsWith L T taken items bytes now = EndsWithIn profile L T taken items bytes now
 
--- the bytes begin with the stream of the items, with this table behind it, and with none of more items
-abbrev pub Longest : Bounds → Table → List FilledItem → (bytes : List ℕ) → Type 0
-Longest L T items bytes = GivesIn profile L T items bytes
-
--- all of the bytes but the last ones, of which no more waited, give the items, with this table behind them
-abbrev pub GivesAllBut : Bounds → Table → List FilledItem → (bytes : List ℕ) → Type 0
-GivesAllBut L T items bytes = GivesAllButIn profile L T items bytes
-
--- why no more items come of an input that had these bytes, where these were given and the types are those of T
-abbrev pub Stops : Bounds → Table → List FilledItem → (bytes : List ℕ) → (now : Option (List ℕ)) → Fault → Type 0
-Stops L T items bytes now e = StopsIn profile L T items bytes now e
-
+-- why no more items come of an input, where these were given and the types are those of T
 abbrev pub StopsFrom : SessionState → Table → (read now : Option (List ℕ)) → List FilledItem → Fault → Type 0
 StopsFrom s T read now items e = StopsBy go_stepping s T read now items e
-
--- more was read, or the input ended between two items
-abbrev pub Fills : SessionState → Table → (r' : GoReader) → (read now : Option (List ℕ)) → List FilledItem
-    → Result Bool Fault → Type 0
-Fills s T r' read now items result = FillsBy go_stepping s T r' read now items result
 
 -- the items of what a step gave, where the types are those of T
 abbrev pub GivesItems : Table → Option GoItem → List FilledItem → Type 0
 GivesItems T given items = GivesItemsOf (λ g i. ItemMeans T g i) given items
-
--- so many bytes were taken, with which the items are whole
-abbrev pub TakesItems : (r r' : GoReader) → (read now : Option (List ℕ)) → (items more : List FilledItem) → (used : ℕ)
-    → Type 0
-TakesItems r r' read now items more used = TakesBy go_stepping r r' read now items more used
 
 abbrev pub StepsOnFrom : (r r' : GoReader) → (read now : Option (List ℕ)) → List FilledItem → Step GoItem → Type 0
 StepsOnFrom r r' read now items step = StepsOnBy go_stepping r r' read now items step
@@ -71,10 +48,6 @@ StepsOnFrom r r' read now items step = StepsOnBy go_stepping r r' read now items
 abbrev pub KnowsTypes : Bounds → (read now : Option (List ℕ)) → List FilledItem → Table → Type 0
 KnowsTypes L read now items U = KnowsTypesBy go_stepping L read now items U
 
--- it went past so many items, which define nothing
-abbrev pub PassesFrom : (r r' : GoReader) → Passed → Type 0
-PassesFrom r r' passed = PassesBy go_stepping r r' passed
-
--- past the one whose bytes are these
+-- it went past the item whose bytes are these
 abbrev pub PassesOne : (r r' : GoReader) → (used : ℕ) → Type 0
 PassesOne r r' used = PassesOneBy go_stepping r r' used

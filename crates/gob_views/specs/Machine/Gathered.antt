@@ -1,18 +1,16 @@
 -- Where a run stands that gathers the types of a stream. For private clauses.
 use Rattle.std.specs.Prelude.{◌≡◌, ℕ, ◌<◌, List, [], ◌++◌, Option, Some, None, Result, Ok, Err}
-use Rattle.gob_types.specs.Base.{base_table}
 use Rattle.gob_types.specs.Table.{Table}
 use Rattle.gob_types.specs.declared.id.TypeId.{TypeId}
 use Rattle.gob_value.specs.Tree.{Tree}
-use Rattle.gob_stream.specs.Bounds.{within_trees}
+use Rattle.gob_stream.specs.Bounds.{Bounds, within_trees}
+use Rattle.gob_tool.specs.RunningGo.{EndsWholeGo, IsRefusedGo}
 use Rattle.gob_tool.specs.Texts.{IsNextWhole}
 use Rattle.gob_go.specs.GoStepping.{go_stepping}
 use Rattle.gob_stream.specs.Reading.{SomeTaken}
 use Rattle.gob_stream.specs.declared.fault.Fault.{Fault}
 use Rattle.gob_stream.specs.declared.fault.Fault.TheVariants as reading
-use Rattle.gob_stream.specs.declared.fault.Refusal.{Refusal}
-use Rattle.gob_filled.specs.Outcome.{FilledOutcome, refused}
-use Rattle.gob_filled.specs.Stream.{FilledItem, FilledStream}
+use Rattle.gob_filled.specs.Stream.{FilledItem}
 use Rattle.gob_go.specs.Calls.Reader.{HasReadFrom, session_of}
 use Rattle.gob_go.specs.Calls.Session.{limits_of, taken_of, types_of}
 use Rattle.gob_go.specs.Meaning.{ItemMeans}
@@ -66,34 +64,23 @@ pub record GathersSo (r : GoReader) (read now : Option (List ℕ)) (g : Gathered
   pub has : HasReadFrom r read now given
   pub gathered : IsGathered g given
 
--- what refused an input that had these bytes: what was gathered is what the items before say
-pub record GathersUpTo (r : GoReader) (bytes : List ℕ) (now : Option (List ℕ)) (g : Gathered) (R : Refusal) : Type
-    0 where
-  pub given : List FilledItem
-  pub outcome : FilledOutcome base_table (within_trees (limits_of (session_of r))) bytes given (refused R)
-  pub known : SomeTaken bytes now
-      (λ came. LeadsBehind (within_trees (limits_of (session_of r))) came given (types_of (session_of r)))
-  pub gathered : IsGathered g given
+-- what was gathered is what the items say, and the reader's types are those where the bytes lead that were read
+pub record TellsTypes (L : Bounds) (r : GoReader) (bytes : List ℕ) (now : Option (List ℕ)) (g : Gathered)
+    (items : List FilledItem) : Type 0 where
+  pub gathered : IsGathered g items
+  pub known : SomeTaken bytes now (λ came. LeadsBehind L came items (types_of (session_of r)))
 
--- all of it was read
-pub record GathersWhole (r : GoReader) (bytes : List ℕ) (now : Option (List ℕ)) (g : Gathered) : Type 0 where
-  pub given : List FilledItem
-  pub stream : FilledStream base_table (within_trees (limits_of (session_of r))) given bytes (types_of (session_of r))
-  pub end : now ≡ Some []
-  pub gathered : IsGathered g given
-
--- behind another fault nothing is made of it
-abbrev pub StopsGathering : GoReader → (read now : Option (List ℕ)) → Gathered → Fault → Type 0
-StopsGathering r read now g (reading.Refused R) = (bytes : List ℕ) → read ≡ Some bytes → GathersUpTo r bytes now g R
-StopsGathering r read now g _ = Unit {0}
+-- of a whole stream, or of the items before a refusal; behind another fault nothing is made of what was gathered
+abbrev pub GathersAll : Bounds → GoReader → (bytes : List ℕ) → (now : Option (List ℕ)) → Gathered
+    → Result (Unit {0}) Fault → Type 0
+GathersAll L r bytes now g (Ok _) = EndsWholeGo L bytes now (TellsTypes L r bytes now g)
+GathersAll L r bytes now g (Err (reading.Refused R)) = IsRefusedGo L bytes R (TellsTypes L r bytes now g)
+GathersAll L r bytes now g (Err _) = Unit {0}
 
 -- some of what waited was taken, and what it defines was gathered
 abbrev pub GathersNext : (r r' : GoReader) → (read now : Option (List ℕ)) → Gathered → Result (Unit {0}) Fault
     → Type 0
 GathersNext r r' read now g (Ok _) =
     GathersSo r' read now g × (taken_of (session_of r) < taken_of (session_of r'))
-GathersNext r r' read now g (Err e) = StopsGathering r' read now g e
-
-abbrev pub GathersAll : GoReader → (read now : Option (List ℕ)) → Gathered → Result (Unit {0}) Fault → Type 0
-GathersAll r read now g (Ok _) = (bytes : List ℕ) → read ≡ Some bytes → GathersWhole r bytes now g
-GathersAll r read now g (Err e) = StopsGathering r read now g e
+GathersNext r r' read now g (Err e) = (bytes : List ℕ) → read ≡ Some bytes
+    → GathersAll (within_trees (limits_of (session_of r))) r' bytes now g (Err e)

@@ -25,73 +25,41 @@ returns-in-Values-clause-shows g c = λ bytes known.
 
 pub returns-in-Types-clause-shows : goal.returns-in-Types-clause-shows
 returns-in-Types-clause-shows g c = λ bytes known.
-    let old = g.W.Write.contents (writer_of c.args.output.now) in
-    let new = g.W.Write.contents (writer_of c.run_types.new.output) in
-    let next = g.R.Read.remaining (reader_of c.run_types.new.input) in
-    let view = c.args.view.now in
-    let written = rw (c.limits_of-in-Types.ensures, within_view view, c.form_of.ensures) at
+    let written = rw (c.limits_of-in-Types.ensures, within_view c.args.view.now, c.form_of.ensures) at
     c.run_types.ensures.written in
-    subst (λ x. CommandAnswers x view bytes next old new c.run_types.result) (sym c.in-Types.is) (written bytes known)
+    rw c.in-Types.is (written bytes known)
 
 pub returns-in-Why-clause-shows : goal.returns-in-Why-clause-shows
 returns-in-Why-clause-shows g c = λ bytes known.
-    let old = g.W.Write.contents (writer_of c.args.output.now) in
-    let new = g.W.Write.contents (writer_of c.run_why.new.output) in
-    let next = g.R.Read.remaining (reader_of c.run_why.new.input) in
-    let view = c.args.view.now in
-    let told = rw (c.limits_of-in-Why.ensures, within_view view) at c.run_why.ensures.told in
-    subst (λ x. CommandAnswers x view bytes next old new c.run_why.result) (sym c.in-Why.is) (told bytes known)
+    let told = rw (c.limits_of-in-Why.ensures, within_view c.args.view.now) at c.run_why.ensures.told in
+    rw c.in-Why.is (told bytes known)
 
 pub returns-in-CheckGo-clause-shows : goal.returns-in-CheckGo-clause-shows
 returns-in-CheckGo-clause-shows g c = λ bytes known.
-    let old = g.W.Write.contents (writer_of c.args.output.now) in
-    let new = g.W.Write.contents (writer_of c.run_check_go.new.output) in
-    let next = g.R.Read.remaining (reader_of c.run_check_go.new.input) in
-    let view = c.args.view.now in
-    let checked = rw (c.limits_of-in-CheckGo.ensures, within_view view) at c.run_check_go.ensures.checked in
-    subst (λ x. CommandAnswers x view bytes next old new c.run_check_go.result) (sym c.in-CheckGo.is)
-    (checked bytes known)
+    let checked = rw (c.limits_of-in-CheckGo.ensures, within_view c.args.view.now) at c.run_check_go.ensures.checked in
+    rw c.in-CheckGo.is (checked bytes known)
 
 pub returns-in-Verify-clause-shows : goal.returns-in-Verify-clause-shows
 returns-in-Verify-clause-shows g c = λ bytes known.
-    let old = g.W.Write.contents (writer_of c.args.output.now) in
-    let new = g.W.Write.contents (writer_of c.run_check_go-in-Verify.new.output) in
-    let next = g.R.Read.remaining (reader_of c.run_check_go-in-Verify.new.input) in
-    let view = c.args.view.now in
-    let checked = rw (c.limits_of-in-Verify.ensures, within_view view) at c.run_check_go-in-Verify.ensures.checked in
-    subst (λ x. CommandAnswers x view bytes next old new c.run_check_go-in-Verify.result) (sym c.in-Verify.is)
-    (checked bytes known)
+    let checked = rw (c.limits_of-in-Verify.ensures, within_view c.args.view.now) at
+    c.run_check_go-in-Verify.ensures.checked in
+    rw c.in-Verify.is (checked bytes known)
 
 pub returns-in-ShowGo-clause-shows : goal.returns-in-ShowGo-clause-shows
 returns-in-ShowGo-clause-shows g c = λ bytes known.
-    let old = g.W.Write.contents (writer_of c.args.output.now) in
-    let new = g.W.Write.contents (writer_of c.run_show_go.new.output) in
-    let next = g.R.Read.remaining (reader_of c.run_show_go.new.input) in
-    let view = c.args.view.now in
-    let shown = rw (c.limits_of-in-ShowGo.ensures, within_view view) at
-    c.run_show_go.ensures.shown in
-    subst (λ x. CommandAnswers x view bytes next old new c.run_show_go.result) (sym c.in-ShowGo.is) (shown bytes known)
+    let shown = rw (c.limits_of-in-ShowGo.ensures, within_view c.args.view.now) at c.run_show_go.ensures.shown in
+    rw c.in-ShowGo.is (shown bytes known)
 
 pub returns-in-RewriteGo-clause-shows : goal.returns-in-RewriteGo-clause-shows
 returns-in-RewriteGo-clause-shows g c = λ bytes known.
-    let old = g.W.Write.contents (writer_of c.args.output.now) in
-    let new = g.W.Write.contents (writer_of c.run_rewrite_go.new.output) in
-    let next = g.R.Read.remaining (reader_of c.run_rewrite_go.new.input) in
-    let view = c.args.view.now in
-    let rewritten = rw (c.limits_of-in-RewriteGo.ensures, within_view view) at
+    let rewritten = rw (c.limits_of-in-RewriteGo.ensures, within_view c.args.view.now) at
     c.run_rewrite_go.ensures.rewritten in
-    subst (λ x. CommandAnswers x view bytes next old new c.run_rewrite_go.result) (sym c.in-RewriteGo.is)
-    (rewritten bytes known)
+    rw c.in-RewriteGo.is (rewritten bytes known)
 
 pub returns-in-Salvage-clause-shows : goal.returns-in-Salvage-clause-shows
 returns-in-Salvage-clause-shows g c = λ bytes known.
-    let old = g.W.Write.contents (writer_of c.args.output.now) in
-    let new = g.W.Write.contents (writer_of c.run_salvage.new.output) in
-    let next = g.R.Read.remaining (reader_of c.run_salvage.new.input) in
-    let view = c.args.view.now in
-    let kept = rw (c.limits_of-in-Salvage.ensures, within_view view) at c.run_salvage.ensures.kept in
-    subst (λ x. CommandAnswers x view bytes next old new c.run_salvage.result) (sym c.in-Salvage.is)
-    (c.run_salvage.new.told, kept bytes known)
+    let kept = rw (c.limits_of-in-Salvage.ensures, within_view c.args.view.now) at c.run_salvage.ensures.kept in
+    rw c.in-Salvage.is (c.run_salvage.new.told, kept bytes known)
 
 pub returns-in-Salvage-clause-told : goal.returns-in-Salvage-clause-told
 returns-in-Salvage-clause-told g c = λ bytes known is.
@@ -115,14 +83,9 @@ returns-in-Version-clause-writes g c =
 
 pub returns-in-Explain-clause-shows : goal.returns-in-Explain-clause-shows
 returns-in-Explain-clause-shows g c = λ bytes known.
-    let old = g.W.Write.contents (writer_of c.args.output.now) in
-    let new = g.W.Write.contents (writer_of c.run_explain.new.output) in
-    let next = g.R.Read.remaining (reader_of c.run_explain.new.input) in
-    let view = c.args.view.now in
-    let explained = rw (c.limits_of-in-Explain.ensures, within_view view, c.explained_of.ensures) at
+    let explained = rw (c.limits_of-in-Explain.ensures, within_view c.args.view.now, c.explained_of.ensures) at
     c.run_explain.ensures.explained in
-    subst (λ x. CommandAnswers x view bytes next old new c.run_explain.result) (sym c.in-Explain.is)
-    (explained bytes known)
+    rw c.in-Explain.is (explained bytes known)
 
 pub returns-in-Version-clause-flushed : goal.returns-in-Version-clause-flushed
 returns-in-Version-clause-flushed g c =
