@@ -39,4 +39,6 @@ pub mod StageSteps
 pub mod TypeNumberSteps
 pub mod UnderWayLaws
 pub mod ValueSteps
+pub mod ValuesSteps
+pub mod WholeFilledSteps
 pub mod WholeSteps

@@ -1,23 +1,18 @@
 -- Items of the format that stand whole at the front of a piece, between two items.
-use Rattle.std.proofs.Common.{◌≡◌, ℕ, suc, ◌+◌, ◌<◌, ◌^◌, List, [], ◌∷◌, ◌++◌, length, take, arith}
+use Rattle.std.proofs.Common.{◌≡◌, ℕ, ◌+◌, ◌-◌, ◌<◌, ◌≤◌, ◌^◌, List, [], ◌∷◌, ◌++◌, length, arith}
 use Rattle.std.proofs.Common.{refl, sym, ap, ◌∙◌, subst, append_assoc, length-append}
-use Rattle.std.proofs.lemmas.List.{append-nil, length-take-le}
+use Rattle.std.proofs.lemmas.List.{append-nil}
 use Rattle.gob_num.specs.Unsigned.{AreBytes}
-use Rattle.gob_num.proofs.PublicLaws.{begins_prefix, bytes-append, bytes_prefix, bytes_rest}
+use Rattle.gob_num.proofs.PublicLaws.{begins_prefix, bytes-append}
 use Rattle.gob_types.specs.Base.{base_table}
 use Rattle.gob_types.specs.Defined.{types}
 use Rattle.gob_types.specs.Table.{Table}
 use Rattle.gob_types.specs.declared.id.TypeId.{TypeId}
 use Rattle.gob_stream.specs.Bounds.{Bounds, within_trees}
-use Rattle.gob_stream.specs.Item.{StreamItem}
-use Rattle.gob_stream.specs.Stream.{AreItems, no_more, and_then}
-use Rattle.gob_stream.specs.Whole.{AreItemsBetween, HasBegun}
-use Rattle.gob_stream.proofs.Reader.WholeSteps.{items_at_0}
-use Rattle.gob_stream.proofs.Stream.StreamLaws.{items_within, no_items_empty}
-use Rattle.gob_filled.specs.Stream.{FilledItem, AreFilledItems, FilledStream}
+use Rattle.gob_stream.specs.Whole.{HasBegun}
+use Rattle.gob_filled.specs.Stream.{FilledItem, AreFilledItems, FilledStream, IsFilledItem}
 use Rattle.gob_filled.specs.Stream as filled
-use Rattle.gob_filled.proofs.Contained.{item_stays}
-use Rattle.gob_go.specs.Calls.Session.{HasItemsNext, ReadsAll, ReadsItems, unfilled_items}
+use Rattle.gob_go.specs.Calls.Session.{HasItemsNext, ReadsAll, ReadsItems}
 use Rattle.gob_go.specs.Machine.HasRead.{StageHasRead, in_count, in_type_number, in_definition, in_put, HasRead}
 use Rattle.gob_go.specs.Machine.HasRead.{IsUsable, has_failed, stands_after, no_end}
 use Rattle.gob_go.specs.Machine.SessionState.{SessionState}
@@ -27,7 +22,7 @@ use Rattle.gob_go.specs.declared.stage.Stage.{Stage}
 use Rattle.gob_go.specs.declared.stage.Stage.TheVariants as stage
 use Rattle.gob_go.proofs.FinishSteps.{count_begins_here, nothing_expects}
 use Rattle.gob_go.proofs.FeedSteps.{between_table}
-use Rattle.gob_go.proofs.ItemsLaws.{NoNext, items_end}
+use Rattle.gob_go.proofs.ItemsLaws.{NoNext, item_ends, items_end}
 use Rattle.gob_go.proofs.UnderWayLaws.{fewer_no_item}
 
 -- ---- between two items
@@ -57,18 +52,8 @@ pub types_between : {L : Bounds} {T U : Table} {offset : ℕ} {expects : Stage} 
     → StageHasRead L T offset U expects y → y ≡ [] → U ≡ T
 types_between h none = let k = nothing_expects h none in between_table h (count_is_new h k.is none)
 
--- ---- items of the format are items of the profile
-pub unfilled_count : (is : List StreamItem) → length (unfilled_items is) ≡ length is
-unfilled_count [] = refl
-unfilled_count (i ∷ is) = ap suc (unfilled_count is)
-
-pub items_stay : {L : Bounds} {T U : Table} {offset : ℕ} {is : List StreamItem} {z : List ℕ} → AreBytes z
-    → AreItems base_table L T offset is z U → AreFilledItems base_table L T offset (unfilled_items is) z U
-items_stay o no_more = filled.no_more
-items_stay o (and_then {b = b} {c = c} p e r) =
-    filled.and_then (item_stays (bytes_prefix b c o) p) e (items_stay (bytes_rest b c o) r)
-
-more_behind : {L : Bounds} {T U V : Table} {offset next : ℕ} {items more : List FilledItem} {b c : List ℕ}
+-- ---- items of the profile
+pub more_behind : {L : Bounds} {T U V : Table} {offset next : ℕ} {items more : List FilledItem} {b c : List ℕ}
     → AreFilledItems base_table L T offset items b U → next ≡ offset + length b
     → AreFilledItems base_table L U next more c V → AreFilledItems base_table L T offset (items ++ more) (b ++ c) V
 more_behind {L = L} {T = T} {V = V} {next = next} {more = more} {c = c} (filled.no_more {offset = offset}) e r =
@@ -78,6 +63,15 @@ more_behind {L = L} {T = T} {V = V} {offset = offset} {more = more} {c = c}
     (filled.and_then {i = j} {items = items} {b = a} {c = b} p e r) f q =
     subst (λ c. AreFilledItems base_table L T offset (j ∷ (items ++ more)) c V) (sym (append_assoc a b c))
     (filled.and_then p e (more_behind r (omega (arith, length-append a b)) q))
+
+-- they end within the limit for the stream
+pub filled_within : {L : Bounds} {T U : Table} {offset : ℕ} {items : List FilledItem} {b : List ℕ}
+    → AreFilledItems base_table L T offset items b U → length b ≤ L.stream - offset
+filled_within filled.no_more = omega arith
+filled_within (filled.and_then {b = b} {c = c} p e r) =
+    let one = item_ends p in
+    let others = filled_within r in
+    omega (arith, length-append b c)
 
 -- ---- going past them
 pub passed : {s s' : SessionState} {z : List ℕ} {now : Stage} → s.stage ≡ count_at s.taken → s.limits.stream < 2 ^ 63
@@ -90,7 +84,7 @@ passed {s = s} {z = z} {now = now} between most o new e items bytes is a there =
     let here : s.taken ≡ length a.prefix = a.taken ∙ ap length prefix in
     let long : length (a.prefix ++ z) ≡ s.taken + length z = omega (arith, length-append a.prefix z) in
     let ends = items_end a.stream (omega arith) in
-    let few = items_within there in
+    let few = filled_within there in
     let behind : StageHasRead (within_trees s.limits) (types s.types) (length (a.prefix ++ z)) (types s.types)
     (count_at (length (a.prefix ++ z))) [] = in_count [] refl (record {
       begins = refl;
@@ -106,7 +100,7 @@ passed {s = s} {z = z} {now = now} between most o new e items bytes is a there =
       whole = ap (λ y. y ++ z) prefix ∙ sym (append-nil (a.prefix ++ z));
       are_bytes = bytes-append bytes z a.are_bytes o;
       stream = more_behind (subst (λ (T : Table). FilledStream base_table (within_trees s.limits) items a.prefix T)
-          (sym table) a.stream) (omega arith) (items_stay o there);
+          (sym table) a.stream) (omega arith) there;
       stage = subst (λ st. StageHasRead (within_trees s.limits) (types s.types) (length (a.prefix ++ z)) (types s.types)
           st []) (sym (new ∙ ap (λ n. count_at n) (sym long))) behind;
       taken = sym (ap (λ y. length (y ++ z)) prefix ∙ long);
@@ -121,29 +115,7 @@ usable_behind {s = s} between h f (has_failed e) =
 usable_behind between h f (stands_after {items = items} {bytes = bytes} a) =
     stands_after (f items bytes h.0 a h.1)
 
--- ---- items that stand one behind another at the front of a piece
-pub prefix_items : (s : SessionState) {count used : ℕ} (piece : List ℕ)
-    → AreItemsBetween (within_trees s.limits) (types s.types) s.taken count piece 0 used
-    → HasItemsNext s (take used piece)
-prefix_items s piece b = (b.items, items_at_0 b)
-
-pub passes_items : {s s' : SessionState} {count used : ℕ} (piece : List ℕ)
-    → AreItemsBetween (within_trees s.limits) (types s.types) s.taken count piece 0 used
-    → ReadsAll s s' (take used piece) → ReadsItems s s' count used piece
-passes_items {used = used} piece b f =
-    record {
-      given = unfilled_items b.items;
-      counted = b.counted ∙ sym (unfilled_count b.items);
-      within = b.inside;
-      none = λ e. omega (
-        arith,
-        no_items_empty (items_at_0 b) (sym b.counted ∙ e),
-        length-take-le used piece b.inside,
-      );
-      passed = λ items bytes a. f items bytes b.items a (items_at_0 b);
-    }
-
--- and nothing is passed where nothing is found
+-- nothing is passed where nothing is found
 pub passes_none : {s : SessionState} {piece : List ℕ} → ReadsItems s s 0 0 piece
 passes_none {s = s} = record {
   given = [];

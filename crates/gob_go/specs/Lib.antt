@@ -5,3 +5,4 @@ pub mod Honest
 pub mod Machine
 pub mod Calls
 pub mod GoStepping
+pub mod Whole

@@ -5,3 +5,4 @@ pub mod HasRead
 pub mod Parts
 pub mod Stages
 pub mod Held
+pub mod WholeFilled

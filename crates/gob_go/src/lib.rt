@@ -12,6 +12,7 @@ mod count;
 mod definition;
 mod description;
 mod filled;
+mod filled_whole;
 mod held;
 mod ids;
 mod inner_count;
@@ -32,6 +33,7 @@ mod values;
 mod whole;
 
 pub use filled::{Definition, Filled, Filling};
+pub use filled_whole::is_filled_whole;
 pub use ids::{push_ids, push_inner_ids};
 pub use item::GoItem;
 pub use session::GoSession;

@@ -65,7 +65,7 @@ impl GoSession {
         self.go_past(item);
     }
 
-    /// Goes past these bytes, which are items of the format that define nothing.
+    /// Goes past these bytes, which are items that define nothing.
     pub(crate) fn go_past(&mut self, items: &[u8])
         requires between { IsBetweenItems self.old }
         requires items { HasItemsNext self.old items.now }

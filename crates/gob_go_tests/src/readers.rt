@@ -115,18 +115,44 @@ pub(crate) fn is_read_within(alloc: Global, row: &str) -> Result<bool, PutFault>
     Ok(is_within(counted.answer, counted.items, number(part(row, 2), 0)))
 }
 
-// A list that holds nothing in its interfaces, and one that holds an int, each behind the definition of its type.
-const LISTS: &str = "0c ff 81 02 01 02 ff 82 00 01 10 00 00 06 ff 82 00 02 00 00
-0c ff 82 00 01 03 69 6e 74 04 02 00 0a 06 ff 82 00 02 00 00";
+// What Go wrote of Pair{1, "x"}, Box{Pair{2, "y"}}, Box{Box{Pair{3, "z"}}}, Box{nil}, []any{7, Pair{1, "q"}, nil,
+// Box{1.5}}, map[string]any{"k": Pair{1, "q"}}, Box{[]int{1}} and once more that, where the first one of []int has the
+// definition of its type in it. Before each of the first of their types stands its definition.
+const HELD: &str =
+    "1e ff 81 03 01 01 04 50 61 69 72 01 ff 82 00 01 02 01 01 41 01 04 00 01 01 42 01 0c 00 00 00
+08 ff 82 01 02 01 01 78 00 17 ff 83 03 01 01 03 42 6f 78 01 ff 84 00 01 01 01 01 56 01 10 00 00 00
+17 ff 84 01 09 6d 61 69 6e 2e 50 61 69 72 ff 82 06 01 04 01 01 79 00 00
+25 ff 84 01 08 6d 61 69 6e 2e 42 6f 78 ff 84 15 01 09 6d 61 69 6e 2e 50 61 69 72 ff 82 06 01 06 01 01 7a 00 00 00
+03 ff 84 00 0c ff 85 02 01 02 ff 86 00 01 10 00 00
+3c ff 86 00 04 03 69 6e 74 04 02 00 0e 09 6d 61 69 6e 2e 50 61 69 72 ff 82 06 01 02 01 01 71 00 00
+08 6d 61 69 6e 2e 42 6f 78 ff 84 10 01 07 66 6c 6f 61 74 36 34 08 04 00 fe f8 3f 00
+0e ff 87 04 01 02 ff 88 00 01 0c 01 10 00 00
+19 ff 88 00 01 01 6b 09 6d 61 69 6e 2e 50 61 69 72 ff 82 06 01 02 01 01 71 00
+15 ff 84 01 05 5b 5d 69 6e 74 ff 89 02 01 02 ff 8a 00 01 04 00 00 07 ff 8a 03 00 01 02 00
+10 ff 84 01 05 5b 5d 69 6e 74 ff 8a 03 00 01 02 00";
 
-// Whether of the four items of the lists the two that hold nothing are passed.
+// Whether all twelve items are read, and of the eight values the seven are passed that define nothing.
 fn are_passed(alloc: Global) -> Result<bool, Memory> {
-    let bytes = bytes_of(alloc, LISTS)?;
+    let bytes = bytes_of(alloc, HELD)?;
     let counted = count(alloc, &bytes, Limits::standard(), 65536)?;
-    Ok(counted.answer.is_ok() && counted.items == 4 && counted.passed == 2)
+    Ok(counted.answer.is_ok() && counted.items == 12 && counted.passed == 7)
+}
+
+// Whether the third value, the deepest with 6, is passed where so much is allowed, and refused where less is: then two
+// are passed.
+fn are_passed_within(alloc: Global) -> Result<bool, Memory> {
+    let bytes = bytes_of(alloc, HELD)?;
+    let six = count(alloc, &bytes, Limits::standard().up_to(6), 65536)?;
+    let five = count(alloc, &bytes, Limits::standard().up_to(5), 65536)?;
+    let is_too_deep = matches!(five.answer, Err(Fault::Refused(_)));
+    Ok(six.answer.is_ok() && six.passed == 7 && is_too_deep && five.passed == 2)
 }
 
 #[test]
-fn values_that_hold_nothing_are_passed(rt: HostRuntime) {
-    assert!(rt; are_passed(rt.alloc()) == Ok(true), "two of four items");
+fn values_that_define_nothing_are_passed(rt: HostRuntime) {
+    assert!(rt; are_passed(rt.alloc()) == Ok(true), "seven of eight values");
+    assert!(rt;
+        are_passed_within(rt.alloc()) == Ok(true),
+        "up to the greatest depth"
+    );
 }

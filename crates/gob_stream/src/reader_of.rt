@@ -254,9 +254,10 @@ impl<S: Steps> ReaderOf<S> {
         self.waiting.pass(used);
     }
 
-    /// Goes past the items of values that wait in front, one behind another, in which no interface holds a value. It
-    /// keeps nothing of the values, and takes no memory. It may pass fewer than wait there, or none, which says nothing
-    /// of what waits. After a fault it passes none.
+    /// Goes past the items of values that wait in front, one behind another, and define nothing. Interfaces in them
+    /// hold values only where the session is one for what Go's encoder writes. It keeps nothing of the values, and
+    /// takes no memory. It may pass fewer than wait there, or none, which says nothing of what waits. After a fault it
+    /// passes none.
     pub fn pass_values(&mut self) -> Passed
         ensures passed { PassesBy S.stepping self.old self.new result }
         ensures left { waits_in self.new ≡ drop result.used (waits_in self.old) }

@@ -10,9 +10,9 @@ use Rattle.gob_stream.specs.declared.fault.Fault.TheVariants as fault
 use Rattle.gob_stream.specs.Bounds.{Bounds, within_trees}
 use Rattle.gob_stream.specs.Honest.{OfRefusal}
 use Rattle.gob_stream.specs.Item.{StreamItem}
-use Rattle.gob_stream.specs.Stream.{IsItem, AreItems}
+use Rattle.gob_stream.specs.Stream.{IsItem}
 use Rattle.gob_stream.specs.Whole.{HasBody, HasBegun}
-use Rattle.gob_filled.specs.Stream.{FilledItem}
+use Rattle.gob_filled.specs.Stream.{FilledItem, AreFilledItems}
 use Rattle.gob_filled.specs.Outcome.{FilledOutcome, the_end, refused}
 use Rattle.gob_filled.specs.OutcomeLaws.{unfilled_item}
 use Rattle.gob_go.specs.Honest.{IsHonest}
@@ -63,30 +63,28 @@ HasBegunNext s id head size piece = HasBegun (limits_of s) (types_of s) (taken_o
 abbrev pub IsNext : SessionState → StreamItem → List ℕ → Type 0
 IsNext s i z = IsItem base_table (within_trees (limits_of s)) (types_of s) (taken_of s) i z (types_of s)
 
-abbrev pub AreNext : SessionState → List StreamItem → List ℕ → Type 0
-AreNext s is z = AreItems base_table (within_trees (limits_of s)) (types_of s) (taken_of s) is z (types_of s)
-
--- they are some item, or some items
+-- they are some item
 abbrev pub HasItemNext : SessionState → List ℕ → Type 0
 HasItemNext s z = (i : StreamItem) × IsNext s i z
-
-abbrev pub HasItemsNext : SessionState → List ℕ → Type 0
-HasItemsNext s z = (is : List StreamItem) × AreNext s is z
-
--- items of the format as items of the profile, whose values aren't filled
-abbrev pub unfilled_items : List StreamItem → List FilledItem
-unfilled_items [] = []
-unfilled_items (i ∷ is) = unfilled_item i ∷ unfilled_items is
 
 -- it has read the item that these bytes are
 abbrev pub ReadsOn : (s s' : SessionState) → List ℕ → Type 0
 ReadsOn s s' z = (items : List FilledItem) (bytes : List ℕ) (i : StreamItem) → HasRead s items bytes → IsNext s i z
     → HasRead s' (items ++ unfilled_item i ∷ []) (bytes ++ z)
 
--- or the items
+-- ---- items of the profile
+-- the bytes are these items, as the next ones, and they define nothing
+abbrev pub AreNext : SessionState → List FilledItem → List ℕ → Type 0
+AreNext s is z = AreFilledItems base_table (within_trees (limits_of s)) (types_of s) (taken_of s) is z (types_of s)
+
+-- they are some items
+abbrev pub HasItemsNext : SessionState → List ℕ → Type 0
+HasItemsNext s z = (is : List FilledItem) × AreNext s is z
+
+-- it has read the items that these bytes are
 abbrev pub ReadsAll : (s s' : SessionState) → List ℕ → Type 0
-ReadsAll s s' z = (items : List FilledItem) (bytes : List ℕ) (is : List StreamItem) → HasRead s items bytes
-    → AreNext s is z → HasRead s' (items ++ unfilled_items is) (bytes ++ z)
+ReadsAll s s' z = (items : List FilledItem) (bytes : List ℕ) (is : List FilledItem) → HasRead s items bytes
+    → AreNext s is z → HasRead s' (items ++ is) (bytes ++ z)
 
 -- it stands behind so many items, the first bytes of the piece
 pub record ReadsItems (s s' : SessionState) (count used : ℕ) (piece : List ℕ) : Type 0 where

@@ -1,7 +1,6 @@
 use Rattle.std.proofs.Common.{arith, refl}
 use Rattle.gob_num.proofs.PublicLaws.{bytes_each}
-use Rattle.gob_stream.proofs.Stream.StreamLaws.{items_within}
-use Rattle.gob_go.proofs.WholeSteps.{passed, usable_behind}
+use Rattle.gob_go.proofs.WholeSteps.{filled_within, passed, usable_behind}
 use Rattle.gob_go.proofs.session.GoSession.go_past.Goals as goal
 
 pub returns-clause-passed : goal.returns-clause-passed
@@ -22,5 +21,5 @@ invariant_of-self c =
 pub overflow_add-self : goal.overflow_add-self
 overflow_add-self c =
     let items = rw (← c.self.view_is) at c.requires.items in
-    let within = items_within items.1 in
+    let within = filled_within items.1 in
     omega (arith, c.stream-most.ensures.stream, c.stream-most.ensures.limits.stream)

@@ -1,5 +1,6 @@
 use Rattle.std.proofs.Common.{ap, arith, length-take-le}
-use Rattle.gob_go.proofs.WholeSteps.{passes_items, passes_none, prefix_items}
+use Rattle.gob_go.proofs.ValuesSteps.{passes_items, prefix_items}
+use Rattle.gob_go.proofs.WholeSteps.{passes_none}
 use Rattle.gob_go.proofs.session.GoSession.pass_values.Goals as goal
 
 pub returns-then-not-is_between-clause-passed : goal.returns-then-not-is_between-clause-passed
@@ -7,7 +8,8 @@ returns-then-not-is_between-clause-passed c = passes_none
 
 pub slice_bounds-go_past-end : goal.slice_bounds-go_past-end
 slice_bounds-go_past-end c =
-    let size = length-take-le c.whole_values-passed.result.used c.args.piece.now c.whole_values-passed.ensures.inside in
+    let found = c.filled_values-passed.ensures in
+    let size = length-take-le c.filled_values-passed.result.used c.args.piece.now found.inside in
     omega (arith, size)
 
 pub go_past-requires-clause-items : goal.go_past-requires-clause-items
@@ -15,17 +17,17 @@ go_past-requires-clause-items c =
     let limits = ap (λ s. s.limits) c.self.view_is in
     let table = ap (λ s. s.types) c.self.view_is in
     let taken = ap (λ s. s.taken) c.self.view_is in
-    prefix_items c.args.self.now c.args.piece.now (rw (limits, table, taken) at c.whole_values-passed.ensures)
+    prefix_items c.args.self.now c.args.piece.now (rw (limits, table, taken) at c.filled_values-passed.ensures)
 
 pub returns-clause-passed : goal.returns-clause-passed
 returns-clause-passed c =
     let limits = ap (λ s. s.limits) c.self.view_is in
     let table = ap (λ s. s.types) c.self.view_is in
     let taken = ap (λ s. s.taken) c.self.view_is in
-    passes_items c.args.piece.now (rw (limits, table, taken) at c.whole_values-passed.ensures) c.go_past.ensures.passed
+    passes_items c.args.piece.now (rw (limits, table, taken) at c.filled_values-passed.ensures) c.go_past.ensures.passed
 
 pub returns-clause-taken : goal.returns-clause-taken
 returns-clause-taken c =
-    let found = c.whole_values-passed.ensures in
-    let size = length-take-le c.whole_values-passed.result.used c.args.piece.now found.inside in
+    let found = c.filled_values-passed.ensures in
+    let size = length-take-le c.filled_values-passed.result.used c.args.piece.now found.inside in
     omega (arith, c.go_past.ensures.taken, size)
