@@ -1,15 +1,13 @@
 -- What is read where a value without parts stands: that value. Where something else is, no such value stands.
-use Rattle.std.proofs.Common.{◌≡◌, ◌≢◌, ℕ, ℤ, ◌^◌, ◌<◌, Bool, true, false, List, [], ◌∷◌, ◌++◌, refl, sym, ap, ◌∙◌}
+use Rattle.std.proofs.Common.{◌≡◌, ℕ, ℤ, ◌^◌, ◌<◌, Bool, true, false, List, ◌∷◌, ◌++◌, refl, sym, ap, ◌∙◌}
 use Rattle.std.proofs.Common.{arith, w64, codes, Ok}
 use Rattle.std.specs.Prelude.{FitsSigned}
 use Rattle.std.specs.Str.{is_utf8}
-use Rattle.std.specs.Fmt.{signed_decimal}
 use Rattle.std.proofs.lemmas.Fmt.{decimal_injective, signed_decimal_injective}
 use Rattle.std.proofs.lemmas.Int.{ints}
 use Rattle.hex.specs.Hex.{IsBytes, decode_of}
 use Rattle.hex.proofs.HexLemmas.{decode_of-encode_lower}
 use Rattle.json.specs.Token.{Token}
-use Rattle.serde_json.specs.Data.{boolean, null}
 use Rattle.gob_num.proofs.PublicLaws.{unsigned_fits, signed_fits, pattern_fits}
 use Rattle.gob_types.specs.declared.id.TypeId.{TypeId}
 use Rattle.gob_types.specs.declared.basic.Basic.TheVariants as basic
@@ -18,10 +16,9 @@ use Rattle.gob_types.specs.Table.{Table}
 use Rattle.gob_value.specs.Bytes.{HoldsBytes}
 use Rattle.gob_value.specs.Spelling.{SpellsAs, of_int, of_uint, of_float, of_complex, of_bytes, of_text}
 use Rattle.gob_value.specs.Tree.{Tree}
-use Rattle.gob_json.specs.Json.{value_json, natural_json, integer_json, hex_json, text_json, opaque_json}
+use Rattle.gob_json.specs.Json.{value_json, natural_json, integer_json, hex_json, text_json}
 use Rattle.gob_json.specs.Json.{pattern_json, pair_json}
-use Rattle.gob_lines.specs.Complete.{ReadsIt}
-use Rattle.gob_lines.specs.Reads.{Reads, IsWrong}
+use Rattle.gob_lines.specs.Reads.{Reads}
 use Rattle.gob_lines.proofs.UniqueLaws.{J, behind, first, text_of, integer_token, pattern_said}
 use Rattle.gob_lines.proofs.UniqueLaws.{are_bytes, decoded, text_as}
 

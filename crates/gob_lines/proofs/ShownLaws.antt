@@ -1,5 +1,5 @@
 -- The text of JSON has its tokens, and a line feed behind it is no token: what is shown is said.
-use Rattle.std.proofs.Common.{◌≡◌, ℕ, ℤ, pos, negsuc, ◌+◌, ◌<◌, ◌≤◌, ◌^◌, Bool, true, false, cond, ◌&&◌, List, []}
+use Rattle.std.proofs.Common.{◌≡◌, ℕ, ℤ, pos, negsuc, ◌<◌, ◌^◌, Bool, true, false, cond, ◌&&◌, List, []}
 use Rattle.std.proofs.Common.{◌∷◌, ◌++◌}
 use Rattle.std.proofs.Common.{length, Some, refl, sym, ap, ap₂, subst, ◌∙◌, arith, append_assoc, append-nil, inl, inr}
 use Rattle.std.proofs.Common.{suc}
@@ -11,7 +11,7 @@ use Rattle.json.specs.Token.{null}
 use Rattle.json.specs.Token.{bad}
 use Rattle.json.specs.Word.{ends_word, word}
 use Rattle.json.specs.Lex.{token, comma, colon, string_token, lex, between, fresh, punctuate, tokens}
-use Rattle.json.specs.Print.{escape, quoted, token_text, begins, ends, print_from, print, IsPrintable, ArePrintable}
+use Rattle.json.specs.Print.{escape, quoted, token_text, begins, ends, print_from, IsPrintable, ArePrintable}
 use Rattle.json.specs.Tree.{json_tokens, HasNumbers, ItemsHaveNumbers, MembersHaveNumbers}
 use Rattle.json.proofs.Printed.Decimals.{IsNumber-decimal, IsNumber-signed_decimal}
 use Rattle.json.proofs.Printed.Numbers.{lex-number, in_word-ended}
@@ -36,7 +36,7 @@ use Rattle.gob_value.specs.Spelling.{of_nil, of_bytes, of_text, of_opaque, of_sl
 use Rattle.gob_value.specs.Spelling.{SpellsEach, no_element, element, SpellsPairs, no_entry, entry, SpellsFields}
 use Rattle.gob_value.specs.Spelling.{end_of_fields, next_field}
 use Rattle.gob_value.specs.Tree.{Tree, Trees, Pairs, Fields}
-use Rattle.gob_json.specs.Json.{value_json, elements_json, pairs_json, fields_json, put_json, text_json, integer_json}
+use Rattle.gob_json.specs.Json.{value_json, elements_json, pairs_json, fields_json, put_json, integer_json}
 use Rattle.gob_json.specs.Json.{field_name, field_type}
 use Rattle.gob_json.specs.DefinitionJson.{definition_json, field_types_json, shape_members}
 use Rattle.gob_lines.specs.Laws.{FewFields, HaveFewFields}

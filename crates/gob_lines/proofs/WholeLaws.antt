@@ -1,6 +1,6 @@
 -- What is read where a value stands: that value.
-use Rattle.std.proofs.Common.{◌≡◌, ◌≢◌, ℕ, ℤ, zero, suc, ◌+◌, ◌^◌, ◌<◌, ◌≤◌, Bool, true, false, List, [], ◌∷◌, ◌++◌}
-use Rattle.std.proofs.Common.{append_assoc, length, Option, Some, None, refl, sym, ap, subst, ◌∙◌, arith, w64}
+use Rattle.std.proofs.Common.{◌≡◌, ◌≢◌, ℕ, ◌+◌, ◌≤◌, List, [], ◌∷◌, ◌++◌}
+use Rattle.std.proofs.Common.{append_assoc, length, Option, Some, None, refl, sym, ap, subst, ◌∙◌, arith}
 use Rattle.std.proofs.Common.{add-one, Result, Ok, Err}
 use Rattle.std.specs.Prelude.{slice_get, decimal, IfErr, IfOk, IsErrAnd}
 use Rattle.hex.specs.Hex.{IsBytes}
@@ -17,8 +17,8 @@ use Rattle.gob_types.specs.Table.{Table, shape_of}
 use Rattle.gob_types.proofs.PublicLaws.{some_injective}
 use Rattle.gob_value.specs.Bytes.{HoldsBytes, AllHoldBytes, PairsHoldBytes, FieldsHoldBytes}
 use Rattle.gob_value.specs.Spelling.{Spells, of_type, SpellsAs, of_slice, of_array, of_map, of_struct, of_opaque}
-use Rattle.gob_value.specs.Spelling.{SpellsEach, no_element, element, SpellsPairs, no_entry, entry}
-use Rattle.gob_value.specs.Spelling.{SpellsFields, end_of_fields, next_field}
+use Rattle.gob_value.specs.Spelling.{SpellsEach, element, SpellsPairs, entry}
+use Rattle.gob_value.specs.Spelling.{SpellsFields, next_field}
 use Rattle.gob_value.specs.Tree.{Tree, depth, Trees, no_tree, tree, trees_depth, Pairs, no_pair, pair, pairs_depth}
 use Rattle.gob_value.specs.Tree.{Fields, no_field, field, fields_depth, tree_count}
 use Rattle.gob_value.specs.declared.value.Value.{Value}
@@ -85,7 +85,7 @@ pub record NextElement (T : Table) (e : TypeId) (limit : ℕ) (read : List Value
   pub all : trees_before read (tree next left) ≡ vs
   pub stand : now ≡ J (value_json T e next) ++ (JS (elements_json T e left) ++ rest)
 
-no_end_there : {now rest : List Token} → now ≡ Token.end_array ∷ rest → after_end_array now ≡ None → ⊥
+pub no_end_there : {now rest : List Token} → now ≡ Token.end_array ∷ rest → after_end_array now ≡ None → ⊥
 no_end_there h n = let both = sym n ∙ ap after_end_array h in grind (arith, both)
 
 goes_on_at : {T : Table} {e : TypeId} {limit : ℕ} {now rest : List Token} {vs : Trees} {b : List ℕ} (read : List Value)

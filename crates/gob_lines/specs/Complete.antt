@@ -1,8 +1,15 @@
 -- What is read where a line says something: that, and nothing else. (docs/FORMAT.md, The JSON lines.)
-use Rattle.std.specs.Prelude.{◌≡◌, ⊤, ℕ, ◌≤◌, ◌<◌, ◌^◌, List, [], Result, Ok, Err}
+use Rattle.std.specs.Prelude.{◌≡◌, ⊤, ℕ, ◌≤◌, ◌<◌, ◌^◌, List, [], ◌∷◌, Some, Result, Ok, Err}
 use Rattle.json.specs.Token.{Token}
+use Rattle.json.specs.Tree.{members_tokens}
+use Rattle.serde_json.specs.Written.{members_outline}
+use Rattle.gob_num.specs.Unsigned.{AreBytes}
 use Rattle.gob_types.specs.declared.id.TypeId.{TypeId}
 use Rattle.gob_types.specs.declared.kind.Field.{Field}
+use Rattle.gob_types.specs.declared.kind.Kind.{Kind}
+use Rattle.gob_types.specs.declared.kind.Kind.TheVariants as kind
+use Rattle.gob_types.specs.declared.kind.Shape.{Shape}
+use Rattle.gob_types.specs.Definable.{IsDefinable}
 use Rattle.gob_types.specs.Ready.{IsReady}
 use Rattle.gob_types.specs.Table.{Table}
 use Rattle.gob_value.specs.Bytes.{AllHoldBytes, PairsHoldBytes, FieldsHoldBytes}
@@ -10,6 +17,7 @@ use Rattle.gob_value.specs.Spelling.{SpellsEach, SpellsPairs, SpellsFields}
 use Rattle.gob_value.specs.Tree.{Tree, depth, Trees, trees_depth, Pairs, pairs_depth, Fields, fields_depth}
 use Rattle.gob_value.specs.View.{view}
 use Rattle.gob_json.specs.Json.{put_json}
+use Rattle.gob_json.specs.DefinitionJson.{definition_json, name_member}
 use Rattle.gob_lines.specs.Laws.{IsOfBytes}
 use Rattle.gob_lines.specs.Reads.{IsWrong, Reads}
 use Rattle.gob_lines.specs.declared.fault.LineFault.{LineFault}
@@ -64,7 +72,41 @@ ReadsPut (Ok (line.Put i w)) id v = (i ≡ id) × (view w ≡ v)
 ReadsPut (Ok (line.Unready i)) id v = ⊥
 ReadsPut (Err e) id v = ¬ IsWrong e
 
--- and none is left
+-- the fields of a struct's definition: their names are of bytes, and the numbers have 64 bits
+abbrev pub AreFieldTypesReadable : List Field → Type 0
+AreFieldTypesReadable [] = ⊤
+AreFieldTypesReadable (f ∷ fs) = AreBytes f.name × (f.id.0 < 2 ^ 64) × AreFieldTypesReadable fs
+
+-- and a kind
+abbrev pub IsKindReadable : Kind → Type 0
+IsKindReadable (kind.Basic b) = ⊥
+IsKindReadable (kind.Array e n) = (e.0 < 2 ^ 64) × (n < 2 ^ 64)
+IsKindReadable (kind.Slice e) = e.0 < 2 ^ 64
+IsKindReadable (kind.Struct fs) = AreFieldTypesReadable fs
+IsKindReadable (kind.Map k e) = (k.0 < 2 ^ 64) × (e.0 < 2 ^ 64)
+IsKindReadable (kind.Opaque m) = ⊤
+
+-- the tokens of the member that a definition ends with
+abbrev pub name_tokens : List ℕ → List Token
+name_tokens name = members_tokens (members_outline (name_member name))
+
+-- the tokens say this definition, of a shape that a description of bytes can give
+pub record SaysDefinition (ts : List Token) (id : TypeId) (s : Shape) : Type 0 where
+  pub definable : IsDefinable s
+  pub readable : IsKindReadable s.kind
+  pub name : AreBytes s.name
+  pub number : id.0 < 2 ^ 64
+  pub said : Reads (definition_json id (Some s)) ts []
+
+-- what a call answers that reads them: this definition, or there was no memory
+abbrev pub ReadsDefinition : Result Line LineFault → TypeId → Shape → Type 0
+ReadsDefinition (Ok line.Empty) id s = ⊥
+ReadsDefinition (Ok (line.Define i t)) id s = (i ≡ id) × (t ≡ s)
+ReadsDefinition (Ok (line.Put i w)) id s = ⊥
+ReadsDefinition (Ok (line.Unready i)) id s = ⊥
+ReadsDefinition (Err e) id s = ¬ IsWrong e
+
+-- and none of the tokens is left
 abbrev pub LeavesNone : Result Line LineFault → (new : List Token) → Type 0
 LeavesNone (Ok _) new = new ≡ []
 LeavesNone (Err e) new = ⊤

@@ -1,10 +1,17 @@
 //! The shape of a definition, read from the tokens of its line.
 
-ghost use Rattle.std.specs.Prelude.{◌≡◌, ◌∷◌, ◌++◌, ℕ, List, IfOk, OnOk, codes, decimal};
+ghost use Rattle.std.specs.Prelude.{◌≡◌, ◌∷◌, ◌++◌, ℕ, List, IfOk, OnOk, Some, codes, decimal};
 ghost use Rattle.json.specs.Token as token;
 ghost use Rattle.serde_json.specs.Data.{array, string};
+ghost use Rattle.gob_num.specs.Unsigned.{AreBytes};
 ghost use Rattle.gob_types.specs.Definable.{IsDefinable};
+ghost use Rattle.gob_types.specs.KindParts.{elem_named};
+ghost use Rattle.gob_types.specs.declared.kind.Field.{Field as FieldSpec};
+ghost use Rattle.gob_types.specs.declared.kind.Kind.{Kind as KindSpec};
+ghost use Rattle.gob_types.specs.declared.kind.Marshal.{Marshal as MarshalSpec};
+ghost use Rattle.gob_types.specs.declared.kind.Shape.{Shape as ShapeSpec};
 ghost use Rattle.gob_json.specs.DefinitionJson.{field_types_json, marshal_name, name_member, shape_members};
+ghost use Rattle.gob_lines.specs.Complete.{AreFieldTypesReadable, IsKindReadable, PassesIt, ReadsIt, name_tokens};
 ghost use Rattle.gob_lines.specs.Reads.{Reads, ReadsMembers};
 
 use crate::fault::{Due, LineFault};
@@ -18,6 +25,8 @@ use std::alloc::Global;
 pub(crate) fn read_shape(alloc: Global, tokens: &mut Reader<'_>) -> Result<Shape, LineFault>
     ensures read { IfOk result (λ s. ReadsMembers (shape_members s.kind s.name) tokens.old tokens.new) }
     ensures definable { IfOk result IsDefinable }
+    ensures whole { (s : ShapeSpec) (rest : List token.Token) → IsDefinable s → IsKindReadable s.kind → AreBytes s.name
+        → ReadsMembers (shape_members s.kind s.name) tokens.old rest → ReadsIt (λ x. x) result tokens.new s rest }
 {
     let at = tokens.offset();
     let shape = read_members(alloc, tokens)?;
@@ -29,7 +38,9 @@ pub(crate) fn read_shape(alloc: Global, tokens: &mut Reader<'_>) -> Result<Shape
 
 /// Reads the kind and the name.
 fn read_members(alloc: Global, tokens: &mut Reader<'_>) -> Result<Shape, LineFault>
-    ensures { IfOk result (λ s. ReadsMembers (shape_members s.kind s.name) tokens.old tokens.new) }
+    ensures read { IfOk result (λ s. ReadsMembers (shape_members s.kind s.name) tokens.old tokens.new) }
+    ensures whole { (s : ShapeSpec) (rest : List token.Token) → IsKindReadable s.kind → AreBytes s.name
+        → ReadsMembers (shape_members s.kind s.name) tokens.old rest → ReadsIt (λ x. x) result tokens.new s rest }
 {
     let kind = read_kind(alloc, tokens)?;
     take_key(alloc, tokens, "name")?;
@@ -43,8 +54,11 @@ fn read_members(alloc: Global, tokens: &mut Reader<'_>) -> Result<Shape, LineFau
 
 /// Reads the members that tell the kind.
 fn read_kind(alloc: Global, tokens: &mut Reader<'_>) -> Result<Kind, LineFault>
-    ensures { IfOk result (λ k. (name : List ℕ) (rest : List token.Token)
+    ensures read { IfOk result (λ k. (name : List ℕ) (rest : List token.Token)
         → ReadsMembers (name_member name) tokens.new rest → ReadsMembers (shape_members k name) tokens.old rest) }
+    ensures whole { (k : KindSpec) (name : List ℕ) (rest : List token.Token) → IsKindReadable k
+        → ReadsMembers (shape_members k name) tokens.old rest
+        → ReadsIt (λ x. x) result tokens.new k (name_tokens name ++ rest) }
 {
     let at = tokens.offset();
     match tokens.next() {
@@ -66,10 +80,14 @@ fn read_kind(alloc: Global, tokens: &mut Reader<'_>) -> Result<Kind, LineFault>
 
 /// Reads what tells an array, a slice and a map apart, behind the type of the elements.
 fn read_list_kind(alloc: Global, elem: TypeId, tokens: &mut Reader<'_>) -> Result<Kind, LineFault>
-    ensures { IfOk result (λ k. (name : List ℕ) (rest : List token.Token)
+    ensures read { IfOk result (λ k. (name : List ℕ) (rest : List token.Token)
         → ReadsMembers (name_member name) tokens.new rest
         → ReadsMembers (shape_members k name)
         (token.key (codes "elem") ∷ token.number (decimal elem.0) ∷ tokens.old) rest) }
+    ensures whole { (k : KindSpec) (name : List ℕ) (rest : List token.Token) → IsKindReadable k
+        → elem_named k ≡ Some elem → ReadsMembers (shape_members k name)
+        (token.key (codes "elem") ∷ token.number (decimal elem.0) ∷ tokens.old) rest
+        → ReadsIt (λ x. x) result tokens.new k (name_tokens name ++ rest) }
 {
     let at = tokens.offset();
     match tokens.next() {
@@ -96,7 +114,9 @@ fn read_list_kind(alloc: Global, elem: TypeId, tokens: &mut Reader<'_>) -> Resul
 
 /// Takes the member that tells this kind.
 fn take_kind(alloc: Global, tokens: &mut Reader<'_>, kind: &str) -> Result<(), LineFault>
-    ensures { OnOk result (tokens.old ≡ token.key (codes "kind") ∷ token.string kind.now ∷ tokens.new) }
+    ensures read { OnOk result (tokens.old ≡ token.key (codes "kind") ∷ token.string kind.now ∷ tokens.new) }
+    ensures whole { (rest : List token.Token) → tokens.old ≡ token.key (codes "kind") ∷ token.string kind.now ∷ rest
+        → PassesIt result tokens.new rest }
 {
     take_key(alloc, tokens, "kind")?;
     let at = tokens.offset();
@@ -108,7 +128,9 @@ fn take_kind(alloc: Global, tokens: &mut Reader<'_>, kind: &str) -> Result<(), L
 
 /// Reads the way in which an opaque type marshals itself.
 fn read_marshal(alloc: Global, tokens: &mut Reader<'_>) -> Result<Marshal, LineFault>
-    ensures { IfOk result (λ m. tokens.old ≡ token.string (marshal_name m) ∷ tokens.new) }
+    ensures read { IfOk result (λ m. tokens.old ≡ token.string (marshal_name m) ∷ tokens.new) }
+    ensures whole { (m : MarshalSpec) (rest : List token.Token) → tokens.old ≡ token.string (marshal_name m) ∷ rest
+        → ReadsIt (λ x. x) result tokens.new m rest }
 {
     let at = tokens.offset();
     match tokens.next() {
@@ -121,7 +143,10 @@ fn read_marshal(alloc: Global, tokens: &mut Reader<'_>) -> Result<Marshal, LineF
 
 /// Reads an array of the fields, each its name and its type.
 fn read_field_types(alloc: Global, tokens: &mut Reader<'_>) -> Result<Vec<Field>, LineFault>
-    ensures { IfOk result (λ fs. Reads (array (field_types_json fs.items)) tokens.old tokens.new) }
+    ensures read { IfOk result (λ fs. Reads (array (field_types_json fs.items)) tokens.old tokens.new) }
+    ensures whole { (fs : List FieldSpec) (rest : List token.Token) → AreFieldTypesReadable fs
+        → Reads (array (field_types_json fs)) tokens.old rest
+        → ReadsIt (λ read. read.items) result tokens.new fs rest }
 {
     take_array(alloc, tokens)?;
     let mut fields = Vec::new(alloc);

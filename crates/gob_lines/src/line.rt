@@ -4,8 +4,9 @@ ghost use Rattle.std.specs.Prelude.{◌≡◌, ℕ, List, IfOk};
 ghost use Rattle.json.specs.Lex as json;
 ghost use Rattle.gob_types.specs.Defined.{types};
 ghost use Rattle.gob_types.specs.declared.id.TypeId.{TypeId};
+ghost use Rattle.gob_types.specs.declared.kind.Shape as spec;
 ghost use Rattle.gob_value.specs.Tree.{Tree};
-ghost use Rattle.gob_lines.specs.Complete.{LeavesNone, ReadsPut, SaysPut};
+ghost use Rattle.gob_lines.specs.Complete.{LeavesNone, ReadsDefinition, ReadsPut, SaysDefinition, SaysPut};
 ghost use Rattle.gob_lines.specs.Tells.{Tells, TellsTokens};
 
 use crate::definition::read_shape;
@@ -54,6 +55,8 @@ pub fn read_line(
     ensures tells { IfOk result (λ said. Tells (types table.now) line.now said) }
     ensures whole { (id : TypeId) (v : Tree) → SaysPut (types table.now) depth (json.tokens line.now) id v
         → ReadsPut result id v }
+    ensures definition { (id : TypeId) (s : spec.Shape) → SaysDefinition (json.tokens line.now) id s
+        → ReadsDefinition result id s }
 {
     let mut tokens = Reader::new(line, scratch)?;
     match read_whole(alloc, table, depth, &mut tokens) {
@@ -73,6 +76,8 @@ fn read_whole(
         → tokens.old ≡ json.tokens text → Tells (types table.now) text said) }
     ensures whole { (id : TypeId) (v : Tree) → SaysPut (types table.now) depth tokens.old id v
         → ReadsPut result id v }
+    ensures definition { (id : TypeId) (s : spec.Shape) → SaysDefinition tokens.old id s
+        → ReadsDefinition result id s }
 {
     let said = read_item(alloc, table, depth, tokens)?;
     if matches!(said, Line::Unready { .. }) {
@@ -95,6 +100,8 @@ fn read_item(
     ensures tells { IfOk result (λ said. TellsTokens (types table.now) tokens.old said tokens.new) }
     ensures whole { (id : TypeId) (v : Tree) → SaysPut (types table.now) depth tokens.old id v
         → ReadsPut result id v × LeavesNone result tokens.new }
+    ensures definition { (id : TypeId) (s : spec.Shape) → SaysDefinition tokens.old id s
+        → ReadsDefinition result id s × LeavesNone result tokens.new }
 {
     let at = tokens.offset();
     match tokens.next() {

@@ -15,7 +15,7 @@ use Rattle.gob_stream.specs.declared.waiting.Waiting.{Waiting}
 use Rattle.gob_write.specs.Faults.{CountsReads, IsNoRead}
 use Rattle.gob_write.specs.Lines.{AreLines, no_line, one_more, first_line, behind_line, IsLeft, NextLine, Waits}
 use Rattle.gob_write.specs.Says.{HasWrittenLines, WroteLine, wrote_nothing, wrote_said, LineAnswers, RefusesLine}
-use Rattle.gob_write.specs.Says.{SaysNoValue, WroteSome}
+use Rattle.gob_write.specs.Says.{SaysNoItem, WroteSome}
 use Rattle.gob_write.specs.Running.{SayStream, say_nothing, say_no_more, say_one_more, WroteLines, IsAll}
 use Rattle.gob_write.specs.Running.{IsSome, IsLongNext, IsWrongNext, RefusesNext, CutsNext, WriteLinesAnswers}
 use Rattle.gob_write.specs.declared.fault.LinesFault.{LinesFault}
@@ -219,7 +219,7 @@ stops_there {L = L} w' now' (fault.Wrong m column path due) h some is answers =
     so_far (IsWrongNext L m) (kept_sent now' answers.2 h) (
       some,
       answers.0 ∙ ap (λ k. k + 1) (sym h.count),
-      subst (λ (l : List ℕ). IsUtf8 l → SaysNoValue L h.table (length h.out) l) is answers.1,
+      subst (λ (l : List ℕ). IsUtf8 l → SaysNoItem L h.table (length h.out) l) is answers.1,
     )
 stops_there {L = L} w' now' (fault.Refused m r) h some is answers =
     so_far (RefusesNext L m r) (kept_sent now' answers.2 h) (

@@ -1,7 +1,6 @@
 -- What a writer answers of an item is what is due of the line that says it.
-use Rattle.std.proofs.Common.{◌≡◌, ℕ, ◌^◌, ◌<◌, refl, arith, List, [], ◌∷◌, ◌++◌, length, Option, Some, Result, Ok, Err}
+use Rattle.std.proofs.Common.{◌≡◌, ℕ, ◌^◌, ◌<◌, refl, arith, List, [], length, Option, Some, Result, Ok, Err}
 use Rattle.std.proofs.Common.{subst, sym, ap, ◌∙◌}
-use Rattle.std.specs.Prelude.{IsErrAnd}
 use Rattle.std.proofs.KnownBytes.{Keeps-refl}
 use Rattle.std.specs.Str.{IsUtf8}
 use Rattle.std.proofs.lemmas.Int.{ints}
@@ -21,15 +20,16 @@ use Rattle.gob_types.specs.Denial.{IsDenial}
 use Rattle.gob_types.specs.Definable.{IsDefinable}
 use Rattle.gob_types.specs.declared.kind.Shape.{Shape}
 use Rattle.gob_types.specs.Table.{Table}
+use Rattle.gob_value.specs.Bytes.{HoldsBytes}
 use Rattle.gob_value.specs.Tree.{Tree}
 use Rattle.gob_value.specs.Described.{described}
 use Rattle.gob_value.specs.Fits.{Fits}
 use Rattle.gob_value.specs.Top.{SpellsTop, at_once, tagged}
-use Rattle.gob_value.proofs.BytesLaws.{top_bytes}
+use Rattle.gob_value.proofs.BytesLaws.{spelled_bytes, top_bytes}
 use Rattle.gob_stream.specs.Bounds.{Bounds, greatest_depth, within_trees}
 use Rattle.gob_stream.proofs.Reader.HasReadLaws.{limits_stay}
 use Rattle.gob_stream.specs.Item.{StreamItem, defines, puts}
-use Rattle.gob_stream.specs.Body.{Body, value}
+use Rattle.gob_stream.specs.Body.{Body, definition, value}
 use Rattle.gob_stream.specs.Stream.{IsItem, counted}
 use Rattle.gob_stream.specs.WriterRefusal.{RefusesId, RefusesType, refused_id}
 use Rattle.gob_stream.specs.Machine.Denial.{write_fault}
@@ -41,7 +41,8 @@ use Rattle.gob_stream.specs.declared.fault.WriteFault.TheVariants as fault
 use Rattle.gob_stream.specs.declared.output.Output.{Output}
 use Rattle.gob_json.specs.Json.{put_json}
 use Rattle.gob_json.specs.DefinitionJson.{definition_json}
-use Rattle.gob_lines.specs.Complete.{SaysPut}
+use Rattle.gob_lines.specs.Complete.{SaysDefinition, SaysPut}
+use Rattle.gob_lines.proofs.ShapeLaws.{shape_readable}
 use Rattle.gob_lines.specs.Reads.{Reads}
 use Rattle.gob_lines.specs.Tells.{Tells, TellsUnready}
 use Rattle.gob_lines.specs.declared.line.Line.{Line}
@@ -49,7 +50,7 @@ use Rattle.gob_lines.specs.declared.line.Line.TheVariants as line
 use Rattle.gob_write.specs.Faults.{IsWrongAt}
 use Rattle.gob_write.specs.declared.fault.LinesFault.{LinesFault}
 use Rattle.gob_write.specs.declared.fault.LinesFault.TheVariants as lines
-use Rattle.gob_write.specs.Says.{SaysItem, SaysNoValue, LineAnswers, says_value, refuses_item, refuses_type}
+use Rattle.gob_write.specs.Says.{SaysItem, SaysNoItem, LineAnswers, says_value, refuses_item, refuses_type}
 use Rattle.gob_write.specs.Says.{WritesSaid, HasWrittenLines}
 use Rattle.gob_write.specs.Says.{HasDefinableShape}
 use Rattle.gob_write.specs.Says.{wrote_said, says_definition}
@@ -150,7 +151,7 @@ id_refused L w' id s r line items bytes T old definable reads why = (
   Keeps-refl old,
 )
 
--- ---- a value that goes on the stream can be read
+-- ---- an item that goes on the stream can be read
 
 top_fits : {T : Table} {t : TypeId} {v : Tree} {b : List ℕ} → SpellsTop T t v b → Fits T t v
 top_fits (at_once {b = b} e k p) = record { bytes = b; spelled = p }
@@ -176,25 +177,47 @@ item_readable : {L : Bounds} {T U : Table} {offset : ℕ} {id : TypeId} {v : Tre
 item_readable ts bytes ready said (counted {c = c} {d = d} count item stream body) =
     body_readable ts (bytes_rest c d bytes) ready said body
 
-line_readable : {L : Bounds} {T U : Table} {offset : ℕ} {id : TypeId} {v : Tree} {b : List ℕ} (line : List ℕ)
-    → AreBytes b → SaysItem T line (puts id v) → IsItem base_table L T offset (puts id v) b U
-    → SaysPut T L.depth (tokens line) id v
-line_readable line bytes (says_value ready said) item = item_readable (tokens line) bytes ready said item
+definition_readable : {L : Bounds} {T U : Table} {id : TypeId} {s : Shape} {v : Tree} {d : List ℕ} (ts : List Token)
+    → AreBytes d → IsDefinable s → (id.0 < 2 ^ 63 → v ≡ described id s) → Reads (definition_json id (Some s)) ts []
+    → Body base_table L T (defines id v) d U → SaysDefinition ts id s
+definition_readable {id = id} {s = s} ts bytes definable is said (definition {a = a} {b = b} may deep d n number p) =
+    let small : id.0 < 2 ^ 63 = omega (arith, may.own.1) in
+    let holds = (spelled_bytes p).0 (bytes_rest a b bytes) in
+    let told = shape_readable id s definable (subst (λ (w : Tree). HoldsBytes w) (is small) holds) in
+    record { definable = definable; readable = told.0; name = told.1; number = omega (arith, small); said = said }
 
--- of a line that can't be read no value goes on the stream
-pub says_no_value : {L : Bounds} {w : LineWriter} {items : List StreamItem} {bytes line : List ℕ} {T : Table}
+defines_readable : {L : Bounds} {T U : Table} {offset : ℕ} {id : TypeId} {s : Shape} {v : Tree} {b : List ℕ}
+    (ts : List Token) → AreBytes b → IsDefinable s → (id.0 < 2 ^ 63 → v ≡ described id s)
+    → Reads (definition_json id (Some s)) ts [] → IsItem base_table L T offset (defines id v) b U
+    → SaysDefinition ts id s
+defines_readable ts bytes definable is said (counted {c = c} {d = d} count item stream body) =
+    definition_readable ts (bytes_rest c d bytes) definable is said body
+
+no_item_said : {L : Bounds} {T U : Table} {offset : ℕ} {i : StreamItem} {b : List ℕ} (line : List ℕ)
+    → ((id : TypeId) (v : Tree) → SaysPut T L.depth (tokens line) id v → ⊥)
+    → ((id : TypeId) (s : Shape) → SaysDefinition (tokens line) id s → ⊥)
+    → AreBytes b → SaysItem T line i → IsItem base_table L T offset i b U → ⊥
+no_item_said line none undefined bytes (says_value {id = id} {v = v} ready said) item =
+    none id v (item_readable (tokens line) bytes ready said item)
+no_item_said line none undefined bytes (says_definition {id = id} s definable is said) item =
+    undefined id s (defines_readable (tokens line) bytes definable is said item)
+
+-- of a line that can't be read no item goes on the stream
+pub says_no_item : {L : Bounds} {w : LineWriter} {items : List StreamItem} {bytes line : List ℕ} {T : Table}
     → HasWrittenLines L w items bytes T
     → ((id : TypeId) (v : Tree) → SaysPut (types w.writer.types) w.depth (tokens line) id v → ⊥)
-    → SaysNoValue L T (length bytes) line
-says_no_value {L = L} {w = w} {line = line} h none = λ id v b U are_bytes says item.
-    none id v (subst (λ (m : ℕ). SaysPut (types w.writer.types) m (tokens line) id v) (sym h.depth)
-    (subst (λ (K : Table). SaysPut K L.depth (tokens line) id v) (sym h.written.table)
-    (line_readable line are_bytes says item)))
+    → ((id : TypeId) (s : Shape) → SaysDefinition (tokens line) id s → ⊥)
+    → SaysNoItem L T (length bytes) line
+says_no_item {L = L} {w = w} {line = line} {T = T} h none undefined = λ i b U are_bytes says item.
+    no_item_said line (λ id v put. none id v
+    (subst (λ (m : ℕ). SaysPut (types w.writer.types) m (tokens line) id v) (sym h.depth)
+    (subst (λ (K : Table). SaysPut K L.depth (tokens line) id v) (sym h.written.table) put)))
+    undefined are_bytes says item
 
 -- a line with which something is wrong
 pub wrong_answers : (L : Bounds) (w' : LineWriter) (items : List StreamItem) (bytes : List ℕ) (T : Table)
     (line : List ℕ) (number : ℕ) (old : Option (List ℕ)) (f : LinesFault) → IsWrongAt number f
-    → (IsUtf8 line → SaysNoValue L T (length bytes) line)
+    → (IsUtf8 line → SaysNoItem L T (length bytes) line)
     → LineAnswers L w' items bytes T line number old old (Err f)
 wrong_answers L w' items bytes T line number old (lines.Wrong n column path due) is none = (is, none, Keeps-refl old)
 wrong_answers L w' items bytes T line number old (lines.Refused n r) is none = absurd is

@@ -10,7 +10,7 @@ use Rattle.gob_stream.specs.Bounds.{Bounds}
 use Rattle.gob_stream.specs.Item.{StreamItem}
 use Rattle.gob_stream.specs.Stream.{IsItem, Stream}
 use Rattle.gob_write.specs.Lines.{AreLines, first_line}
-use Rattle.gob_write.specs.Says.{SaysItem, SaysNoValue, RefusesLine, WroteSome}
+use Rattle.gob_write.specs.Says.{SaysItem, SaysNoItem, RefusesLine, WroteSome}
 use Rattle.gob_write.specs.declared.fault.LinesFault.{LinesFault}
 use Rattle.gob_write.specs.declared.fault.LinesFault.TheVariants as fault
 
@@ -39,10 +39,10 @@ pub record WroteLines (L : Bounds) (most : ℕ) (bytes : List ℕ) (old mid : Op
   pub sent : Appends old mid out
   pub holds : P (length lines) table out rest
 
--- the next line is the one of this number, and it is no text, or says no value that goes on the stream
+-- the next line is the one of this number, and it is no text, or says no item that goes on the stream
 abbrev pub IsWrongNext : Bounds → ℕ → ℕ → Table → List ℕ → List ℕ → Type 0
 IsWrongNext L n count T out rest = (rest ≢ []) × (n ≡ count + 1)
-    × (IsUtf8 (first_line rest) → SaysNoValue L T (length out) (first_line rest))
+    × (IsUtf8 (first_line rest) → SaysNoItem L T (length out) (first_line rest))
 
 -- or no stream goes on with it for this reason
 abbrev pub RefusesNext : Bounds → ℕ → Reason → ℕ → Table → List ℕ → List ℕ → Type 0

@@ -50,10 +50,10 @@ pub data RefusesLine (L : Bounds) (T : Table) (offset : ℕ) (line : List ℕ) :
   refuses_type : (id : TypeId) {r : Reason} → TellsUnready T id (tokens line) → RefusesType T id r
       → RefusesLine L T offset line r
 
--- no value that the line says goes on a stream of these types at this offset
-abbrev pub SaysNoValue : Bounds → Table → (offset : ℕ) → (line : List ℕ) → Type 0
-SaysNoValue L T offset line = (id : TypeId) (v : Tree) (b : List ℕ) (U : Table) → AreBytes b
-    → SaysItem T line (puts id v) → IsItem base_table L T offset (puts id v) b U → ⊥
+-- no item that the line says goes on a stream of these types at this offset
+abbrev pub SaysNoItem : Bounds → Table → (offset : ℕ) → (line : List ℕ) → Type 0
+SaysNoItem L T offset line = (i : StreamItem) (b : List ℕ) (U : Table) → AreBytes b → SaysItem T line i
+    → IsItem base_table L T offset i b U → ⊥
 
 -- the writer has written these items under these limits, as these bytes, and reads lines by their types, no deeper
 -- than a stream's values may be
@@ -102,7 +102,7 @@ abbrev pub LineAnswers : Bounds → LineWriter → List StreamItem → List ℕ 
     → (number : ℕ) → (old new : Option (List ℕ)) → Result (Unit {0}) LinesFault → Type 0
 LineAnswers L w' items bytes T line number old new (Ok _) = WroteLine L w' items bytes T line old new
 LineAnswers L w' items bytes T line number old new (Err (fault.Wrong n column path due)) = (n ≡ number)
-    × (IsUtf8 line → SaysNoValue L T (length bytes) line) × Keeps old new
+    × (IsUtf8 line → SaysNoItem L T (length bytes) line) × Keeps old new
 LineAnswers L w' items bytes T line number old new (Err (fault.Refused n r)) = (n ≡ number)
     × RefusesLine L T (length bytes) line r × Keeps old new
 LineAnswers L w' items bytes T line number old new (Err (fault.TooLong n m)) = ⊥

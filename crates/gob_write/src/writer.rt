@@ -6,6 +6,7 @@ ghost use Rattle.json.specs.Lex.{tokens};
 ghost use Rattle.gob_types.specs.Base.{base_table};
 ghost use Rattle.gob_types.specs.Definable.{IsDefinable};
 ghost use Rattle.gob_types.specs.declared.id.TypeId.{TypeId};
+ghost use Rattle.gob_types.specs.declared.kind.Shape.{Shape as DefinedShape};
 ghost use Rattle.gob_value.specs.Tree.{Tree};
 ghost use Rattle.gob_types.specs.Table as known;
 ghost use Rattle.gob_json.specs.DefinitionJson.{definition_json};
@@ -13,7 +14,7 @@ ghost use Rattle.gob_stream.specs.Bounds.{Bounds, within_trees};
 ghost use Rattle.gob_stream.specs.Item.{StreamItem};
 ghost use Rattle.gob_stream.specs.Calls.Ends.{failed_writes, writer_of};
 ghost use Rattle.gob_stream.specs.Calls.Writing.{CountsWriterFaults, writer_types};
-ghost use Rattle.gob_lines.specs.Complete.{SaysPut};
+ghost use Rattle.gob_lines.specs.Complete.{SaysDefinition, SaysPut};
 ghost use Rattle.gob_lines.specs.Reads.{IsWrong, Reads};
 ghost use Rattle.gob_lines.specs.Tells.{Tells};
 ghost use Rattle.gob_write.specs.Faults.{CountsWrites, IsNoRead};
@@ -90,6 +91,8 @@ impl LineWriter {
         ensures said { IfOk result (λ said. Tells (writer_types self.old.writer) line.now said) }
         ensures none { IfErr result (λ fault. IsWrong fault → IsUtf8 line.now → (id : TypeId) (v : Tree)
             → SaysPut (writer_types self.old.writer) self.old.depth (tokens line.now) id v → ⊥) }
+        ensures undefined { IfErr result (λ fault. IsWrong fault → IsUtf8 line.now → (id : TypeId)
+            (s : DefinedShape) → SaysDefinition (tokens line.now) id s → ⊥) }
         ensures writer { self.new.writer ≡ self.old.writer }
         ensures depth { self.new.depth ≡ self.old.depth }
     {

@@ -10,6 +10,7 @@ use Rattle.gob_value.specs.View.{view}
 use Rattle.gob_json.specs.Json.{value_json}
 use Rattle.gob_lines.proofs.PutLaws.{fault_puts, put_front}
 use Rattle.gob_lines.proofs.ReadLaws.{two_members}
+use Rattle.gob_lines.proofs.ShapeLaws.{define_front}
 use Rattle.gob_lines.proofs.UniqueLaws.{behind}
 use Rattle.gob_lines.proofs.line.read_item.Goals as goal
 
@@ -84,3 +85,15 @@ returns-in_ok-take_object_end-in-Some-Key-type-clause-whole c = λ id v says.
       (stands.same, value.0),
       ap behind (sym c.in_ok-take_object_end-in-Some-Key-type.ensures.ok ∙ value.1),
     )
+
+pub returns-in_ok-shape-in-Some-Key-define-clause-definition :
+    goal.returns-in_ok-shape-in-Some-Key-define-clause-definition
+returns-in_ok-shape-in-Some-Key-define-clause-definition c = λ id s says.
+    let object = rw c.in-Some-BeginObject.field-0-is at c.in-Some-BeginObject.ensures.value in
+    let key = rw c.in-Some-Key-define.field-0-is at c.in-Some-Key-define.ensures.value in
+    let named = rw c.in-Some-Key-define.is-define at key in
+    let stands = define_front c.in_ok-read_uint-in-Some-Key-define.field-0 says object named
+    c.in_ok-read_uint-in-Some-Key-define.ensures.fits c.in_ok-read_uint-in-Some-Key-define.ensures.ok in
+    let shape = c.in_ok-shape-in-Some-Key-define.ensures.whole s [] says.definable says.readable says.name
+    stands.stand in
+    ((stands.same, shape.0), shape.1)

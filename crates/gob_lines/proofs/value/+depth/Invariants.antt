@@ -1,5 +1,5 @@
 -- What was read stands before the rest, and where values stand that can be read, so do those behind them.
-use Rattle.std.proofs.Common.{◌+◌, ◌*◌, ◌^◌, ◌≤◌, length}
+use Rattle.std.proofs.Common.{◌+◌, ◌*◌, length}
 use Rattle.gob_lines.proofs.ReadLaws.{HasReadParts, element_tokens, pair_tokens, field_tokens}
 use Rattle.gob_lines.proofs.WholeLaws.{LeavesElements, LeavesPairs, LeavesFields}
 use Rattle.gob_lines.proofs.value.+depth.Given as goal

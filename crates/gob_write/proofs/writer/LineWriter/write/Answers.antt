@@ -1,5 +1,5 @@
 use Rattle.gob_stream.specs.Bounds.{within_trees}
-use Rattle.gob_write.proofs.SaidLaws.{same_writer, says_no_value, shape_told, wrong_answers}
+use Rattle.gob_write.proofs.SaidLaws.{same_writer, says_no_item, shape_told, wrong_answers}
 use Rattle.gob_write.proofs.writer.LineWriter.write.Goals as goal
 
 pub write_said-requires : goal.write_said-requires
@@ -18,5 +18,6 @@ returns-in-Ok-clause-counted g c = c.told.ensures.counted _ _ c.write_said.ensur
 pub returns-in-Err-Wrong-clause-says : goal.returns-in-Err-Wrong-clause-says
 returns-in-Err-Wrong-clause-says g c = λ L items bytes T h.
     let none = rw c.in-Err-Wrong.field-0-is at c.in-Err-Wrong.ensures.none in
+    let undefined = rw c.in-Err-Wrong.field-0-is at c.in-Err-Wrong.ensures.undefined in
     wrong_answers (within_trees L) c.said.new.self items bytes T c.args.line.now c.args.number _ c.wrong.result
-    c.wrong.ensures (λ text. says_no_value h (none tt text))
+    c.wrong.ensures (λ text. says_no_item h (none tt text) (undefined tt text))
