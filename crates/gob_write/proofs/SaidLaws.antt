@@ -171,7 +171,7 @@ body_readable ts bytes ready said (value {a = a} {b = b} may deep number top) =
       said = said;
     }
 
-item_readable : {L : Bounds} {T U : Table} {offset : ℕ} {id : TypeId} {v : Tree} {b : List ℕ} (ts : List Token)
+pub item_readable : {L : Bounds} {T U : Table} {offset : ℕ} {id : TypeId} {v : Tree} {b : List ℕ} (ts : List Token)
     → AreBytes b → IsReady T id → Reads (put_json T id v) ts [] → IsItem base_table L T offset (puts id v) b U
     → SaysPut T L.depth ts id v
 item_readable ts bytes ready said (counted {c = c} {d = d} count item stream body) =
@@ -186,7 +186,7 @@ definition_readable {id = id} {s = s} ts bytes definable is said (definition {a 
     let told = shape_readable id s definable (subst (λ (w : Tree). HoldsBytes w) (is small) holds) in
     record { definable = definable; readable = told.0; name = told.1; number = omega (arith, small); said = said }
 
-defines_readable : {L : Bounds} {T U : Table} {offset : ℕ} {id : TypeId} {s : Shape} {v : Tree} {b : List ℕ}
+pub defines_readable : {L : Bounds} {T U : Table} {offset : ℕ} {id : TypeId} {s : Shape} {v : Tree} {b : List ℕ}
     (ts : List Token) → AreBytes b → IsDefinable s → (id.0 < 2 ^ 63 → v ≡ described id s)
     → Reads (definition_json id (Some s)) ts [] → IsItem base_table L T offset (defines id v) b U
     → SaysDefinition ts id s
