@@ -1,0 +1,4 @@
+pub mod TextLaws
+pub mod NextLaws
+pub mod CutterLaws
+pub mod RunLaws

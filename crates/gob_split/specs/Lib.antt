@@ -1,0 +1,5 @@
+pub mod Parts
+pub mod Text
+pub mod Split
+pub mod Running
+pub mod Machine
