@@ -1,0 +1,6 @@
+pub mod FieldLaws
+pub mod JoiningLaws
+pub mod NumberLaws
+pub mod RenamedLaws
+pub mod TakingLaws
+pub mod ValueLaws

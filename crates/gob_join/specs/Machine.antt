@@ -1,0 +1,4 @@
+pub mod Joining
+pub mod Numbered
+pub mod Renamed
+pub mod Taking
