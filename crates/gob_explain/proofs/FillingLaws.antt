@@ -6,7 +6,7 @@ use Rattle.gob_types.specs.declared.id.TypeId.{TypeId}
 use Rattle.gob_types.specs.Table.{Table}
 use Rattle.gob_explain.specs.Open.{Open, a_filling, a_value, count, description, name}
 use Rattle.gob_explain.specs.declared.row.PartStep.{PartStep}
-use Rattle.gob_explain.specs.declared.stop.Stop.{Stop}
+use Rattle.gob_explain.specs.declared.stop.RowStop.{RowStop}
 use Rattle.gob_explain.specs.Walk.{Ends}
 use Rattle.gob_explain.specs.Machine.Walking.{Tells, Told, Walks, WalksTo}
 use Rattle.gob_explain.proofs.TakesLaws.{behind_nil, behind_type}
@@ -46,7 +46,7 @@ module _ {S E : Type 0} (tells : Tells S E) where
 
   -- a filling in the place of nil
   pub filled_walks : (T : Table) (bytes : List ℕ) (most : ℕ) (t : TypeId) (base : ℕ) (p : List ℕ) (outer : List Open)
-      (at : ℕ) (old : S × List PartStep) (new : S) (W : List ℕ → Type 0) (r : Result ℕ (Stop E)) → W (0 ∷ [])
+      (at : ℕ) (old : S × List PartStep) (new : S) (W : List ℕ → Type 0) (r : Result ℕ (RowStop E)) → W (0 ∷ [])
       → WalksTo tells T bytes most (a_value t base p ∷ outer) at old new (a_value t base (p ++ 0 ∷ []) ∷ outer) r
       → Walks tells T bytes most t base p outer at old new W r
   filled_walks T bytes most t base p outer at old new W (Ok end) w h = (0 ∷ [], w, h)
@@ -54,7 +54,7 @@ module _ {S E : Type 0} (tells : Tells S E) where
 
   pub walks_to_on : Joins tells → (last : List Open) → {T : Table} {bytes : List ℕ} {opens mid : List Open}
       {at place : ℕ} {old : S × List PartStep} {here : S} (most : ℕ) (new : S)
-      → Told tells T bytes opens at old (here, old.1) (Ok tt) mid place → (r : Result ℕ (Stop E))
+      → Told tells T bytes opens at old (here, old.1) (Ok tt) mid place → (r : Result ℕ (RowStop E))
       → WalksTo tells T bytes most mid place (here, old.1) new last r
       → WalksTo tells T bytes most opens at old new last r
   walks_to_on joins last most new h (Ok end) q = told_then tells joins h q
@@ -62,7 +62,7 @@ module _ {S E : Type 0} (tells : Tells S E) where
 
   -- a whole value ends, and the walk goes on
   pub walks_to_end : {T : Table} {t : TypeId} {base : ℕ} {outer last : List Open} {V : List ℕ → Type 0}
-      (bytes : List ℕ) (at : ℕ) (old : S × List PartStep) (most : ℕ) (new : S) (r : Result ℕ (Stop E))
+      (bytes : List ℕ) (at : ℕ) (old : S × List PartStep) (most : ℕ) (new : S) (r : Result ℕ (RowStop E))
       → Walks tells T bytes most t base [] outer at old new V r
       → ((b : List ℕ) → V b → Ends T (a_value t base b ∷ outer) last)
       → WalksTo tells T bytes most (a_value t base [] ∷ outer) at old new last r

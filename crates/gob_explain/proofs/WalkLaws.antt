@@ -17,8 +17,8 @@ use Rattle.gob_explain.specs.declared.row.Row.{Row}
 use Rattle.gob_explain.specs.declared.row.PartStep.{PartStep}
 use Rattle.gob_explain.specs.declared.row.What.{What}
 use Rattle.gob_explain.specs.declared.row.What.TheVariants as what
-use Rattle.gob_explain.specs.declared.stop.Stop.{Stop}
-use Rattle.gob_explain.specs.declared.stop.Stop.TheVariants as stops
+use Rattle.gob_explain.specs.declared.stop.RowStop.{RowStop}
+use Rattle.gob_explain.specs.declared.stop.RowStop.TheVariants as stops
 use Rattle.gob_explain.specs.Walk.{Awaits, BeginsPart, Ends, RowsLead, Steps, StopsAt, between}
 use Rattle.gob_explain.specs.Walk as walk
 use Rattle.gob_explain.specs.Machine.Walking.{AllowsRange, Fails, Takes, Tells, Told, Walks, WalksNumber}
@@ -143,14 +143,14 @@ module _ {S E : Type 0} (tells : Tells S E) where
 
   pub fails_then : Joins → {T : Table} {bytes : List ℕ} {opens mid : List Open} {at place : ℕ}
       {old here : S × List PartStep} (most : ℕ) (new : S) → Told tells T bytes opens at old here (Ok tt) mid place
-      → (f : Stop E)
+      → (f : RowStop E)
       → Fails tells T bytes most mid place here new f → Fails tells T bytes most opens at old new f
   fails_then joins most new p (stops.Here place awaited) q = (q.0, q.1, told_then joins p q.2, q.3, q.4)
   fails_then joins most new p (stops.Sink e) q = (q.0, q.1, q.2, told_then joins p q.3)
 
   -- a `?` ends the walk
   pub walk_failed : (T : Table) (bytes : List ℕ) (most : ℕ) (t : TypeId) (base : ℕ) (p : List ℕ) (outer : List Open)
-      (at : ℕ) (old : S × List PartStep) (new : S) (Whole : List ℕ → Type 0) (f : Stop E) (q : Result ℕ (Stop E))
+      (at : ℕ) (old : S × List PartStep) (new : S) (Whole : List ℕ → Type 0) (f : RowStop E) (q : Result ℕ (RowStop E))
       → IsErrAnd q (λ e. e ≡ f)
       → Fails tells T bytes most (a_value t base p ∷ outer) at old new f
       → Walks tells T bytes most t base p outer at old new Whole q
@@ -159,7 +159,7 @@ module _ {S E : Type 0} (tells : Tells S E) where
       subst (λ f. Fails tells T bytes most (a_value t base p ∷ outer) at old new f) (sym h) w
 
   pub walk_to_failed : (T : Table) (bytes : List ℕ) (most : ℕ) (opens : List Open) (at : ℕ)
-      (old : S × List PartStep) (new : S) (last : List Open) (f : Stop E) (q : Result ℕ (Stop E))
+      (old : S × List PartStep) (new : S) (last : List Open) (f : RowStop E) (q : Result ℕ (RowStop E))
       → IsErrAnd q (λ e. e ≡ f)
       → Fails tells T bytes most opens at old new f → WalksTo tells T bytes most opens at old new last q
   walk_to_failed T bytes most opens at old new last f (Ok x) h w = absurd h
@@ -167,8 +167,8 @@ module _ {S E : Type 0} (tells : Tells S E) where
       subst (λ f. Fails tells T bytes most opens at old new f) (sym h) w
 
   pub number_failed : (T : Table) (bytes : List ℕ) (most : ℕ) (first : List Open) (at : ℕ)
-      (old : S × List PartStep) (new : S) (next : ℕ → List ℕ → List Open) (Whole : ℕ → ℕ → Type 0) (f : Stop E)
-      (q : Result (ℕ × ℕ) (Stop E))
+      (old : S × List PartStep) (new : S) (next : ℕ → List ℕ → List Open) (Whole : ℕ → ℕ → Type 0) (f : RowStop E)
+      (q : Result (ℕ × ℕ) (RowStop E))
       → IsErrAnd q (λ e. e ≡ f) → Fails tells T bytes most first at old new f
       → WalksNumber tells T bytes most first at old new next Whole q
   number_failed T bytes most first at old new next Whole f (Ok x) h w = absurd h
@@ -176,7 +176,7 @@ module _ {S E : Type 0} (tells : Tells S E) where
       subst (λ f. Fails tells T bytes most first at old new f) (sym h) w
 
   pub raw_failed : (T : Table) (bytes : List ℕ) (most : ℕ) (first : List Open) (at count : ℕ)
-      (old : S × List PartStep) (new : S) (next : ℕ → List ℕ → List Open) (f : Stop E) (q : Result ℕ (Stop E))
+      (old : S × List PartStep) (new : S) (next : ℕ → List ℕ → List Open) (f : RowStop E) (q : Result ℕ (RowStop E))
       → IsErrAnd q (λ e. e ≡ f)
       → Fails tells T bytes most first at old new f → WalksRaw tells T bytes most first at count old new next q
   raw_failed T bytes most first at count old new next f (Ok x) h w = absurd h
@@ -187,7 +187,7 @@ module _ {S E : Type 0} (tells : Tells S E) where
   pub walks_on_raw : Joins → (W : List ℕ → Type 0) → {T : Table} {t : TypeId} {base : ℕ} {outer : List Open}
       {bytes : List ℕ} {at mid count : ℕ} {old : S × List PartStep} {here : S} (most : ℕ) (new : S) (p a : List ℕ)
       → Told tells T bytes (a_value t base p ∷ outer) at old (here, old.1) (Ok tt) (a_value t base (p ++ a) ∷ outer) mid
-      → (r : Result ℕ (Stop E))
+      → (r : Result ℕ (RowStop E))
       → WalksRaw tells T bytes most (a_value t base (p ++ a) ∷ outer) mid count (here, old.1) new
       (goes_on t base (p ++ a) outer) r
       → ((b : List ℕ) → length b ≡ count → W (a ++ b)) → Walks tells T bytes most t base p outer at old new W r
@@ -204,7 +204,7 @@ module _ {S E : Type 0} (tells : Tells S E) where
       {outer : List Open}
       {bytes : List ℕ} {at mid : ℕ} {old : S × List PartStep} {here : S} (most : ℕ) (new : S) (p a : List ℕ)
       → Told tells T bytes (a_value t base p ∷ outer) at old (here, old.1) (Ok tt) (a_value t base (p ++ a) ∷ outer) mid
-      → (r : Result ℕ (Stop E)) → Walks tells T bytes most t base (p ++ a) outer mid (here, old.1) new V r
+      → (r : Result ℕ (RowStop E)) → Walks tells T bytes most t base (p ++ a) outer mid (here, old.1) new V r
       → ((b : List ℕ) → V b → W (a ++ b)) → Walks tells T bytes most t base p outer at old new W r
   walks_on joins W most new p a h (Ok end) q f =
       (a ++ q.0, f q.0 q.1, told_more p a q.0 (told_then joins h q.2))
@@ -259,8 +259,8 @@ any_range n l = (λ p. tt, λ u. (omega arith, omega arith))
 pub delta_range : {k m : ℕ} → m ≡ k → AllowsRange (delta k) 0 m
 delta_range e n l = (λ p. omega (arith, p.1), λ u. (omega arith, omega arith))
 
-pub array_range : (n : ℕ) → AllowsRange (expected.array_count n) n n
-array_range m n l = (λ p. omega (arith, p.0, p.1), λ u. (omega arith, omega arith))
+pub array_range : {k low high : ℕ} → low ≡ k → high ≡ k → AllowsRange (expected.array_count k) low high
+array_range d e n l = (λ p. omega (arith, p.0, p.1), λ u. (omega arith, omega arith))
 
 pub tag_range : AllowsRange tag 0 0
 tag_range n l = (λ p. omega (arith, p.1), λ u. (omega arith, omega arith))

@@ -4,9 +4,9 @@ ghost use Rattle.std.specs.Prelude.{◌≤◌};
 ghost use Rattle.gob_types.specs.Defined.{types};
 ghost use Rattle.gob_explain.specs.Body.{WalksBody};
 
-use crate::row::{Awaited, Part};
+use crate::row::{Awaited, RowPart};
 use crate::sink::RowSink;
-use crate::stop::Stop;
+use crate::stop::RowStop;
 use crate::walk::{Walk, walk_value};
 use gob_types::{Table, TypeId};
 
@@ -35,7 +35,7 @@ pub fn walk_body<O: RowSink>(
     requires { most ≤ 1000 }
     ensures { WalksBody O.tells (types table.now) id body.now most out.old out.new result }
 {
-    let part = Part { id, depth: 1 };
+    let part = RowPart { id, depth: 1 };
     let walk = Walk { table, body, most };
     match walk_value(&walk, part, 0, out) {
         Ok(place) => Ok(Walked {
@@ -43,11 +43,11 @@ pub fn walk_body<O: RowSink>(
             whole: true,
             awaited: None,
         }),
-        Err(Stop::Here(place, awaited)) => Ok(Walked {
+        Err(RowStop::Here(place, awaited)) => Ok(Walked {
             place,
             whole: false,
             awaited: Some(awaited),
         }),
-        Err(Stop::Sink(fault)) => Err(fault),
+        Err(RowStop::Sink(fault)) => Err(fault),
     }
 }

@@ -13,9 +13,9 @@ ghost use Rattle.gob_explain.specs.declared.row.PartStep.{PartStep};
 ghost use Rattle.gob_explain.specs.Machine.Walking.{AllowsRange, BeginsAt, IsInRange, SpellsOne, Takes, Walks};
 ghost use Rattle.gob_explain.specs.Machine.Walking.{WalksNumber, WalksRaw};
 
-use crate::row::{Awaited, Part, Row, What};
+use crate::row::{Awaited, Row, RowPart, What};
 use crate::sink::RowSink;
-use crate::stop::Stop;
+use crate::stop::RowStop;
 use gob_num::uint_at;
 use gob_types::Basic;
 
@@ -35,17 +35,28 @@ impl Numbers {
 
     // 0 alone.
     pub(crate) const NONE: Numbers = Numbers { least: 0, most: 0 };
+
+    // This one alone.
+    pub(crate) fn only(number: u64) -> Numbers
+        ensures least { result.least ≡ number }
+        ensures most { result.most ≡ number }
+    {
+        Numbers {
+            least: number,
+            most: number,
+        }
+    }
 }
 
 // Tells of the number that comes next in the part, and where it ends.
 pub(crate) fn walk_number<O: RowSink>(
     what: What,
-    part: Part,
+    part: RowPart,
     allowed: Numbers,
     body: &[u8],
     at: usize,
     out: &mut O,
-) -> Result<(u64, usize), Stop<O::Fault>>
+) -> Result<(u64, usize), RowStop<O::Fault>>
     ensures most { IfOk result (λ found. found.0 ≤ allowed.most) }
     ensures walks { (T : Table) (opens : List Open) (next : ℕ → List ℕ → List Open) (a : Allowed) (most : ℕ)
         (way : List PartStep) → at ≤ length body.now → Takes T opens (a_number a) what part.id part.depth way next
@@ -59,10 +70,10 @@ pub(crate) fn walk_number<O: RowSink>(
         most: allowed.most,
     };
     let Some((number, end)) = uint_at(body, at) else {
-        return Err(Stop::Here(at, awaited));
+        return Err(RowStop::Here(at, awaited));
     };
     if number < allowed.least || number > allowed.most {
-        return Err(Stop::Here(at, awaited));
+        return Err(RowStop::Here(at, awaited));
     }
     out.put(Row {
         what,
@@ -77,18 +88,18 @@ pub(crate) fn walk_number<O: RowSink>(
 
 // Tells of so many raw bytes, and where they end.
 pub(crate) fn walk_raw<O: RowSink>(
-    part: Part,
+    part: RowPart,
     count: u64,
     body: &[u8],
     at: usize,
     out: &mut O,
-) -> Result<usize, Stop<O::Fault>>
+) -> Result<usize, RowStop<O::Fault>>
     ensures { (T : Table) (opens : List Open) (next : ℕ → List ℕ → List Open) (most : ℕ) (way : List PartStep)
         → at ≤ length body.now → 0 < count → Takes T opens (raw count) What.Raw part.id part.depth way next
         → WalksRaw O.tells T body.now most opens at count (out.old, way) out.new next result }
 {
     if count > body.len().saturating_sub(at) as u64 {
-        return Err(Stop::Here(
+        return Err(RowStop::Here(
             at,
             Awaited {
                 what: What::Raw,
@@ -111,11 +122,11 @@ pub(crate) fn walk_raw<O: RowSink>(
 
 // Tells of a count of raw bytes and of those, and where they end.
 pub(crate) fn walk_counted<O: RowSink>(
-    part: Part,
+    part: RowPart,
     body: &[u8],
     at: usize,
     out: &mut O,
-) -> Result<usize, Stop<O::Fault>>
+) -> Result<usize, RowStop<O::Fault>>
     ensures { (T : Table) (t : TypeId) (s : Shape) (base around most : ℕ) (p : List ℕ) (outer : List Open)
         (way : List PartStep) → base + around + 1 ≡ part.depth → at ≤ length body.now
         → BeginsAt T t base p outer part.id around way → shape_of T part.id ≡ Some s → HasRawBytes s.kind
@@ -130,12 +141,12 @@ pub(crate) fn walk_counted<O: RowSink>(
 
 // Tells of a basic value that is no interface, and where it ends.
 pub(crate) fn walk_basic<O: RowSink>(
-    part: Part,
+    part: RowPart,
     basic: Basic,
     body: &[u8],
     at: usize,
     out: &mut O,
-) -> Result<usize, Stop<O::Fault>>
+) -> Result<usize, RowStop<O::Fault>>
     ensures { (T : Table) (t : TypeId) (s : Shape) (base around most : ℕ) (p : List ℕ) (outer : List Open)
         (way : List PartStep) → base + around + 1 ≡ part.depth → at ≤ length body.now
         → BeginsAt T t base p outer part.id around way → shape_of T part.id ≡ Some s → s.kind ≡ kind.Basic basic
@@ -155,11 +166,11 @@ pub(crate) fn walk_basic<O: RowSink>(
 
 // Tells of a complex number, and where it ends.
 fn walk_complex<O: RowSink>(
-    part: Part,
+    part: RowPart,
     body: &[u8],
     at: usize,
     out: &mut O,
-) -> Result<usize, Stop<O::Fault>>
+) -> Result<usize, RowStop<O::Fault>>
     ensures { (T : Table) (t : TypeId) (s : Shape) (base around most : ℕ) (p : List ℕ) (outer : List Open)
         (way : List PartStep) → base + around + 1 ≡ part.depth → at ≤ length body.now
         → BeginsAt T t base p outer part.id around way → shape_of T part.id ≡ Some s

@@ -39,7 +39,7 @@ pub use laws::{
     whole_items_are_shown,
 };
 pub use path::path_to;
-pub use row::{Awaited, Part, PartStep, Row, What};
+pub use row::{Awaited, PartStep, Row, RowPart, What};
 pub use sink::RowSink;
 pub use text::expected::push_expected;
 pub use text::item::{Reached, push_first_bytes};

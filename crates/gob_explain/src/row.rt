@@ -25,14 +25,14 @@ pub enum What {
 /// A part of a value: its type, and how deep it lies. The value itself lies at depth 1, the filling of an interface one
 /// deeper than that, and what it holds and the types that it defines one deeper than the filling.
 #[derive(Clone, Copy, Debug, PartialEq, Eq)]
-pub struct Part {
+pub struct RowPart {
     /// The part's type.
     pub id: TypeId,
     /// Its depth, from 1 on.
     pub depth: u64,
 }
 
-impl Part {
+impl RowPart {
     // What comes next where the part begins.
     pub(crate) fn awaited(self) -> Awaited {
         Awaited {

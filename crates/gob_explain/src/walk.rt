@@ -18,9 +18,9 @@ ghost use Rattle.gob_explain.specs.Machine.Walking.{IsValueAt, SpellsEntries, Sp
 ghost use Rattle.gob_explain.specs.Machine.Walking.{Walks, WalksTo};
 
 use crate::leaf::{Numbers, walk_basic, walk_counted, walk_number, walk_raw};
-use crate::row::{Awaited, Part, PartStep, What};
+use crate::row::{Awaited, PartStep, RowPart, What};
 use crate::sink::RowSink;
-use crate::stop::Stop;
+use crate::stop::RowStop;
 use gob_types::{Basic, Fields, Kind, Shapes, Table, TypeId};
 
 /// What a walk goes over.
@@ -38,10 +38,10 @@ pub(crate) struct Walk<'a> {
 #[cycle(walk)]
 pub(crate) fn walk_value<O: RowSink>(
     walk: &Walk<'_>,
-    part: Part,
+    part: RowPart,
     at: usize,
     out: &mut O,
-) -> Result<usize, Stop<O::Fault>>
+) -> Result<usize, RowStop<O::Fault>>
     requires most { walk.now.most ≤ 1000 }
     requires depth { part.depth ≤ walk.now.most + 1 }
     ensures { let T = types walk.now.table.now in (base : ℕ) (outer : List Open) (way : List PartStep)
@@ -50,15 +50,15 @@ pub(crate) fn walk_value<O: RowSink>(
         (SpellsWhole T part.id) result }
 {
     if !walk.table.kept(part.id) {
-        return Err(Stop::Here(at, part.awaited()));
+        return Err(RowStop::Here(at, part.awaited()));
     }
     let Some(shape) = walk.table.shape_of(part.id) else {
-        return Err(Stop::Here(at, part.awaited()));
+        return Err(RowStop::Here(at, part.awaited()));
     };
     match &shape.kind {
         Kind::Struct { .. } => walk_part(walk, part, at, out),
         _ => {
-            let tag = Part {
+            let tag = RowPart {
                 id: part.id,
                 depth: part.depth.saturating_sub(1),
             };
@@ -72,10 +72,10 @@ pub(crate) fn walk_value<O: RowSink>(
 #[cycle(walk)]
 fn walk_part<O: RowSink>(
     walk: &Walk<'_>,
-    part: Part,
+    part: RowPart,
     at: usize,
     out: &mut O,
-) -> Result<usize, Stop<O::Fault>>
+) -> Result<usize, RowStop<O::Fault>>
     requires most { walk.now.most ≤ 1000 }
     requires depth { part.depth ≤ walk.now.most + 1 }
     ensures { let T = types walk.now.table.now in (t : TypeId) (base around : ℕ) (p : List ℕ) (outer : List Open)
@@ -85,10 +85,10 @@ fn walk_part<O: RowSink>(
         (SpellsOne T part.id) result }
 {
     if part.depth > walk.most {
-        return Err(Stop::Here(at, part.awaited()));
+        return Err(RowStop::Here(at, part.awaited()));
     }
     let Some(shape) = walk.table.shape_of(part.id) else {
-        return Err(Stop::Here(at, part.awaited()));
+        return Err(RowStop::Here(at, part.awaited()));
     };
     match &shape.kind {
         Kind::Basic(basic) => walk_basic_part(walk, part, *basic, at, out),
@@ -96,19 +96,16 @@ fn walk_part<O: RowSink>(
         Kind::Struct { fields } => walk_fields(walk, part, fields, at, out),
         Kind::Slice { elem } => {
             let (count, behind) = walk_number(What::First, part, Numbers::ANY, walk.body, at, out)?;
-            let each = Part {
+            let each = RowPart {
                 id: *elem,
                 depth: part.depth + 1,
             };
             walk_elements(walk, each, count, behind, out)
         }
         Kind::Array { elem, len } => {
-            let allowed = Numbers {
-                least: *len,
-                most: *len,
-            };
+            let allowed = Numbers::only(*len);
             let (count, behind) = walk_number(What::First, part, allowed, walk.body, at, out)?;
-            let each = Part {
+            let each = RowPart {
                 id: *elem,
                 depth: part.depth + 1,
             };
@@ -131,10 +128,10 @@ fn walk_part<O: RowSink>(
 fn walk_step<O: RowSink>(
     walk: &Walk<'_>,
     step: PartStep,
-    part: Part,
+    part: RowPart,
     at: usize,
     out: &mut O,
-) -> Result<usize, Stop<O::Fault>>
+) -> Result<usize, RowStop<O::Fault>>
     requires most { walk.now.most ≤ 1000 }
     requires depth { part.depth ≤ walk.now.most + 1 }
     ensures { let T = types walk.now.table.now in (t : TypeId) (base around : ℕ) (p : List ℕ) (outer : List Open)
@@ -153,11 +150,11 @@ fn walk_step<O: RowSink>(
 #[cycle(walk)]
 fn walk_elements<O: RowSink>(
     walk: &Walk<'_>,
-    each: Part,
+    each: RowPart,
     count: u64,
     begin: usize,
     out: &mut O,
-) -> Result<usize, Stop<O::Fault>>
+) -> Result<usize, RowStop<O::Fault>>
     requires most { walk.now.most ≤ 1000 }
     requires depth { each.depth ≤ walk.now.most + 1 }
     ensures { let T = types walk.now.table.now in (t : TypeId) (base around : ℕ) (p : List ℕ) (outer : List Open)
@@ -189,7 +186,7 @@ fn walk_pairs<O: RowSink>(
     count: u64,
     begin: usize,
     out: &mut O,
-) -> Result<usize, Stop<O::Fault>>
+) -> Result<usize, RowStop<O::Fault>>
     requires most { walk.now.most ≤ 1000 }
     requires depth { each.depth ≤ walk.now.most + 1 }
     ensures { let T = types walk.now.table.now in (t : TypeId) (base around : ℕ) (p : List ℕ) (outer : List Open)
@@ -200,11 +197,11 @@ fn walk_pairs<O: RowSink>(
         → Walks O.tells T walk.now.body.now walk.now.most t base p outer begin (out.old, way) out.new
         (SpellsEntries T each.key each.elem count) result }
 {
-    let keys = Part {
+    let keys = RowPart {
         id: each.key,
         depth: each.depth,
     };
-    let elems = Part {
+    let elems = RowPart {
         id: each.elem,
         depth: each.depth,
     };
@@ -220,11 +217,11 @@ fn walk_pairs<O: RowSink>(
 #[cycle(walk)]
 fn walk_fields<O: RowSink>(
     walk: &Walk<'_>,
-    part: Part,
+    part: RowPart,
     fields: &Fields,
     begin: usize,
     out: &mut O,
-) -> Result<usize, Stop<O::Fault>>
+) -> Result<usize, RowStop<O::Fault>>
     requires most { walk.now.most ≤ 1000 }
     requires depth { part.depth ≤ walk.now.most }
     ensures { let T = types walk.now.table.now in (t : TypeId) (base around : ℕ) (p : List ℕ) (outer : List Open)
@@ -247,13 +244,13 @@ fn walk_fields<O: RowSink>(
         }
         let number = next + delta - 1;
         let Some(field) = fields.get(number) else {
-            return Err(Stop::Here(at, part.awaited()));
+            return Err(RowStop::Here(at, part.awaited()));
         };
         let step = PartStep::Field {
             of: part.id,
             number,
         };
-        let inner = Part {
+        let inner = RowPart {
             id: field.id,
             depth: part.depth + 1,
         };
@@ -266,11 +263,11 @@ fn walk_fields<O: RowSink>(
 #[cycle(walk)]
 fn walk_basic_part<O: RowSink>(
     walk: &Walk<'_>,
-    part: Part,
+    part: RowPart,
     basic: Basic,
     at: usize,
     out: &mut O,
-) -> Result<usize, Stop<O::Fault>>
+) -> Result<usize, RowStop<O::Fault>>
     requires most { walk.now.most ≤ 1000 }
     requires depth { part.depth ≤ walk.now.most }
     ensures { let T = types walk.now.table.now in (t : TypeId) (base around : ℕ) (p : List ℕ) (outer : List Open)
@@ -289,10 +286,10 @@ fn walk_basic_part<O: RowSink>(
 #[cycle(walk)]
 fn walk_interface<O: RowSink>(
     walk: &Walk<'_>,
-    part: Part,
+    part: RowPart,
     at: usize,
     out: &mut O,
-) -> Result<usize, Stop<O::Fault>>
+) -> Result<usize, RowStop<O::Fault>>
     requires most { walk.now.most ≤ 1000 }
     requires depth { part.depth ≤ walk.now.most }
     ensures { let T = types walk.now.table.now in (t : TypeId) (base around : ℕ) (p : List ℕ) (outer : List Open)
@@ -306,12 +303,12 @@ fn walk_interface<O: RowSink>(
     if length == 0 {
         return Ok(behind);
     }
-    let filling = Part {
+    let filling = RowPart {
         id: part.id,
         depth: part.depth + 1,
     };
     if filling.depth > walk.most {
-        return Err(Stop::Here(behind, filling.awaited()));
+        return Err(RowStop::Here(behind, filling.awaited()));
     }
     let named = walk_raw(filling, length, walk.body, behind, out)?;
     walk_filling(walk, filling, named, out)
@@ -321,10 +318,10 @@ fn walk_interface<O: RowSink>(
 #[cycle(walk)]
 fn walk_filling<O: RowSink>(
     walk: &Walk<'_>,
-    filling: Part,
+    filling: RowPart,
     begin: usize,
     out: &mut O,
-) -> Result<usize, Stop<O::Fault>>
+) -> Result<usize, RowStop<O::Fault>>
     requires most { walk.now.most ≤ 1000 }
     requires depth { filling.depth ≤ walk.now.most }
     ensures { let T = types walk.now.table.now in (t : TypeId) (base : ℕ) (p : List ℕ) (outer : List Open)
@@ -350,7 +347,7 @@ fn walk_filling<O: RowSink>(
         }
         at = walk_definition(walk, filling, behind, out)?;
     }
-    Err(Stop::Here(
+    Err(RowStop::Here(
         at,
         Awaited {
             what: What::TypeNumber,
@@ -364,10 +361,10 @@ fn walk_filling<O: RowSink>(
 #[cycle(walk)]
 fn walk_definition<O: RowSink>(
     walk: &Walk<'_>,
-    filling: Part,
+    filling: RowPart,
     at: usize,
     out: &mut O,
-) -> Result<usize, Stop<O::Fault>>
+) -> Result<usize, RowStop<O::Fault>>
     requires most { walk.now.most ≤ 1000 }
     requires depth { filling.depth ≤ walk.now.most }
     ensures { let T = types walk.now.table.now in (outer : List Open) (way : List PartStep)
@@ -386,10 +383,10 @@ fn walk_definition<O: RowSink>(
 fn walk_held<O: RowSink>(
     walk: &Walk<'_>,
     id: TypeId,
-    filling: Part,
+    filling: RowPart,
     at: usize,
     out: &mut O,
-) -> Result<usize, Stop<O::Fault>>
+) -> Result<usize, RowStop<O::Fault>>
     requires most { walk.now.most ≤ 1000 }
     requires depth { filling.depth ≤ walk.now.most }
     ensures { let T = types walk.now.table.now in (t : TypeId) (base : ℕ) (p : List ℕ) (outer : List Open)
@@ -407,10 +404,10 @@ fn walk_held<O: RowSink>(
 fn walk_inside<O: RowSink>(
     walk: &Walk<'_>,
     id: TypeId,
-    filling: Part,
+    filling: RowPart,
     at: usize,
     out: &mut O,
-) -> Result<usize, Stop<O::Fault>>
+) -> Result<usize, RowStop<O::Fault>>
     requires most { walk.now.most ≤ 1000 }
     requires depth { filling.depth ≤ walk.now.most }
     ensures { let T = types walk.now.table.now in (outer : List Open) (way : List PartStep)
@@ -419,7 +416,7 @@ fn walk_inside<O: RowSink>(
         (SpellsWhole T id) result }
 {
     out.enter(PartStep::Held(id))?;
-    let part = Part {
+    let part = RowPart {
         id,
         depth: filling.depth + 1,
     };

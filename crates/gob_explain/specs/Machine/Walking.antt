@@ -13,8 +13,8 @@ use Rattle.gob_explain.specs.Path.{PathIn, PathOf, PathTop}
 use Rattle.gob_explain.specs.declared.row.Row.{Row}
 use Rattle.gob_explain.specs.declared.row.PartStep.{PartStep}
 use Rattle.gob_explain.specs.declared.row.PartStep.TheVariants as step
-use Rattle.gob_explain.specs.declared.stop.Stop.{Stop}
-use Rattle.gob_explain.specs.declared.stop.Stop.TheVariants as stops
+use Rattle.gob_explain.specs.declared.stop.RowStop.{RowStop}
+use Rattle.gob_explain.specs.declared.stop.RowStop.TheVariants as stops
 use Rattle.gob_explain.specs.declared.row.What.{What}
 use Rattle.gob_explain.specs.Walk.{Awaits, BeginsPart, IsRow, RowsLead, Steps, StopsAt, TellsNumber, between}
 
@@ -36,7 +36,7 @@ pub record Told {O E : Type 0} (tells : O → O → List Row → Result (Unit {0
 -- comes next, or the sink is told no more
 abbrev pub Fails : {S E : Type 0} → Tells S E → Table → List ℕ → (most : ℕ) → List Open → (at : ℕ)
     → S × List PartStep → S
-    → Stop E → Type 0
+    → RowStop E → Type 0
 Fails tells T bytes most opens at old new (stops.Here place awaited) = (last : List Open) × (path : List PartStep)
     × Told tells T bytes opens at old (new, path) (Ok tt) last place × StopsAt T bytes most last place
     × PathOf T last path
@@ -45,7 +45,7 @@ Fails tells T bytes most opens at old new (stops.Sink e) = (last : List Open) ×
 
 -- how a walk from the place on ends: where the others are open and the sink stands as it did, or too early
 abbrev pub WalksTo : {S E : Type 0} → Tells S E → Table → List ℕ → (most : ℕ) → List Open → (at : ℕ) → S × List PartStep
-    → S → List Open → Result ℕ (Stop E) → Type 0
+    → S → List Open → Result ℕ (RowStop E) → Type 0
 WalksTo tells T bytes most opens at old new last (Ok end) =
     Told tells T bytes opens at old (new, old.1) (Ok tt) last end
 WalksTo tells T bytes most opens at old new last (Err stop) = Fails tells T bytes most opens at old new stop
@@ -53,7 +53,7 @@ WalksTo tells T bytes most opens at old new last (Err stop) = Fails tells T byte
 -- how a walk ends within a value of this type, below so many parts, whose skeleton is p before it: behind more of the
 -- skeleton, of which this holds, or too early
 abbrev pub Walks : {S E : Type 0} → Tells S E → Table → List ℕ → (most : ℕ) → TypeId → (base : ℕ) → (p : List ℕ)
-    → (outer : List Open) → (at : ℕ) → S × List PartStep → S → (List ℕ → Type 0) → Result ℕ (Stop E) → Type 0
+    → (outer : List Open) → (at : ℕ) → S × List PartStep → S → (List ℕ → Type 0) → Result ℕ (RowStop E) → Type 0
 Walks tells T bytes most t base p outer at old new Whole (Ok end) = (more : List ℕ) × Whole more
     × Told tells T bytes (a_value t base p ∷ outer) at old (new, old.1) (Ok tt) (a_value t base (p ++ more) ∷ outer) end
 Walks tells T bytes most t base p outer at old new Whole (Err stop) =
@@ -83,7 +83,7 @@ pub record Takes (T : Table) (opens : List Open) (w : Expected) (x : What) (u : 
 
 -- how a walk over a number ends
 abbrev pub WalksNumber : {S E : Type 0} → Tells S E → Table → List ℕ → (most : ℕ) → List Open → (at : ℕ)
-    → S × List PartStep → S → (ℕ → List ℕ → List Open) → (ℕ → ℕ → Type 0) → Result (ℕ × ℕ) (Stop E) → Type 0
+    → S × List PartStep → S → (ℕ → List ℕ → List Open) → (ℕ → ℕ → Type 0) → Result (ℕ × ℕ) (RowStop E) → Type 0
 WalksNumber tells T bytes most opens at old new next Whole (Ok found) =
     Told tells T bytes opens at old (new, old.1) (Ok tt) (next found.0 (between at found.1 bytes)) found.1
     × Whole found.0 found.1
@@ -91,7 +91,7 @@ WalksNumber tells T bytes most opens at old new next Whole (Err stop) = Fails te
 
 -- and over raw bytes
 abbrev pub WalksRaw : {S E : Type 0} → Tells S E → Table → List ℕ → (most : ℕ) → List Open → (at count : ℕ)
-    → S × List PartStep → S → (ℕ → List ℕ → List Open) → Result ℕ (Stop E) → Type 0
+    → S × List PartStep → S → (ℕ → List ℕ → List Open) → Result ℕ (RowStop E) → Type 0
 WalksRaw tells T bytes most opens at count old new next (Ok end) =
     Told tells T bytes opens at old (new, old.1) (Ok tt) (next count (between at end bytes)) end × (end ≡ at + count)
 WalksRaw tells T bytes most opens at count old new next (Err stop) = Fails tells T bytes most opens at old new stop

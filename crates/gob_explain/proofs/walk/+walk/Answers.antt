@@ -354,7 +354,7 @@ walk_part-returns-in_err-count-in-Array g t c = λ u base around p outer way d l
     (c.in_err-count-in-Array.ensures.walks (types c.args.walk.now.table.now) (a_value u base p ∷ outer)
     (goes_on u base p outer) (array_count c.in-Array.len) c.args.walk.now.most way l
     (takes_first d b (sym c.in-Some.ensures) (no_struct _ c.in-Array.is (λ i. i)) (ap first_allowed c.in-Array.is)
-    refl) (array_range c.in-Array.len))
+    refl) (array_range c.only-allowed.ensures.least c.only-allowed.ensures.most))
 
 pub walk_part-returns-in_ok-count-in-Array : goal.walk_part-returns-in_ok-count-in-Array
 walk_part-returns-in_ok-count-in-Array g t c = λ u base around p outer way d l r b.
@@ -362,9 +362,10 @@ walk_part-returns-in_ok-count-in-Array g t c = λ u base around p outer way d l 
     let first = c.in_ok-count-in-Array.ensures.walks (types c.args.walk.now.table.now) (a_value u base p ∷ outer)
     (goes_on u base p outer) (array_count c.in-Array.len) c.args.walk.now.most way l
     (takes_first d b f (no_struct _ c.in-Array.is (λ i. i)) (ap first_allowed c.in-Array.is) refl)
-    (array_range c.in-Array.len) in
+    (array_range c.only-allowed.ensures.least c.only-allowed.ensures.most) in
     let size = between c.args.at c.in_ok-count-in-Array.behind c.args.walk.now.body.now in
-    let same : c.in_ok-count-in-Array.count ≡ c.in-Array.len = omega (arith, first.1.1, first.1.2) in
+    let same : c.in_ok-count-in-Array.count ≡ c.in-Array.len = omega
+    (arith, first.1.1, first.1.2, c.only-allowed.ensures.least, c.only-allowed.ensures.most) in
     let spelled : IsUnsigned c.in-Array.len size = subst (λ n. IsUnsigned n size) same first.1.3 in
     let parts = array_parts p size b f c.in-Array.is spelled in
     walks_on g.O.RowSink.tells g.met.O.RowSink.joined
