@@ -3,7 +3,7 @@
 ghost use Rattle.std.specs.Prelude.{◌≡◌};
 ghost use Rattle.gob_lines.specs.Reads.{IsWrong};
 
-use crate::path::Step;
+use crate::path::PathStep;
 use gob_num::Memory;
 use gob_types::Name;
 use std::alloc::{AllocError, Global};
@@ -107,7 +107,7 @@ pub struct Wrong {
     /// What is due there.
     pub due: Due,
     /// The steps to there in the value, from the last to the first, as far as there was memory.
-    pub path: Vec<Step>,
+    pub path: Vec<PathStep>,
 }
 
 impl Wrong {
@@ -154,7 +154,7 @@ impl LineFault {
     }
 
     // The fault of a value that a step leads to, as one of the value around it.
-    pub(crate) fn within(self, step: Step) -> LineFault
+    pub(crate) fn within(self, step: PathStep) -> LineFault
         ensures { IsWrong result → IsWrong self }
     {
         match self {
@@ -173,7 +173,7 @@ impl LineFault {
         ensures { IsWrong result → IsWrong self }
     {
         match Vec::from_slice(alloc, name.as_bytes()) {
-            Ok(bytes) => self.within(Step::Field(Name::new(bytes))),
+            Ok(bytes) => self.within(PathStep::Field(Name::new(bytes))),
             Err(_) => self,
         }
     }

@@ -16,4 +16,4 @@ mod value;
 
 pub use fault::{Due, LineFault, Wrong};
 pub use line::{Line, read_line};
-pub use path::{Step, path_text};
+pub use path::{PathStep, path_text};

@@ -11,7 +11,7 @@ use std::{fmt, str};
 
 /// A step into a value. Display writes `.Name`, `[2]`, or `[2] key` to a key.
 #[derive(Drop)]
-pub enum Step {
+pub enum PathStep {
     /// To the field of this name.
     Field(Name),
     /// To this element of an array or a slice, from 0.
@@ -22,18 +22,18 @@ pub enum Step {
     Value(u64),
 }
 
-impl fmt::Display for Step {
+impl fmt::Display for PathStep {
     fn fmt<W: fmt::Write>(&self, f: &mut fmt::Formatter<W>) -> fmt::Result {
         match self {
-            Step::Field(name) => match str::from_utf8(name.as_bytes()) {
+            PathStep::Field(name) => match str::from_utf8(name.as_bytes()) {
                 Ok(text) => write!(f, ".{text}"),
                 Err(_) => {
                     f.write_str(".0x")?;
                     hex_text(name.as_bytes(), f)
                 }
             },
-            Step::Element(index) | Step::Value(index) => write!(f, "[{index}]"),
-            Step::Key(index) => write!(f, "[{index}] key"),
+            PathStep::Element(index) | PathStep::Value(index) => write!(f, "[{index}]"),
+            PathStep::Key(index) => write!(f, "[{index}] key"),
         }
     }
 }
@@ -49,7 +49,7 @@ fn hex_text<W: fmt::Write>(bytes: &[u8], f: &mut fmt::Formatter<W>) -> fmt::Resu
 
 /// The path of these steps, from the last to the first, as it stands in a line: of a long one the middle is left out,
 /// so that it has 200 characters, of which a terminal obeys none.
-pub fn path_text(alloc: Global, steps: &[Step]) -> Result<String, Memory>
+pub fn path_text(alloc: Global, steps: &[PathStep]) -> Result<String, Memory>
     ensures { IfOk result (λ text. IsUnobeyed (string_bytes text)) }
 {
     let mut path = String::new(alloc);

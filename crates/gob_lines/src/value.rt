@@ -13,7 +13,7 @@ ghost use Rattle.gob_lines.specs.Reads.{Reads};
 
 use crate::fault::{Due, LineFault};
 use crate::leaf::{read_basic, read_opaque, read_text, read_uint, take_array, take_array_end};
-use crate::path::Step;
+use crate::path::PathStep;
 use gob_num::Memory;
 use gob_types::{Field, Kind, Shapes, TypeId};
 use gob_value::Value;
@@ -92,7 +92,7 @@ fn read_elements<S: Shapes>(
         let index = elements.len() as u64;
         match read_value(alloc, table, id, depth, tokens) {
             Ok(element) => elements.push(element).map_err(Memory::from)?,
-            Err(fault) => return Err(fault.within(Step::Element(index))),
+            Err(fault) => return Err(fault.within(PathStep::Element(index))),
         }
     }
     Ok(elements)
@@ -121,11 +121,11 @@ fn read_pairs<S: Shapes>(
         take_array(alloc, tokens)?;
         let key = match read_value(alloc, table, key_id, depth, tokens) {
             Ok(key) => key,
-            Err(fault) => return Err(fault.within(Step::Key(index))),
+            Err(fault) => return Err(fault.within(PathStep::Key(index))),
         };
         match read_value(alloc, table, id, depth, tokens) {
             Ok(element) => pairs.push((key, element)).map_err(Memory::from)?,
-            Err(fault) => return Err(fault.within(Step::Value(index))),
+            Err(fault) => return Err(fault.within(PathStep::Value(index))),
         }
         take_array_end(alloc, tokens)?;
     }
