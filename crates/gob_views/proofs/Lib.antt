@@ -1,3 +1,4 @@
+pub mod PartLineLaws
 pub mod NamingLaws
 pub mod PlainLaws
 pub mod TakenLaws

@@ -16,6 +16,7 @@
 //! these, and of `gob why`, `gob explain` and `gob salvage`, which are those of `gob_why` and `gob_salvage`.
 #![tactic(auto)]
 
+mod body_lines;
 mod gathered;
 mod in_memory;
 mod run;

@@ -11,16 +11,13 @@ ghost use Rattle.gob_filled.specs.Filled as spelled;
 ghost use Rattle.gob_go.specs.Meaning.{IsFilled};
 ghost use Rattle.gob_plain.specs.HeldPlain.{SaysFilled, tagged_json};
 ghost use Rattle.gob_words.specs.Words.{text_of};
-ghost use Rattle.gob_views.specs.Machine.Lines.{IsBodyLine};
 ghost use Rattle.gob_views.specs.Values.{AreTaken, IsChosen, IsLineOf, IsStyleOf, SaysStyled, content_of, shown_json};
 ghost use Rattle.gob_views.specs.Values.{AreLinesBehind, form_of, line_jsons, parts_form, type_name};
 
 use gob_go::Filled;
 use gob_num::Memory;
-use gob_plain::{Content, Filler, Fillers, Nils, Style, Taken, filled_text, plain_text_of};
-use gob_stream::Whole;
+use gob_plain::{Content, Filler, Fillers, Nils, Style, Taken, filled_text};
 use gob_types::{Kind, Shapes, Table, TypeId};
-use gob_value::is_whole;
 use gob_words::{OpaqueKind, TypeKind, number_of};
 use json::{Scratch, Writer};
 use json_controls::push_shown;
@@ -73,34 +70,8 @@ pub(crate) fn push_filled_line(
     push_lines(alloc, json, table, id, lines, text)
 }
 
-/// Makes the lines of the value whose whole item this is, in which no interface holds another, if it is one no deeper
-/// than `depth` and its type is chosen, in `text`, which is empty. False says nothing of the item.
-pub(crate) fn push_body_line(
-    alloc: Global,
-    item: Whole<'_>,
-    depth: u64,
-    table: &Table,
-    lines: ValueLines<'_>,
-    text: &mut Vec<u8>,
-) -> Result<bool, Memory>
-    requires { text.old.items ≡ [] }
-    ensures { IfOk result (λ made. MatchBool made (IsBodyLine lines.entry (types table.now) item.entry.id depth
-        item.entry.body.now text.new.items) (text.new.items ≡ [])) }
-{
-    if !is_chosen(lines.only, table, item.id) {
-        return Ok(is_whole(table, item.id, item.body, depth));
-    }
-    let taken = taken_of(alloc, lines.kinds)?;
-    let style = style_of(lines, &taken);
-    let Some(json) = plain_text_of(alloc, table, item.id, item.body, depth, style)? else {
-        return Ok(false);
-    };
-    push_lines(alloc, json, table, item.id, lines, text)?;
-    Ok(true)
-}
-
 /// What is said of types, as values are written by it.
-fn taken_of(alloc: Global, kinds: &[TypeKind]) -> Result<Vec<Taken>, AllocError>
+pub(crate) fn taken_of(alloc: Global, kinds: &[TypeKind]) -> Result<Vec<Taken>, AllocError>
     ensures { IfOk result (λ taken. AreTaken kinds.now taken.items) }
 {
     let mut taken = Vec::with_capacity(alloc, kinds.len())?;
@@ -130,7 +101,7 @@ fn content_of(kind: OpaqueKind) -> Content
 }
 
 /// The style of the lines, where this is said of types.
-fn style_of<'a>(lines: ValueLines<'_>, taken: &'a [Taken]) -> Style<'a>
+pub(crate) fn style_of<'a>(lines: ValueLines<'_>, taken: &'a [Taken]) -> Style<'a>
     ensures { AreTaken lines.entry.kinds.now taken.entry.now → IsStyleOf lines.entry result }
 {
     Style {
@@ -141,7 +112,7 @@ fn style_of<'a>(lines: ValueLines<'_>, taken: &'a [Taken]) -> Style<'a>
 }
 
 /// Whether values of the type are printed, where this word says of which type alone they are.
-fn is_chosen(only: Option<&str>, table: &Table, id: TypeId) -> bool
+pub(crate) fn is_chosen(only: Option<&str>, table: &Table, id: TypeId) -> bool
     ensures { MatchBool result (IsChosen (text_of only.entry) (types table.now) id)
         (¬ IsChosen (text_of only.entry) (types table.now) id) }
 {
@@ -163,7 +134,7 @@ fn type_name(table: &Table, id: TypeId) -> &[u8]
 }
 
 /// Appends the lines of the JSON that says a value of this type: one, or one for each of its parts.
-fn push_lines(
+pub(crate) fn push_lines(
     alloc: Global,
     json: String,
     table: &Table,

@@ -10,11 +10,12 @@ ghost use Rattle.gob_tool.specs.Showing.{CountsReadFaults, CountsWriteFaults, Is
 ghost use Rattle.gob_tool.specs.TextsGo.{of_given, of_value, IsWholeText};
 ghost use Rattle.gob_views.specs.Values.{IsPlainLine, ValuesAnswers};
 
-use crate::value_line::{ValueLines, push_body_line, push_filled_line};
+use crate::body_lines::push_body_line;
+use crate::value_line::{ValueLines, push_filled_line};
 use gob_go::{GoItem, GoReader, GoSession};
 use gob_num::Memory;
 use gob_stream::{Input, Limits, Output};
-use gob_tool::{ItemTexts, ToolFault, run_texts};
+use gob_tool::{ItemTexts, MOST_GATHERED, Sent, ToolFault, run_texts};
 use gob_types::Table;
 use std::alloc::Global;
 use std::io::{Read, Write};
@@ -67,6 +68,31 @@ impl ItemTexts<GoSession> for ValueLines<'_> {
         text: &mut Vec<u8>,
     ) -> Result<Option<usize>, Memory> {
         push_whole_line(alloc, reader, *self, text)
+    }
+
+    fn send_whole<W: Write>(
+        &self,
+        alloc: Global,
+        reader: &GoReader,
+        output: &mut Output<W>,
+    ) -> Option<Sent> {
+        if !is_large(reader) {
+            return None;
+        }
+        let mut text = Vec::new(alloc);
+        let Ok(Some(used)) = push_whole_line(alloc, reader, *self, &mut text) else {
+            return None;
+        };
+        let sent = output.send_all(&text);
+        Some(Sent { used, sent })
+    }
+}
+
+/// Whether an item of a value waits as a whole that is so large that its lines had better not be copied.
+fn is_large(reader: &GoReader) -> bool {
+    match reader.whole() {
+        Some(item) => item.used > MOST_GATHERED,
+        None => false,
     }
 }
 

@@ -17,7 +17,7 @@ struct Row {
     named: &'static str,
 }
 
-const ROWS: [Row; 10] = [
+const ROWS: [Row; 13] = [
     Row {
         what: "a list, an empty one, and a number",
         stream: LISTS,
@@ -41,6 +41,26 @@ const ROWS: [Row; 10] = [
         stream: "0e ff 81 04 01 02 ff 82 00 01 04 01 0c 00 00 07 ff 82 00 01 09 01 78",
         lines: "{\"key\":\"-5\",\"value\":\"x\"}\n",
         named: "{\"\":{\"key\":\"-5\",\"value\":\"x\"}}\n",
+    },
+    Row {
+        what: "a map with a key that is no text, between others",
+        stream: "MAP 0d ff 82 00 03 01 61 02 01 ff 04 01 62 06",
+        lines: "{\"key\":\"a\",\"value\":1}\n{\"key\":\"0xff\",\"value\":2}\n{\"key\":\"b\",\"value\":3}\n",
+        named: "{\"\":{\"key\":\"a\",\"value\":1}}\n{\"\":{\"key\":\"0xff\",\"value\":2}}\n\
+            {\"\":{\"key\":\"b\",\"value\":3}}\n",
+    },
+    Row {
+        what: "a map with a key that is no text, and one that is its name",
+        stream: "MAP 0d ff 82 00 02 01 ff 02 04 30 78 66 66 04",
+        lines: "{\"key\":{\"hex\":\"ff\"},\"value\":1}\n{\"key\":\"0xff\",\"value\":2}\n",
+        named: "{\"\":{\"key\":{\"hex\":\"ff\"},\"value\":1}}\n{\"\":{\"key\":\"0xff\",\"value\":2}}\n",
+    },
+    Row {
+        what: "a list of maps, of which the last has such keys",
+        stream: "MAP 0d ff 83 02 01 02 ff 84 00 01 ff 82 00 00 \
+            12 ff 84 00 02 01 01 61 02 02 01 ff 02 04 30 78 66 66 04",
+        lines: "{\"a\":1}\n[[{\"hex\":\"ff\"},1],[\"0xff\",2]]\n",
+        named: "{\"\":{\"a\":1}}\n{\"\":[[{\"hex\":\"ff\"},1],[\"0xff\",2]]}\n",
     },
     Row {
         what: "a map whose keys give no names",
