@@ -11,7 +11,6 @@ pub use Rattle.gob_stream.proofs.Stream.StayLaws.{shown_refusal_stays, shown_the
 pub use Rattle.gob_stream.proofs.Stream.StreamLaws.{NoNext, counted_prefix, counted_some, gives_items, one_more}
 pub use Rattle.gob_stream.proofs.Stream.StreamLaws.{same_id}
 pub use Rattle.gob_stream.proofs.Reader.ReadStreamSteps.{IsSeen, views_behind, views_meant}
-pub use Rattle.gob_stream.proofs.Reader.StrictReaderLaws.{ahead_begins, ahead_so, begins_so, goes_on, has_ended}
 pub use Rattle.gob_stream.proofs.Reader.UnderWayLaws.{after_gives}
-pub use Rattle.gob_stream.proofs.Reader.WholeSteps.{begun_gives, has_item, whole_item}
+pub use Rattle.gob_stream.proofs.Reader.WholeSteps.{begun_gives, whole_item}
 pub use Rattle.gob_stream.proofs.Stream.WireLaws.{wire_ready}

@@ -19,5 +19,4 @@ pub mod StageSteps
 pub mod AdvanceSteps
 pub mod WaitingLaws
 pub mod ReaderOfLaws
-pub mod StrictReaderLaws
 pub mod SessionAnswers

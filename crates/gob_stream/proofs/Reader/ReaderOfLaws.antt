@@ -6,7 +6,7 @@ use Rattle.std.proofs.Common.{IfErr}
 use Rattle.std.proofs.lemmas.List.{length-take-le}
 use Rattle.std.specs.Result.{IsErrAnd}
 use Rattle.std.specs.Io.KnownBytes.{Consumes, IsAtEnd}
-use Rattle.std.proofs.KnownBytes.{Consumes-nil, Consumes-trans, Consumes-kept}
+use Rattle.std.proofs.KnownBytes.{Consumes-trans, Consumes-kept}
 use Rattle.gob_num.proofs.PublicLaws.{unsigned_length}
 use Rattle.gob_types.specs.Defined.{types}
 use Rattle.gob_types.specs.Table.{Table}
@@ -73,12 +73,6 @@ counts_nothing A old new (Err fault.Memory) same other = same
 counts_nothing A old new (Err fault.Failed) same other = same
 
 -- ---- what is said of a refusal, whatever a call answers
-pub of_any_refusal : {A : Type 0} (P : Type 0) (res : Result A Fault) → P → OfRefusal (λ _. P) res
-of_any_refusal P (Ok a) p = tt
-of_any_refusal P (Err (fault.Refused R)) p = p
-of_any_refusal P (Err fault.Read) p = tt
-of_any_refusal P (Err fault.Memory) p = tt
-of_any_refusal P (Err fault.Failed) p = tt
 
 pub refusal_at : {A : Type 0} (B P : Type 0) (res : Result A Fault) (e : Fault) → IsErrAnd res (λ x. x ≡ e)
     → OfRefusal {A = B} (λ _. P) (Err e) → OfRefusal (λ _. P) res
@@ -165,16 +159,6 @@ module _ {X I Told : Type 0} (d : Stepping X I Told) where
       (subst (λ (l : List ℕ). GivesNoMoreBy d (session_of r) l) same g) open_
 
   -- ---- what was read
-  -- a reader that has read nothing
-  pub first_read : (r : ReaderOf X I) (read : Option (List ℕ)) → d.read (session_of r) [] [] → waits_in r ≡ []
-      → r.ended ≡ false → room_in r ≡ 65536 → HasReadBy d r read read []
-  first_read r read gave none open_ room = record {
-    taken = [];
-    input = subst (λ (l : List ℕ). Consumes read read l) (sym none) (Consumes-nil read);
-    gave = gave;
-    end = λ e. let no : true ≡ false = sym e ∙ open_ in cc;
-    room = omega (arith, room);
-  }
 
   -- the begin of what was read, of known bytes
   pub read_so : {r : ReaderOf X I} {read now : Option (List ℕ)} {items : List Told} (bytes : List ℕ)

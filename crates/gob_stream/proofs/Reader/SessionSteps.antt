@@ -1,11 +1,10 @@
 -- Reading the next item, piece by piece.
 use Rattle.std.proofs.Common.{◌≡◌, ◌≢◌, ℕ, ◌+◌, ◌-◌, ◌<◌, ◌≤◌, ◌⊎◌, inl, inr, List, [], ◌∷◌, ◌++◌, length, take, Option}
 use Rattle.std.proofs.Common.{Some, None, Result, Ok, Err, arith, refl, sym, ap, ◌∙◌, subst, append_assoc}
-use Rattle.std.proofs.Common.{length-append, true, false}
+use Rattle.std.proofs.Common.{length-append}
 use Rattle.std.proofs.lemmas.List.{append-nil, length-take, take-append-le}
 use Rattle.std.specs.Prelude.{IfSome, OnErr}
 use Rattle.std.specs.Result.{IsErrAnd}
-use Rattle.std.specs.Option.{is_some}
 use Rattle.std.specs.Io.KnownBytes.{Consumes, Keeps, IsAtEnd}
 use Rattle.std.proofs.KnownBytes.{Consumes-nil, Consumes-trans, Consumes-kept}
 use Rattle.gob_num.specs.Unsigned.{IsUnsignedPrefix}
@@ -25,7 +24,6 @@ use Rattle.gob_stream.specs.declared.stage.Extent.{Extent}
 use Rattle.gob_stream.specs.declared.stage.Stage.{Stage}
 use Rattle.gob_stream.specs.declared.stage.Stage.TheVariants as stage
 use Rattle.gob_stream.specs.Bounds.{Bounds, no_deeper}
-use Rattle.gob_stream.specs.Devices.{counts_up}
 use Rattle.gob_stream.specs.Item.{StreamItem, ItemMeans}
 use Rattle.gob_stream.specs.Stream.{IsItem, counted, AreItems, no_more, and_then, Stream}
 use Rattle.gob_stream.specs.Outcome.{LongestStream, LongestButLast, RefusesNext, EndsSo, at_the_end, Outcome, the_end}
@@ -35,7 +33,7 @@ use Rattle.gob_stream.specs.Machine.HasRead.{IsCount, HasRead, HasReadOn, IsUsab
 use Rattle.gob_stream.specs.Machine.HasRead.{stands_after}
 use Rattle.gob_stream.specs.Reading.{Taken, SomeTaken, ShowsRefusal, IsNoFurther, up_to_the_last_shown, within_the_item}
 use Rattle.gob_stream.specs.Reading.{EndsInItem, shown, ended, StopsNext, CountsReads}
-use Rattle.gob_stream.specs.Calls.Reads.{ReadingGivesNext, ReadItemAnswers, ReadItemTakes, FinishAnswers}
+use Rattle.gob_stream.specs.Calls.Reads.{ReadingGivesNext, FinishAnswers}
 use Rattle.gob_stream.specs.Machine.Between.{IsBetween}
 use Rattle.gob_stream.specs.Machine.ReadParts.{StepAnswers, AdvancesOver, over_some, over_item, bytes_wanted}
 use Rattle.gob_stream.proofs.Stream.OutcomeLaws.{one_prefix}
@@ -54,10 +52,6 @@ pub record SomeConsumed (old now : Option (List ℕ)) (P : List ℕ → Type 0) 
   pub bytes : List ℕ
   pub consumed : Consumes old now bytes
   pub holds : P bytes
-
-pub consumed_as : {old now : Option (List ℕ)} {P Q : List ℕ → Type 0} → ((x : List ℕ) → P x → Q x)
-    → SomeConsumed old now P → SomeConsumed old now Q
-consumed_as f p = record { bytes = p.bytes; consumed = p.consumed; holds = f p.bytes p.holds }
 
 -- and then some more
 pub consumed_more : {old mid now : Option (List ℕ)} {P Q : List ℕ → Type 0} (more : List ℕ) → Consumes mid now more
@@ -561,15 +555,6 @@ pub step_gives : {X O : Type 0} {most : ℕ} {building : Building X O most} {s s
 step_gives {s' = s'} {items = items} {bytes = bytes} piece step p u b e a = over_the_item step.used step.item e u
     (if_some (IsBetween s') b e) (p.each items bytes a)
 
--- the item of this call
-pub reads_item : {X O : Type 0} {most : ℕ} (building : Building X O most) (s s' : SessionState X O)
-    (items : List StreamItem) (bytes rest : List ℕ) (now : Option (List ℕ)) (o : Option (declared.Item O)) → o ≢ None
-    → ((given : declared.Item O) → o ≡ Some given
-    → SomeTaken rest now (λ taken. ReadingGivesNext building s' given items (bytes ++ taken)))
-    → ReadItemAnswers building s s' items bytes rest now (Ok o)
-reads_item building s s' items bytes rest now None n f = absurd (n refl)
-reads_item building s s' items bytes rest now (Some x) n f = f x refl
-
 pub gives_taken : {X O : Type 0} {most : ℕ} {building : Building X O most} {s s' : SessionState X O}
     {items : List StreamItem} {bytes rest : List ℕ} {now : Option (List ℕ)} (piece : List ℕ)
     (step : Step (declared.Item O)) {given : declared.Item O}
@@ -580,12 +565,6 @@ pub gives_taken : {X O : Type 0} {most : ℕ} {building : Building X O most} {s 
 gives_taken {building = building} {s' = s'} {items = items} piece step {given = given} p u b e q =
     taken_as (λ x w. subst (λ y. ReadingGivesNext building s' given items y) w.whole
     (step_gives piece step p u b e w.after)) q
-
-pub takes_item : {X O : Type 0} (s s' : SessionState X O) (t t' : ℕ) (o : Option (declared.Item O)) → o ≢ None
-    → ((given : declared.Item O) → o ≡ Some given → (t' ≡ counts_up t (s'.taken - s.taken)) × (s.taken < s'.taken)
-    × (s'.taken ≤ s.limits.stream)) → ReadItemTakes s s' t t' (Ok o)
-takes_item s s' t t' None n f = absurd (n refl)
-takes_item s s' t t' (Some x) n f = f x refl
 
 pub over_the_piece : {X O : Type 0} {most : ℕ} {building : Building X O most} {s' : SessionState X O}
     {items : List StreamItem} {bytes piece : List ℕ} (used : ℕ) (o : Option (declared.Item O))
@@ -624,13 +603,6 @@ no_less (inl e) = let t = ap (λ s. s.taken) e in omega arith
 no_less (inr l) = omega arith
 
 -- ---- a step that gives no item
-pub some_there : {A : Type 0} (o : Option A) → is_some o ≡ true → o ≢ None
-some_there None e n = cc
-some_there (Some x) e n = cc
-
-pub none_there : {A : Type 0} (o : Option A) → is_some o ≡ false → o ≡ None
-none_there None e = refl
-none_there (Some x) e = cc
 
 pub stood_further : {X O : Type 0} {most : ℕ} {building : Building X O most} {s mid s' : SessionState X O}
     {old between now : Option (List ℕ)} (piece : List ℕ) (step : Step (declared.Item O))

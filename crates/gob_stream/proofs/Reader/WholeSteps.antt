@@ -124,11 +124,6 @@ whole_item {L = L} {T = T} {offset = offset} {id = id} most e b w =
     subst (λ z. IsItem base_table (no_deeper most L) T offset (puts id w.value) z T) (sym b.whole)
     (counted b.counts b.item b.stream (value b.may (omega arith) b.names w.spelled))
 
-pub has_item : {L : Bounds} {T : Table} {offset : ℕ} {id : TypeId} {body : List ℕ} {used : ℕ} {piece : List ℕ} {d : ℕ}
-    (most : ℕ) → d ≡ min L.depth most → HasBody L T offset id body used piece → IsWhole T id d body
-    → (i : StreamItem) × IsItem base_table (no_deeper most L) T offset i (take used piece) T
-has_item {id = id} most e b w = (puts id w.value, whole_item most e b w)
-
 -- ---- between two items
 pub between_at : {X O : Type 0} {s : SessionState X O} {at : CountStage} → s.stage ≡ stage.Count at → at.begin ≡ s.taken
     → IsBetween s

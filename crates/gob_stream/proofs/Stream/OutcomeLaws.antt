@@ -39,11 +39,6 @@ pub stream_wire : {L : Bounds} {U : Table} {items : List StreamItem} {b : List �
     → HasWireStruct U
 stream_wire p = continues_wire p base_wire
 
--- bytes that equal a stream's are that stream
-pub stream_at : {L : Bounds} {U : Table} {items : List StreamItem} {b c : List ℕ} → b ≡ c
-    → Stream base_table L items b U → Stream base_table L items c U
-stream_at {L = L} {U = U} {items = items} e p = subst (λ b. Stream base_table L items b U) e p
-
 -- ---- what is refused
 pub refused_no_item : (L : Bounds) (items : List StreamItem) (prefix z : List ℕ) (T : Table) (R : Refusal)
     → Stream base_table L items prefix T → RefusesNext base_table L T (length prefix) z R

@@ -3,7 +3,7 @@ use Rattle.std.proofs.Common.{◌≡◌, ℕ, ◌+◌, ◌-◌, ◌<◌, ◌≤�
 use Rattle.std.proofs.Common.{◌∙◌, subst, append_assoc, length-append}
 use Rattle.std.proofs.Math.Seq.{take-append-add}
 use Rattle.std.proofs.lemmas.Bool.{cases_lt}
-use Rattle.std.proofs.lemmas.List.{append-nil, take-append-le, length-take}
+use Rattle.std.proofs.lemmas.List.{take-append-le, length-take}
 use Rattle.gob_num.specs.Unsigned.{IsBadHead, IsNotMinimal}
 use Rattle.gob_num.proofs.PublicLaws.{unsigned_length}
 use Rattle.gob_types.specs.declared.id.TypeId.{TypeId}
@@ -187,9 +187,3 @@ next_shown {base = base} {L = L} {T = T} {offset = offset} {R = R} y p x (refuse
     refused_body (g.more ++ x) (ap (λ l. l ++ x) g.prefix ∙ append_assoc c g.more x) u l s
     (body_shown g.more p x (subst (λ r. RefusesBody base L T (offset + length c) m (take m r) R) g.rest q)
     (omega arith))
-
--- so it is refused as soon as those bytes are there
-pub next_shown_at_once : {base : Table} {L : Bounds} {T : Table} {offset : ℕ} {R : Refusal} (y p : List ℕ)
-    → RefusesNext base L T offset (y ++ p) R → R.seen ≤ offset + length y → RefusesNext base L T offset y R
-next_shown_at_once {base = base} {L = L} {T = T} {offset = offset} {R = R} y p q n =
-    subst (λ z. RefusesNext base L T offset z R) (append-nil y) (next_shown y p [] q n)

@@ -5,7 +5,7 @@ use Rattle.std.specs.Io.KnownBytes.{Appends}
 use Rattle.std.proofs.KnownBytes.{Keeps-refl, Appends-trans}
 use Rattle.gob_types.specs.Table.{Table}
 use Rattle.gob_types.specs.Base.{base_table}
-use Rattle.gob_types.specs.Defined.{types}
+use Rattle.gob_types.specs.Defined.{Defined, types}
 use Rattle.gob_stream.specs.declared.fault.WriteFault.{WriteFault}
 use Rattle.gob_stream.specs.declared.fault.WriteFault.TheVariants as fault
 use Rattle.gob_stream.specs.declared.output.Output.{Output}
@@ -25,6 +25,10 @@ use Rattle.gob_stream.specs.Calls.Writing.{HasWritten, HasWrittenSome, IsUsableW
 use Rattle.gob_stream.specs.Calls.Writing.{has_written, SentPrefix, SendAnswers}
 use Rattle.gob_stream.specs.Calls.Writing.{WritesItem, Leaves, CountsWriterFaults, WriteEffects}
 use Rattle.gob_stream.proofs.Stream.StreamLaws.{one_more, wider_counted}
+
+-- a writer of these fields
+abbrev pub writer_state : Bounds → Defined → Place → WriterState
+writer_state limits types place = record { limits = limits; types = types; place = place }
 
 -- what is denied before any byte went out is a fault of the item
 pub denied_writes : (L : Bounds) (w w' : WriterState) (items : List StreamItem) (bytes : List ℕ) (T : Table)

@@ -1,25 +1,20 @@
 -- What a reader of the format has read of its input, and what its calls answer: the words of any reader, for the
 -- format.
-use Rattle.std.specs.Prelude.{◌≡◌, ℕ, List, Option, Result, Bool}
+use Rattle.std.specs.Prelude.{ℕ, List, Option}
 use Rattle.gob_types.specs.Table.{Table}
 use Rattle.gob_read.specs.Building.{Building}
 use Rattle.gob_value.specs.Tree.{Tree}
 use Rattle.gob_stream.specs.Bounds.{Bounds}
-use Rattle.gob_types.specs.Base.{base_table}
-use Rattle.gob_stream.specs.Calls.ReaderOf.{EndsWithIn, FillsBy, GivesAllButIn, HasReadBy, PassesBy, PassesOneBy}
-use Rattle.gob_stream.specs.Calls.ReaderOf.{StepsOnBy}
-use Rattle.gob_stream.specs.Calls.ReaderOf.{StopsBy, StopsIn, TakesBy}
-use Rattle.gob_stream.specs.Calls.Session.{types_of}
+use Rattle.gob_stream.specs.Calls.ReaderOf.{EndsWithIn, HasReadBy, StepsOnBy, StopsIn}
 use Rattle.gob_stream.specs.Item.{StreamItem, ItemMeans}
 use Rattle.gob_stream.specs.Machine.SessionState.{SessionState}
-use Rattle.gob_stream.specs.Outcome.{BeginsWithStream, strict}
+use Rattle.gob_stream.specs.Outcome.{strict}
 use Rattle.gob_stream.specs.Stepping.{GivesItemsOf}
 use Rattle.gob_stream.specs.StrictStepping.{strict_stepping}
 use Rattle.gob_stream.specs.declared.fault.Fault.{Fault}
 use Rattle.gob_stream.specs.declared.item.Item as declared
 use Rattle.gob_stream.specs.declared.reader_of.ReaderOf.{ReaderOf}
 use Rattle.gob_stream.specs.declared.session.Step.{Step}
-use Rattle.gob_stream.specs.declared.values.Passed.{Passed}
 pub use Rattle.gob_stream.specs.Calls.ReaderOf.{IsShort, left_to_read, most_ahead, room_in, session_of, waits_in}
 pub use Rattle.gob_stream.specs.Stepping.{gives_none, gives_one}
 
@@ -38,46 +33,14 @@ abbrev pub EndsWith : Bounds → Table → (taken : ℕ) → List StreamItem →
     → Type 0
 EndsWith L T taken items bytes now = EndsWithIn strict L T taken items bytes now
 
--- the bytes begin with the stream of the items, with this table behind it
-pub record Begins (L : Bounds) (T : Table) (items : List StreamItem) (bytes : List ℕ) : Type 0 where
-  pub begins : BeginsWithStream base_table L bytes items
-  pub table : begins.table ≡ T
-
--- all of the bytes but the last ones, of which no more waited, give the items, with this table behind them
-abbrev pub GivesAllBut : Bounds → Table → List StreamItem → (bytes : List ℕ) → Type 0
-GivesAllBut L T items bytes = GivesAllButIn strict L T items bytes
-
 -- why no more items come of an input that had these bytes, where these were given and the types are those of T
 abbrev pub Stops : Bounds → Table → List StreamItem → (bytes : List ℕ) → (now : Option (List ℕ)) → Fault → Type 0
 Stops L T items bytes now e = StopsIn strict L T items bytes now e
-
-abbrev pub StopsFrom : {X O : Type 0} {most : ℕ} → Building X O most → SessionState X O → (read now : Option (List ℕ))
-    → List StreamItem → Fault → Type 0
-StopsFrom building s read now items e = StopsBy (strict_stepping building) s (types_of s) read now items e
-
--- more was read, or the input ended between two items
-abbrev pub Fills : {X O : Type 0} {most : ℕ} → Building X O most → SessionState X O → (r' : StreamReader X O)
-    → (read now : Option (List ℕ)) → List StreamItem → Result Bool Fault → Type 0
-Fills building s r' read now items result =
-    FillsBy (strict_stepping building) s (types_of s) r' read now items result
 
 -- the items of what a step gave
 abbrev pub GivesItems : {O : Type 0} → (means : O → Tree → Type 0) → Option (declared.Item O) → List StreamItem → Type 0
 GivesItems means given items = GivesItemsOf (λ g i. ItemMeans means g i) given items
 
--- so many bytes were taken, with which the items are whole
-abbrev pub TakesItems : {X O : Type 0} {most : ℕ} → Building X O most → (r r' : StreamReader X O)
-    → (read now : Option (List ℕ)) → (items more : List StreamItem) → (used : ℕ) → Type 0
-TakesItems building r r' read now items more used = TakesBy (strict_stepping building) r r' read now items more used
-
 abbrev pub StepsOnFrom : {X O : Type 0} {most : ℕ} → Building X O most → (r r' : StreamReader X O)
     → (read now : Option (List ℕ)) → List StreamItem → Step (declared.Item O) → Type 0
 StepsOnFrom building r r' read now items step = StepsOnBy (strict_stepping building) r r' read now items step
-
--- it went past so many items, which define nothing
-abbrev pub PassesFrom : {X O : Type 0} {most : ℕ} → Building X O most → (r r' : StreamReader X O) → Passed → Type 0
-PassesFrom building r r' passed = PassesBy (strict_stepping building) r r' passed
-
--- past the one whose bytes are these
-abbrev pub PassesOne : {X O : Type 0} {most : ℕ} → Building X O most → (r r' : StreamReader X O) → (used : ℕ) → Type 0
-PassesOne building r r' used = PassesOneBy (strict_stepping building) r r' used

@@ -4,24 +4,18 @@ use Rattle.gob_value.specs.View.{view}
 use Rattle.gob_types.specs.declared.denial.Denial.TheVariants as denial
 use Rattle.gob_stream.specs.Bounds.{within_trees}
 use Rattle.gob_stream.specs.Item.{defines}
-use Rattle.gob_stream.specs.Machine.WriterState.{WriterState}
 use Rattle.gob_stream.specs.WriterRefusal.{refused_body}
 use Rattle.gob_stream.proofs.DenialLaws.{denial_weaker}
 use Rattle.gob_stream.proofs.Written.WritingLaws.{body_alone, whole_item}
 use Rattle.gob_stream.proofs.Written.WriterSteps.{denied_writes, trees_within, sent_writes, denied_effects}
 use Rattle.gob_stream.proofs.Written.WriterSteps.{sent_effects}
-use Rattle.gob_stream.proofs.Written.WriterSteps.{usable_behind, failed_wrote, failed_effects}
+use Rattle.gob_stream.proofs.Written.WriterSteps.{usable_behind, failed_wrote, failed_effects, writer_state}
 use Rattle.gob_stream.proofs.stream_writer.StreamWriter.define.Goals as goal
 
 pub returns-in_err-shape : goal.returns-in_err-shape
 returns-in_err-shape g c =
     let p = err_from_is_err_and c.from_residual.result c.from_residual.ensures.1 in
-    let w : WriterState = record {
-      limits = c.self.inside.limits;
-      types = c.self.inside.types;
-      place =
-          c.self.inside.place;
-    } in
+    let w = writer_state c.self.inside.limits c.self.inside.types c.self.inside.place in
     let why = c.in_err-shape.field-0.0 in
     rw (p.1, p.2, ← c.self.view_is) (record {
       writes = λ items bytes T written. denied_writes (within_trees w.limits) w w items bytes T
@@ -33,12 +27,7 @@ returns-in_err-shape g c =
 pub returns-in_err-begin_item : goal.returns-in_err-begin_item
 returns-in_err-begin_item g c =
     let p = err_from_is_err_and c.from_residual-in_err-begin_item.result c.from_residual-in_err-begin_item.ensures.1 in
-    let w : WriterState = record {
-      limits = c.self.inside.limits;
-      types = c.self.inside.types;
-      place =
-          c.self.inside.place;
-    } in
+    let w = writer_state c.self.inside.limits c.self.inside.types c.self.inside.place in
     let why = c.in_err-begin_item.field-0.0 in
     let refused = rw (c.deref.ensures.value, c.up_to-limits.ensures) at c.in_err-begin_item.ensures.err in
     rw (p.1, p.2, ← c.self.view_is) (record {
@@ -53,12 +42,7 @@ pub returns-in_err-define_admitted : goal.returns-in_err-define_admitted
 returns-in_err-define_admitted g c =
     let p = err_from_is_err_and c.from_residual-in_err-define_admitted.result
     c.from_residual-in_err-define_admitted.ensures.1 in
-    let w : WriterState = record {
-      limits = c.self.inside.limits;
-      types = c.self.inside.types;
-      place =
-          c.self.inside.place;
-    } in
+    let w = writer_state c.self.inside.limits c.self.inside.types c.self.inside.place in
     let kept = ap (λ t. record w { types = t }) c.in_err-define_admitted.ensures.1 in
     rw (p.1, p.2, c.in_err-define_admitted.ensures.0, ← c.self.view_is) (record {
       writes = λ items bytes T written. tt;
@@ -68,12 +52,7 @@ returns-in_err-define_admitted g c =
 
 pub invariant_of-self-2 : goal.invariant_of-self-2
 invariant_of-self-2 g c =
-    let w : WriterState = record {
-      limits = c.self.inside.limits;
-      types = c.self.inside.types;
-      place =
-          c.self.inside.place;
-    } in
+    let w = writer_state c.self.inside.limits c.self.inside.types c.self.inside.place in
     let whole = rw (c.deref.ensures.value, c.up_to-limits.ensures) at c.in_ok-begin_item.ensures.ok in
     let added = c.in_ok-define_admitted.ensures in
     usable_behind (within_trees w.limits) w (record w { types = c.define_admitted.new.table }) c.send.new.self _ _
@@ -90,12 +69,7 @@ invariant_of-self-2 g c =
 
 pub returns : goal.returns
 returns g c =
-    let w : WriterState = record {
-      limits = c.self.inside.limits;
-      types = c.self.inside.types;
-      place =
-          c.self.inside.place;
-    } in
+    let w = writer_state c.self.inside.limits c.self.inside.types c.self.inside.place in
     let whole = rw (c.deref.ensures.value, c.up_to-limits.ensures) at c.in_ok-begin_item.ensures.ok in
     let added = c.in_ok-define_admitted.ensures in
     rw (← c.self.view_is) (record {
@@ -119,12 +93,7 @@ returns g c =
 
 pub returns-then-self : goal.returns-then-self
 returns-then-self g c =
-    let w : WriterState = record {
-      limits = c.self.inside.limits;
-      types = c.self.inside.types;
-      place =
-          c.self.inside.place;
-    } in
+    let w = writer_state c.self.inside.limits c.self.inside.types c.self.inside.place in
     rw (← c.self.view_is) (record {
       writes = λ items bytes T written. failed_wrote c.if-self.true written;
       effects = failed_effects g.W.Write.contents w c.args.output.now c.if-self.true;

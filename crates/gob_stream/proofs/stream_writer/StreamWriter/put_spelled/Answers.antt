@@ -10,7 +10,7 @@ use Rattle.gob_stream.specs.WriterRefusal.{RefusesItem, refused_type, refused_bo
 use Rattle.gob_stream.proofs.DenialLaws.{denial_weaker}
 use Rattle.gob_stream.proofs.Written.WritingLaws.{whole_item}
 use Rattle.gob_stream.proofs.Written.WriterSteps.{denied_writes, all_within, sent_writes, denied_effects, sent_effects}
-use Rattle.gob_stream.proofs.Written.WriterSteps.{usable_behind, failed_effects, failed_wrote}
+use Rattle.gob_stream.proofs.Written.WriterSteps.{usable_behind, failed_effects, failed_wrote, writer_state}
 use Rattle.gob_stream.proofs.stream_writer.StreamWriter.put_spelled.Goals as goal
 
 -- the item of this value is denied so
@@ -40,12 +40,7 @@ returns-in_err-begin_item-clause-writes g c = λ v spelled items bytes T written
 
 pub returns-clause-writes : goal.returns-clause-writes
 returns-clause-writes g c =
-    let w : WriterState = record {
-      limits = c.self.inside.limits;
-      types = c.self.inside.types;
-      place =
-          c.self.inside.place;
-    } in
+    let w = writer_state c.self.inside.limits c.self.inside.types c.self.inside.place in
     let whole = rw c.deref.ensures.value at c.in_ok-begin_item.ensures.ok in
     λ v spelled items bytes T written.
     let before = rw (← c.self.view_is) at written in
@@ -70,12 +65,7 @@ returns-then-self-clause-writes g c = λ v spelled items bytes T written.
 
 pub invariant_of-self-2 : goal.invariant_of-self-2
 invariant_of-self-2 g c =
-    let w : WriterState = record {
-      limits = c.self.inside.limits;
-      types = c.self.inside.types;
-      place =
-          c.self.inside.place;
-    } in
+    let w = writer_state c.self.inside.limits c.self.inside.types c.self.inside.place in
     let whole = rw c.deref.ensures.value at c.in_ok-begin_item.ensures.ok in
     let given = rw (← c.self.view_is) at c.requires in
     usable_behind w.limits w w c.send.new.self _ _ (puts c.args.id given.value) _ _ c.send.result c.self.invariant
@@ -93,44 +83,24 @@ invariant_of-self-2 g c =
 pub returns-in_err-spell_head-clause-effects : goal.returns-in_err-spell_head-clause-effects
 returns-in_err-spell_head-clause-effects g c =
     let p = err_from_is_err_and c.from_residual.result c.from_residual.ensures.1 in
-    let w : WriterState = record {
-      limits = c.self.inside.limits;
-      types = c.self.inside.types;
-      place =
-          c.self.inside.place;
-    } in
+    let w = writer_state c.self.inside.limits c.self.inside.types c.self.inside.place in
     rw (p.1, p.2, ← c.self.view_is) (denied_effects g.W.Write.contents w w c.args.output.now
     c.in_err-spell_head.field-0.0 c.self.invariant c.if-self.false refl)
 
 pub returns-in_err-begin_item-clause-effects : goal.returns-in_err-begin_item-clause-effects
 returns-in_err-begin_item-clause-effects g c =
     let p = err_from_is_err_and c.from_residual-in_err-begin_item.result c.from_residual-in_err-begin_item.ensures.1 in
-    let w : WriterState = record {
-      limits = c.self.inside.limits;
-      types = c.self.inside.types;
-      place =
-          c.self.inside.place;
-    } in
+    let w = writer_state c.self.inside.limits c.self.inside.types c.self.inside.place in
     rw (p.1, p.2, ← c.self.view_is) (denied_effects g.W.Write.contents w w c.args.output.now
     c.in_err-begin_item.field-0.0 c.self.invariant c.if-self.false refl)
 
 pub returns-clause-effects : goal.returns-clause-effects
 returns-clause-effects g c =
-    let w : WriterState = record {
-      limits = c.self.inside.limits;
-      types = c.self.inside.types;
-      place =
-          c.self.inside.place;
-    } in
+    let w = writer_state c.self.inside.limits c.self.inside.types c.self.inside.place in
     rw (← c.self.view_is) (sent_effects g.W.Write.contents w w c.send.new.self _ c.args.output.now c.send.new.output
     c.send.result c.self.invariant c.if-self.false c.send.ensures.sends c.send.ensures.counted)
 
 pub returns-then-self-clause-effects : goal.returns-then-self-clause-effects
 returns-then-self-clause-effects g c =
-    let w : WriterState = record {
-      limits = c.self.inside.limits;
-      types = c.self.inside.types;
-      place =
-          c.self.inside.place;
-    } in
+    let w = writer_state c.self.inside.limits c.self.inside.types c.self.inside.place in
     rw (← c.self.view_is) (failed_effects g.W.Write.contents w c.args.output.now c.if-self.true)
