@@ -1,7 +1,7 @@
 -- What is kept of a stream goes on from item to item.
-use Rattle.std.proofs.Common.{◌≡◌, ℕ, ◌+◌, ◌-◌, ◌<◌, ◌≤◌, ◌^◌, arith, List, [], ◌∷◌, ◌++◌, length, take, drop}
+use Rattle.std.proofs.Common.{◌≡◌, ℕ, ◌+◌, ◌-◌, ◌<◌, ◌≤◌, ◌^◌, arith, List, [], ◌∷◌, ◌++◌, length, take}
 use Rattle.std.proofs.Common.{Option, None, Some, Result, Ok, Err, ◌∙◌, ap, sym, subst, refl, length-append}
-use Rattle.std.proofs.Common.{append_assoc, append-nil, take-append-drop, IfSome, OnOk}
+use Rattle.std.proofs.Common.{append_assoc, append-nil, IfSome, OnOk}
 use Rattle.std.specs.Result.{IsErrAnd}
 use Rattle.gob_num.specs.declared.memory.Memory.{Memory}
 use Rattle.gob_types.specs.Base.{base_table}
@@ -26,7 +26,7 @@ use Rattle.gob_tool.specs.Machine.Counting.{given_count}
 use Rattle.gob_explain.specs.Items.{ShowsFirst, ShowsItem}
 use Rattle.gob_why.specs.Explain.{AreExplained, IsChosen, IsItemText, no_item, item_behind, explained_so, left_out}
 use Rattle.gob_why.specs.Machine.Keeping.{BeginsKept, EndsItem, ExplainsEnd, GoesOn, HasKept, HasReadKept}
-use Rattle.gob_why.specs.Machine.Keeping.{HasReadSome, KeepsAll, KeepsNext, KeepsOn, KeepsUpTo, TakesNext}
+use Rattle.gob_why.specs.Machine.Keeping.{KeepsNext, KeepsOn}
 use Rattle.gob_why.specs.Machine.Reading.{HasValueNext}
 use Rattle.gob_why.specs.declared.explained.Explained.{Explained}
 
@@ -320,7 +320,7 @@ keeps_at which s items items' bytes piece item begin text (Ok n) e is h = absurd
 keeps_at which s items items' bytes piece item begin text (Err f) e is h =
     subst (λ e. KeepsNext which s items items' bytes piece item begin text (Err e)) (sym is) h
 
-begins_kept : (which : Option Explained) (L M : Bounds) (T : Table) (given : List FilledItem)
+pub begins_kept : (which : Option Explained) (L M : Bounds) (T : Table) (given : List FilledItem)
     (bytes more item : List ℕ) (begin : ℕ) (text text' : List ℕ) → L ≡ M → text' ≡ text
     → HasKept which L T given bytes item begin text → BeginsKept which M (bytes ++ more) text'
 begins_kept which L M T given bytes more item begin text text' e f h =
@@ -362,176 +362,35 @@ step_stops_kept which s s' items items' bytes piece item begin text reading.Memo
     no_memory_next which s s' items items' bytes piece item item begin begin text [] same refl h
 step_stops_kept which s s' items items' bytes piece item begin text reading.Failed same h f = absurd f
 
--- ---- from item to item of a piece
-pub keeps_none_yet : (which : Option Explained) (s : SessionState) (items : ℕ) (bytes piece item : List ℕ) (begin : ℕ)
-    (text : List ℕ) → HasReadKept which s items bytes item begin text
-    → KeepsUpTo which s items bytes piece piece item begin (text ++ [])
-keeps_none_yet which s items bytes piece item begin text h = record {
-  prefix = [];
-  whole = refl;
-  has = subst (λ (t : List ℕ). HasReadKept which s items (bytes ++ []) item begin t) (sym (append-nil text))
-      (subst (λ (z : List ℕ). HasReadKept which s items z item begin text) (sym (append-nil bytes)) h);
+-- ---- the items that some bytes begin with
+pub kept_begins : {which : Option Explained} {L : Bounds} {T : Table} {given : List FilledItem} {bytes item : List ℕ}
+    {begin : ℕ} {text : List ℕ} → HasKept which L T given bytes item begin text → BeginsKept which L bytes text
+kept_begins {T = T} {given = given} {item = item} k = record {
+  given = given;
+  prefix = k.prefix;
+  rest = item;
+  table = T;
+  whole = k.whole;
+  stream = k.stream;
+  explained = k.explained;
 }
 
-keeps_up_to : (which : Option Explained) (s s' : SessionState) (items items' : ℕ)
-    (bytes piece rest later item item' : List ℕ) (begin begin' : ℕ) (text text' : List ℕ) (used : ℕ)
-    → later ≡ drop used rest → (u : KeepsUpTo which s items bytes piece rest item begin text)
-    → KeepsNext which s' items items' (bytes ++ u.prefix) rest item' begin' text' (Ok used)
-    → KeepsUpTo which s' items' bytes piece later item' begin' text'
-keeps_up_to which s s' items items' bytes piece rest later item item' begin begin' text text' used so u k = record {
-  prefix = u.prefix ++ take used rest;
-  whole = u.whole ∙ ap (λ (l : List ℕ). u.prefix ++ l)
-      (sym (take-append-drop used rest) ∙ ap (λ (l : List ℕ). take used rest ++ l) (sym so))
-      ∙ sym (append_assoc u.prefix (take used rest) later);
-  has = subst (λ (z : List ℕ). HasReadKept which s' items' z item' begin' text')
-      (append_assoc bytes u.prefix (take used rest)) k.has;
+pub begins_longer : {which : Option Explained} {L : Bounds} {bytes text : List ℕ} (more : List ℕ)
+    → BeginsKept which L bytes text → BeginsKept which L (bytes ++ more) text
+begins_longer more b = record {
+  given = b.given;
+  prefix = b.prefix;
+  rest = b.rest ++ more;
+  table = b.table;
+  whole = ap (λ (l : List ℕ). l ++ more) b.whole ∙ append_assoc b.prefix b.rest more;
+  stream = b.stream;
+  explained = b.explained;
 }
 
--- where it is known what is asked for
-pub keeps_turn : (o which : Option Explained) (s s' : SessionState) (items items' : ℕ)
-    (bytes piece rest later item item' : List ℕ) (begin begin' : ℕ) (text more last : List ℕ) (used : ℕ)
-    → o ≡ which → later ≡ drop used rest → KeepsUpTo which s items bytes piece rest item begin (text ++ more)
-    → TakesNext o s s' items items' rest item begin item' begin' (Ok used) last
-    → KeepsUpTo which s' items' bytes piece later item' begin' (text ++ (more ++ last))
-keeps_turn o which s s' items items' bytes piece rest later item item' begin begin' text more last used same so u f =
-    let v = subst (λ (o : Option Explained). KeepsUpTo o s items bytes piece rest item begin (text ++ more)) (sym same)
-    u in
-    subst (λ (t : List ℕ). KeepsUpTo which s' items' bytes piece later item' begin' t) (append_assoc text more last)
-    (subst (λ (o : Option Explained). KeepsUpTo o s' items' bytes piece later item' begin' ((text ++ more) ++ last))
-    same
-    (keeps_up_to o s s' items items' bytes piece rest later item item' begin begin' (text ++ more)
-    ((text ++ more) ++ last) used so v (f (bytes ++ v.prefix) (text ++ more) v.has)))
-
--- what was read of the piece so far
-pub some_so_far : (o which : Option Explained) (s : SessionState) (items : ℕ) (bytes piece rest item : List ℕ)
-    (begin : ℕ) (text : List ℕ) → o ≡ which → KeepsUpTo which s items bytes piece rest item begin text
-    → HasReadSome o s items item begin
-some_so_far o which s items bytes piece rest item begin text same u =
-    let v = subst (λ (o : Option Explained). KeepsUpTo o s items bytes piece rest item begin text) (sym same) u in
-    record { bytes = bytes ++ v.prefix; text = text; has = v.has }
-
--- each turn takes a byte or counts an item, and there are no more than so many
-pub keeps_falls : (o : Option Explained) (s s' : SessionState) (items items' : ℕ) (rest item item' : List ℕ)
-    (begin begin' : ℕ) (last : List ℕ) (used : ℕ) → limits_of s' ≡ limits_of s → HasReadSome o s items item begin
-    → TakesNext o s s' items items' rest item begin item' begin' (Ok used) last
-    → length rest - used + ((limits_of s').stream + 9 - items') < length rest + ((limits_of s).stream + 9 - items)
-keeps_falls o s s' items items' rest item item' begin begin' last used same h f =
-    let on = f h.bytes h.text h.has in
-    let stream = ap (λ (L : Bounds). L.stream) same in
-    let now = items_end h.has in
-    let then = items_end on.has in
-    omega (arith, on.within, on.nearer)
-
-pub keeps_piece : (which : Option Explained) (s : SessionState) (items : ℕ) (bytes piece rest item : List ℕ)
-    (begin : ℕ) (text : List ℕ) → length rest ≡ 0 → KeepsUpTo which s items bytes piece rest item begin text
-    → HasReadKept which s items (bytes ++ piece) item begin text
-keeps_piece which s items bytes piece [] item begin text none u =
-    subst (λ (l : List ℕ). HasReadKept which s items (bytes ++ l) item begin text)
-    (sym (u.whole ∙ append-nil u.prefix)) u.has
-keeps_piece which s items bytes piece (b ∷ rest) item begin text none u = absurd (omega (arith, none))
-
--- what stops it, with the rest of the piece kept
-stops_kept : (which : Option Explained) (s s' : SessionState) (items items' : ℕ)
-    (bytes piece rest item item' item'' : List ℕ) (begin begin' : ℕ) (text text' : List ℕ) (e : Fault)
-    → (u : KeepsUpTo which s items bytes piece rest item begin text) → item'' ≡ item' ++ rest
-    → KeepsNext which s' items items' (bytes ++ u.prefix) rest item' begin' text' (Err e)
-    → KeepsAll which s' items' (bytes ++ piece) item'' begin' text' (Err e)
-stops_kept which s s' items items' bytes piece rest item item' item'' begin begin' text text' (reading.Refused R) u k
-    n =
-    let L = within_trees (limits_of s') in
-    let all : (bytes ++ u.prefix) ++ rest ≡ bytes ++ piece =
-    append_assoc bytes u.prefix rest ∙ ap (λ (l : List ℕ). bytes ++ l) (sym u.whole) in
-    record {
-      given = n.given;
-      shown = subst (λ (z : List ℕ). ShowsRefusal L z n.given R) all n.shown;
-      types = subst (λ (z : List ℕ). RefusesBehind L z n.given R (types_of s')) all n.types;
-      table = n.table;
-      kept = record {
-        prefix = n.kept.prefix;
-        whole = sym all ∙ ap (λ (l : List ℕ). l ++ rest) n.kept.whole ∙ append_assoc n.kept.prefix item' rest
-            ∙ ap (λ (l : List ℕ). n.kept.prefix ++ l) (sym k);
-        begins = n.kept.begins;
-        stream = n.kept.stream;
-        explained = n.kept.explained;
-      };
-    }
-stops_kept which s s' items items' bytes piece rest item item' item'' begin begin' text text' reading.Read u k n =
-    absurd n
-stops_kept which s s' items items' bytes piece rest item item' item'' begin begin' text text' reading.Memory u k n =
-    record {
-      given = n.given;
-      prefix = n.prefix;
-      rest = n.rest ++ rest;
-      table = n.table;
-      whole = ap (λ (l : List ℕ). bytes ++ l) u.whole ∙ sym (append_assoc bytes u.prefix rest)
-          ∙ ap (λ (l : List ℕ). l ++ rest) n.whole ∙ append_assoc n.prefix n.rest rest;
-      stream = n.stream;
-      explained = n.explained;
-    }
-stops_kept which s s' items items' bytes piece rest item item' item'' begin begin' text text' reading.Failed u k n =
-    absurd n
-
--- or without memory for it
-lost_kept : (which : Option Explained) (s s' : SessionState) (items items' : ℕ)
-    (bytes piece rest item item' item'' : List ℕ) (begin begin' begin'' : ℕ) (text text' text'' : List ℕ) (e : Fault)
-    → (u : KeepsUpTo which s items bytes piece rest item begin text) → text'' ≡ text'
-    → KeepsNext which s' items items' (bytes ++ u.prefix) rest item' begin' text' (Err e)
-    → KeepsAll which s' items' (bytes ++ piece) item'' begin'' text'' (Err reading.Memory)
-lost_kept which s s' items items' bytes piece rest item item' item'' begin begin' begin'' text text' text''
-    (reading.Refused R) u k n =
-    let L = within_trees (limits_of s') in
-    let all : (bytes ++ u.prefix) ++ rest ≡ bytes ++ piece =
-    append_assoc bytes u.prefix rest ∙ ap (λ (l : List ℕ). bytes ++ l) (sym u.whole) in
-    subst (λ (z : List ℕ). BeginsKept which L z text'') all
-    (begins_kept which L L n.table n.given (bytes ++ u.prefix) rest item' begin' text' text'' refl k n.kept)
-lost_kept which s s' items items' bytes piece rest item item' item'' begin begin' begin'' text text' text''
-    reading.Read u k n = absurd n
-lost_kept which s s' items items' bytes piece rest item item' item'' begin begin' begin'' text text' text''
-    reading.Memory u k n =
-    let L = within_trees (limits_of s') in
-    subst (λ (t : List ℕ). BeginsKept which L (bytes ++ piece) t) (sym k)
-    (stops_kept which s s' items items' bytes piece rest item item' (item' ++ rest) begin begin' text text'
-    reading.Memory u refl n)
-lost_kept which s s' items items' bytes piece rest item item' item'' begin begin' begin'' text text' text''
-    reading.Failed u k n = absurd n
-
-pub keeps_all_at : (which : Option Explained) (s : SessionState) (items : ℕ) (bytes item : List ℕ) (begin : ℕ)
-    (text : List ℕ) (r : Result (Unit {0}) Fault) (e : Fault) → IsErrAnd r (λ x. x ≡ e)
-    → KeepsAll which s items bytes item begin text (Err e) → KeepsAll which s items bytes item begin text r
-keeps_all_at which s items bytes item begin text (Ok u) e is h = absurd is
-keeps_all_at which s items bytes item begin text (Err f) e is h =
-    subst (λ e. KeepsAll which s items bytes item begin text (Err e)) (sym is) h
-
--- where it is known what is asked for
-pub turn_stops : (o which : Option Explained) (s s' : SessionState) (items items' : ℕ)
-    (bytes piece rest item item' item'' : List ℕ) (begin begin' begin'' : ℕ) (text more last : List ℕ) (e : Fault)
-    → o ≡ which → KeepsUpTo which s items bytes piece rest item begin (text ++ more) → item'' ≡ item' ++ rest
-    → begin'' ≡ begin' → TakesNext o s s' items items' rest item begin item' begin' (Err e) last
-    → KeepsAll which s' items' (bytes ++ piece) item'' begin'' (text ++ (more ++ last)) (Err e)
-turn_stops o which s s' items items' bytes piece rest item item' item'' begin begin' begin'' text more last e same u k b
-    f =
-    let v = subst (λ (o : Option Explained). KeepsUpTo o s items bytes piece rest item begin (text ++ more)) (sym same)
-    u in
-    let text' = (text ++ more) ++ last in
-    let all = stops_kept o s s' items items' bytes piece rest item item' item'' begin begin' (text ++ more) text' e v k
-    (f (bytes ++ v.prefix) (text ++ more) v.has) in
-    subst (λ (t : List ℕ). KeepsAll which s' items' (bytes ++ piece) item'' begin'' t (Err e))
-    (append_assoc text more last)
-    (subst (λ (o : Option Explained). KeepsAll o s' items' (bytes ++ piece) item'' begin'' text' (Err e)) same
-    (subst (λ (n : ℕ). KeepsAll o s' items' (bytes ++ piece) item'' n text' (Err e)) (sym b) all))
-
-pub turn_lost : (o which : Option Explained) (s s' : SessionState) (items items' : ℕ)
-    (bytes piece rest item item' item'' : List ℕ) (begin begin' begin'' : ℕ) (text more last : List ℕ) (e : Fault)
-    → o ≡ which → KeepsUpTo which s items bytes piece rest item begin (text ++ more)
-    → TakesNext o s s' items items' rest item begin item' begin' (Err e) last
-    → KeepsAll which s' items' (bytes ++ piece) item'' begin'' (text ++ (more ++ last)) (Err reading.Memory)
-turn_lost o which s s' items items' bytes piece rest item item' item'' begin begin' begin'' text more last e same u f =
-    let v = subst (λ (o : Option Explained). KeepsUpTo o s items bytes piece rest item begin (text ++ more)) (sym same)
-    u in
-    let text' = (text ++ more) ++ last in
-    subst (λ (t : List ℕ). KeepsAll which s' items' (bytes ++ piece) item'' begin'' t (Err reading.Memory))
-    (append_assoc text more last)
-    (subst (λ (o : Option Explained). KeepsAll o s' items' (bytes ++ piece) item'' begin'' text' (Err reading.Memory))
-    same
-    (lost_kept o s s' items items' bytes piece rest item item' item'' begin begin' begin'' (text ++ more)
-    text' text' e v refl (f (bytes ++ v.prefix) (text ++ more) v.has)))
+pub next_begins : (which : Option Explained) (s : SessionState) (items items' : ℕ) (bytes piece item : List ℕ)
+    (begin : ℕ) (text : List ℕ) (e : Fault) → KeepsNext which s items items' bytes piece item begin text (Err e)
+    → BeginsKept which (within_trees (limits_of s)) bytes text
+next_begins which s items items' bytes piece item begin text (reading.Refused R) n = kept_begins n.kept
+next_begins which s items items' bytes piece item begin text reading.Read n = absurd n
+next_begins which s items items' bytes piece item begin text reading.Memory n = n
+next_begins which s items items' bytes piece item begin text reading.Failed n = absurd n

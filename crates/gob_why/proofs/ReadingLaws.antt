@@ -1,14 +1,19 @@
 -- How the reading of all of an input goes on, and how it ends.
-use Rattle.std.proofs.Common.{◌≡◌, ℕ, ◌+◌, ◌≤◌, arith, List, [], ◌++◌, length, take}
-use Rattle.std.proofs.Common.{Option, Some, None}
-use Rattle.std.proofs.Common.{Ok, Err, ◌∙◌, ap, sym, subst, refl, append_assoc, length-append, append-nil}
+use Rattle.std.proofs.Common.{◌≡◌, ℕ, ◌+◌, ◌-◌, ◌<◌, arith, List, [], ◌++◌, length, take, drop, take-append-drop}
+use Rattle.std.proofs.Common.{Option, Some, None, true, false}
+use Rattle.std.proofs.Common.{Result, Ok, Err, ◌∙◌, ap, sym, subst, refl, append_assoc, length-append, append-nil}
+use Rattle.std.specs.Result.{IsErrAnd}
 use Rattle.std.specs.Io.KnownBytes.{Consumes, IsAtEnd, Keeps}
-use Rattle.std.proofs.KnownBytes.{Consumes-kept, Consumes-nil, Consumes-trans}
+use Rattle.std.proofs.KnownBytes.{Consumes-kept, Consumes-nil, Consumes-trans, Keeps-refl}
+use Rattle.std.proofs.lemmas.List.{length-take-le}
 use Rattle.gob_types.specs.Base.{base_table}
 use Rattle.gob_types.specs.Defined.{definition_count}
 use Rattle.gob_types.specs.Table.{Table}
+use Rattle.gob_explain.specs.Machine.Putting.{puts_both}
+use Rattle.gob_explain.specs.Putting.{PutsMore}
+use Rattle.gob_explain.specs.declared.text.lines_out.LineFault.{LineFault}
 use Rattle.gob_stream.specs.Bounds.{Bounds, within_trees}
-use Rattle.gob_stream.specs.Reading.{Taken}
+use Rattle.gob_stream.specs.Reading.{SomeTaken, Taken}
 use Rattle.gob_stream.specs.declared.fault.Fault.{Fault}
 use Rattle.gob_stream.specs.declared.fault.Fault.TheVariants as reading
 use Rattle.gob_stream.specs.declared.fault.Refusal.{Refusal}
@@ -31,9 +36,13 @@ use Rattle.gob_tool.specs.declared.fault.ToolFault.{ToolFault}
 use Rattle.gob_tool.specs.declared.fault.ToolFault.TheVariants as fault
 use Rattle.gob_tool.proofs.CheckLaws.{counted_whole}
 use Rattle.gob_tool.specs.CheckingGo.{IsNoGoStream, LongestGoStream}
-use Rattle.gob_why.specs.Machine.Keeping.{HasReadKept, KeepsAll}
-use Rattle.gob_why.specs.Machine.Reading.{HasTaken}
+use Rattle.gob_why.specs.Explain.{AreExplained, ended_there, shown_there}
+use Rattle.gob_why.specs.Machine.Keeping.{BeginsKept, HasReadKept, HasReadSome, IsRefusedKept, IsUnreadKept}
+use Rattle.gob_why.specs.Machine.Keeping.{IsWholeKept, ReadsBytes, TakesNext}
+use Rattle.gob_why.specs.Machine.Reading.{ComesMore, HasTaken, ReadsAll}
 use Rattle.gob_why.specs.declared.explained.Explained.{Explained}
+use Rattle.gob_why.proofs.KeepingLaws.{begins_kept, begins_longer, items_end, next_begins}
+use Rattle.gob_why.proofs.RefusedLaws.{explained_there}
 
 -- ---- known bytes
 taken_known : (now : Option (List ℕ)) {bytes taken : List ℕ} → Consumes (Some bytes) now taken → Taken bytes now taken
@@ -119,97 +128,259 @@ stream_read {s = s} {items = items} {bytes = bytes} a ends =
     subst (λ (T : Table). FilledStream base_table (within_trees (limits_of s)) items bytes T)
     (sym (types_between a.stage one.rest ∙ one.table)) w.stream
 
--- ---- from piece to piece
--- a piece that came, in a buffer
-pub piece_came : (now next : Option (List ℕ)) {buf piece : List ℕ} (count : ℕ) → piece ≡ buf
-    → Consumes now next (take count buf) → Consumes now next (take count piece)
-piece_came now next count same c = subst (λ l. Consumes now next (take count l)) (sym same) c
+-- ---- what was put out
+pub at_fault : {A : Type 0} (P : Result A Fault → Type 0) (r : Result A Fault) (e : Fault) → IsErrAnd r (λ x. x ≡ e)
+    → P (Err e) → P r
+at_fault P (Ok a) e is h = absurd is
+at_fault P (Err f) e is h = subst (λ e. P (Err e)) (sym is) h
 
--- or none did
-pub none_came : (now next : Option (List ℕ)) (buf : List ℕ) (count : ℕ) → count ≡ 0
-    → Consumes now next (take count buf) → Consumes now next []
-none_came now next buf count zero c = subst (λ n. Consumes now next (take n buf)) zero c
-
-pub taken_none : (which : Option Explained) (s : SessionState) (items : ℕ) (item : List ℕ) (begin : ℕ)
-    (text : List ℕ) (read : Option (List ℕ)) → HasReadKept which s items [] item begin text
-    → HasTaken which s items 0 read read item begin
-taken_none which s items item begin text read h =
-    record { taken = []; text = text; input = Consumes-nil read; has = h; bytes_are = refl }
-
-module _ {which : Option Explained} {s : SessionState} {n m : ℕ} {read now : Option (List ℕ)} {item : List ℕ}
-    {begin : ℕ} (h : HasTaken which s n m read now item begin) where
-  pub piece_taken : (s' : SessionState) (n' count : ℕ) (next : Option (List ℕ)) (piece item' : List ℕ) (begin' : ℕ)
-      (text' : List ℕ) → Consumes now next piece → length piece ≡ count
-      → HasReadKept which s' n' (h.taken ++ piece) item' begin' text'
-      → HasTaken which s' n' (m + count) read next item' begin'
-  piece_taken s' n' count next piece item' begin' text' c size t = record {
-    taken = h.taken ++ piece;
-    text = text';
-    input = Consumes-trans read now next h.taken piece h.input c;
-    has = t;
-    bytes_are = omega (arith, h.bytes_are, size, length-append h.taken piece);
+module _ {O E : Type 0} (puts : O → O → List ℕ → Result (Unit {0}) E → Type 0)
+    (joined : (a b c : O) (x y : List ℕ) (r : Result (Unit {0}) E) → puts a b x (Ok tt) → puts b c y r
+    → puts a c (x ++ y) r)
+    (cut : (a b : O) (x y : List ℕ) (e : E) → puts a b x (Err e) → puts a b (x ++ y) (Err e)) where
+  pub puts_then : {a b c : O} {f g h : Option (LineFault E)} {P Q R : List ℕ → Type 0} (p : PutsMore puts a f b g P)
+      (q : PutsMore puts b g c h Q) → R (p.text ++ q.text) → PutsMore puts a f c h R
+  puts_then {a = a} {b = b} {c = c} {f = f} {g = g} {h = h} p q r = record {
+    text = p.text ++ q.text;
+    put = puts_both puts joined cut a b c f g h p.text q.text p.put q.put;
+    holds = r;
   }
 
-  -- no more bytes than the limit for the stream, and a count
-  pub bytes_within : m ≤ (limits_of s).stream + 9
-  bytes_within = omega (arith, h.bytes_are, read_within h.has.gave)
+  -- what holds of the text that was put out holds where no text was put out behind it
+  pub puts_flushed : {a b c : O} {f g h : Option (LineFault E)} {P : List ℕ → Type 0} (p : PutsMore puts a f b g P)
+      → PutsMore puts b g c h (λ text. text ≡ []) → PutsMore puts a f c h P
+  puts_flushed {P = P} p q = puts_then p q
+      (subst P (sym (append-nil p.text) ∙ ap (λ (m : List ℕ). p.text ++ m) (sym q.holds)) p.holds)
+
+-- ---- from item to item
+pub taken_first : (which : Option Explained) (s : SessionState) (items : ℕ) (item : List ℕ) (begin : ℕ)
+    (read : Option (List ℕ)) (waits : List ℕ) → waits ≡ [] → HasReadKept which s items [] item begin []
+    → HasTaken which s items read read waits item begin []
+taken_first which s items item begin read waits none h = record
+    { taken = []; input = subst (λ (w : List ℕ). Consumes read read w) (sym none) (Consumes-nil read); has = h }
+
+module _ {which : Option Explained} {s : SessionState} {items : ℕ} {read now : Option (List ℕ)}
+    {waits item : List ℕ} {begin : ℕ} {text : List ℕ}
+    (h : HasTaken which s items read now waits item begin text) where
+  pub some_taken : HasReadSome which s items item begin
+  some_taken = record { bytes = h.taken; text = text; has = h.has }
+
+  -- all that was read
+  pub came : (next : Option (List ℕ)) (bytes : List ℕ) → read ≡ Some bytes → Keeps now next
+      → Taken bytes next (h.taken ++ waits)
+  came next bytes known k =
+      taken_of next bytes (h.taken ++ waits) known (Consumes-kept read now next (h.taken ++ waits) h.input k)
+
+  -- where none waits
+  only_taken : waits ≡ [] → Consumes read now h.taken
+  only_taken none = subst (λ (l : List ℕ). Consumes read now l)
+      (ap (λ (l : List ℕ). h.taken ++ l) none ∙ append-nil h.taken) h.input
+
+  pub more_came : (next : Option (List ℕ)) (later : List ℕ) → ComesMore now next waits later (Ok true)
+      → HasTaken which s items read next later item begin text
+  more_came next later c = record {
+    taken = h.taken;
+    input = subst (λ (l : List ℕ). Consumes read next l)
+        (append_assoc h.taken waits c.0 ∙ ap (λ (l : List ℕ). h.taken ++ l) (sym c.2))
+        (Consumes-trans read now next (h.taken ++ waits) c.0 h.input c.1);
+    has = h.has;
+  }
+
+  pub next_taken : (s' : SessionState) (items' : ℕ) (later item' : List ℕ) (begin' : ℕ) (more : List ℕ) (used : ℕ)
+      → later ≡ drop used waits → TakesNext which s s' items items' waits item begin item' begin' (Ok used) more
+      → HasTaken which s' items' read now later item' begin' (text ++ more)
+  next_taken s' items' later item' begin' more used so f = record {
+    taken = h.taken ++ take used waits;
+    input = subst (λ (l : List ℕ). Consumes read now l)
+        (ap (λ (l : List ℕ). h.taken ++ l)
+        (sym (take-append-drop used waits) ∙ ap (λ (l : List ℕ). take used waits ++ l) (sym so))
+        ∙ sym (append_assoc h.taken (take used waits) later))
+        h.input;
+    has = (f h.taken text h.has).has;
+  }
+
+  -- each turn takes a byte or counts an item, and there are no more than so many of each
+  pub next_falls : (s' : SessionState) (items' : ℕ) (item' : List ℕ) (begin' : ℕ) (more : List ℕ) (used : ℕ)
+      → limits_of s' ≡ limits_of s
+      → TakesNext which s s' items items' waits item begin item' begin' (Ok used) more
+      → ((limits_of s').stream + 9 - s'.taken) + ((limits_of s').stream + 9 - items')
+      < ((limits_of s).stream + 9 - s.taken) + ((limits_of s).stream + 9 - items)
+  next_falls s' items' item' begin' more used same f =
+      let on = f h.taken text h.has in
+      let stream = ap (λ (L : Bounds). L.stream) same in
+      omega (
+        arith,
+        on.nearer,
+        items_end on.has,
+        read_within on.has.gave,
+        on.has.gave.taken,
+        h.has.gave.taken,
+        length-append h.taken (take used waits),
+        length-take-le used waits on.within,
+        stream,
+      )
 
   -- ---- what ends it
-  -- a read that failed
-  pub read_failed : (M : Bounds) (next : Option (List ℕ)) → limits_of s ≡ M → Keeps now next → (bytes : List ℕ)
-      → read ≡ Some bytes → IsNoGoStream (within_trees M) bytes next (reading_fault reading.Read)
-  read_failed M next same k bytes known =
-      no_stream_under (limits_of s) M bytes next fault.Read same (record {
+  -- before the end, where all that was read begins with the items
+  pub begins_all : (M : Bounds) (next : Option (List ℕ)) → limits_of s ≡ M → Keeps now next → (bytes : List ℕ)
+      → read ≡ Some bytes → SomeTaken bytes next (λ taken. BeginsKept which (within_trees M) taken text)
+  begins_all M next same k bytes known = record {
+    bytes = h.taken ++ waits;
+    taken = came next bytes known k;
+    holds = begins_kept which (within_trees (limits_of s)) (within_trees M) h.has.gave.table h.has.given h.taken waits
+        item begin text text (ap (λ (L : Bounds). within_trees L) same) refl h.has.kept;
+  }
+
+  -- a read that failed, or memory for one
+  pub more_stops : (M : Bounds) (U : Table) (next : Option (List ℕ)) (later : List ℕ) (e : Fault) → limits_of s ≡ M
+      → ComesMore now next waits later (Err e)
+      → ReadsAll which (within_trees M) U items read next item begin (Err e) text
+  more_stops M U next later (reading.Refused R) same c = absurd c
+  more_stops M U next later reading.Read same c = λ bytes known.
+      let L = within_trees (limits_of s) in
+      let k = h.has.kept in
+      let unread : IsUnreadKept which L h.taken text = record {
+        begins = record {
+          given = h.has.given;
+          prefix = k.prefix;
+          rest = item;
+          table = h.has.gave.table;
+          whole = k.whole;
+          stream = k.stream;
+          explained = k.explained;
+        };
+        longest = gives_longest h.has.gave;
+      } in
+      record {
         bytes = h.taken;
-        taken = taken_of next bytes h.taken known (Consumes-kept read now next h.taken h.input k);
-        holds = (h.has.given, gives_longest h.has.gave);
-      })
+        taken = taken_of next bytes h.taken known (Consumes-kept read now next h.taken (only_taken c.0) c.1);
+        holds = subst (λ (L : Bounds). IsUnreadKept which (within_trees L) h.taken text) same unread;
+      }
+  more_stops M U next later reading.Memory same c = λ bytes known. begins_all M next same c.1 bytes known
+  more_stops M U next later reading.Failed same c = absurd c
 
-  -- bytes of a piece that are refused
-  pub piece_stops : (s' : SessionState) (n' : ℕ) (item' : List ℕ) (begin' : ℕ) (text' : List ℕ) (M : Bounds)
-      (next : Option (List ℕ)) (piece : List ℕ) (e : Fault) → limits_of s' ≡ M → Consumes now next piece
-      → KeepsAll which s' n' (h.taken ++ piece) item' begin' text' (Err e) → (bytes : List ℕ) → read ≡ Some bytes
-      → IsNoGoStream (within_trees M) bytes next (reading_fault e)
-  piece_stops s' n' item' begin' text' M next piece (reading.Refused R) same c f bytes known =
-      let L = within_trees (limits_of s') in
-      let t = taken_of next bytes (h.taken ++ piece) known (Consumes-trans read now next h.taken piece h.input c) in
-      no_stream_under (limits_of s') M bytes next (fault.Refused R) same (
-        f.given,
-        subst (λ (b : List ℕ). FilledOutcome base_table L b f.given (refused R)) (sym t.whole)
-            (refused_still t.left f.shown),
-      )
-  piece_stops s' n' item' begin' text' M next piece reading.Read same c f bytes known = absurd f
-  piece_stops s' n' item' begin' text' M next piece reading.Memory same c f bytes known = tt
-  piece_stops s' n' item' begin' text' M next piece reading.Failed same c f bytes known = absurd f
-
-  -- the end of the input within an item
-  pub end_stops : (s' : SessionState) (M : Bounds) (next : Option (List ℕ)) (e : Fault) → limits_of s ≡ M
-      → Consumes now next [] → IsAtEnd next → FinishAnswers s s' h.has.given h.taken (Err e) → (bytes : List ℕ)
-      → read ≡ Some bytes → IsNoGoStream (within_trees M) bytes next (reading_fault e)
-  end_stops s' M next (reading.Refused R) same c end f bytes known =
-      let a = all_taken now next bytes h.taken known h.input c end in
+  -- the end of the input, between two items
+  pub end_whole : (s' : SessionState) (M : Bounds) (next : Option (List ℕ)) (later : List ℕ) (u : Unit {0})
+      → limits_of s ≡ M → types_of s' ≡ types_of s → ComesMore now next waits later (Ok false)
+      → FinishAnswers s s' h.has.given h.taken (Ok u)
+      → ReadsAll which (within_trees M) (types_of s') items read next item begin (Ok true) text
+  end_whole s' M next later u same still c f = λ bytes known.
       let L = within_trees (limits_of s) in
-      no_stream_under (limits_of s) M bytes next (fault.Refused R) same (
-        h.has.given,
-        subst (λ (b : List ℕ). FilledOutcome base_table L b h.has.given (refused R)) a.all f.0,
-      )
-  end_stops s' M next reading.Read same c end f bytes known = absurd f
-  end_stops s' M next reading.Memory same c end f bytes known = absurd f
-  end_stops s' M next reading.Failed same c end f bytes known = absurd f
-
-  -- or between two items
-  pub end_counts : (s' : SessionState) (M : Bounds) (next : Option (List ℕ)) (u : Unit {0}) (tally : Tally)
-      → limits_of s ≡ M → Consumes now next [] → IsAtEnd next → tally.items ≡ n
-      → tally.types ≡ definition_count (types_of s) → tally.bytes ≡ m
-      → FinishAnswers s s' h.has.given h.taken (Ok u) → (bytes : List ℕ) → read ≡ Some bytes
-      → EndsCountingIn profile (within_trees M) bytes next (Ok tally)
-  end_counts s' M next u tally same c end items types_are bytes_are f bytes known =
-      let a = all_taken now next bytes h.taken known h.input c end in
-      let L = within_trees (limits_of s) in
-      subst (λ (L : Bounds). EndsCountingIn profile (within_trees L) bytes next (Ok tally)) same
-      (counted_whole profile tally (items ∙ h.has.items_are) types_are (bytes_are ∙ h.bytes_are) (record {
-        stream = subst (λ (b : List ℕ). FilledStream base_table L h.has.given b (types_of s)) a.all
-            (stream_read h.has.gave f.0.ends);
-        count = ap length a.all;
+      let a = all_taken now next bytes h.taken known (only_taken c.0) c.1 c.2 in
+      let k = h.has.kept in
+      let stream = stream_read h.has.gave f.0.ends in
+      let one = one_reading item [] k.stream stream (sym k.whole ∙ sym (append-nil h.taken)) in
+      let explained = subst (λ (T : Table). AreExplained which L h.has.given h.taken T text) (one.table ∙ sym still)
+      (subst (λ (b : List ℕ). AreExplained which L h.has.given b h.has.gave.table text) one.bytes k.explained) in
+      let whole : IsWholeKept which L (types_of s') items h.taken next begin text = record {
+        given = h.has.given;
+        items_are = h.has.items_are;
+        stream = subst (λ (T : Table). FilledStream base_table L h.has.given h.taken T) (sym still) stream;
         end = a.end;
-      }))
+        begins = k.begins ∙ ap length one.bytes;
+        explained = explained;
+      } in
+      subst (λ (L : Bounds). IsWholeKept which (within_trees L) (types_of s') items bytes next begin text) same
+      (subst (λ (b : List ℕ). IsWholeKept which L (types_of s') items b next begin text) a.all whole)
+
+  -- or within one
+  pub end_stops : (s' : SessionState) (M : Bounds) (next : Option (List ℕ)) (later : List ℕ) (e : Fault)
+      → limits_of s ≡ M → types_of s' ≡ types_of s → ComesMore now next waits later (Ok false)
+      → FinishAnswers s s' h.has.given h.taken (Err e)
+      → ReadsAll which (within_trees M) (types_of s') items read next item begin (Err e) text
+  end_stops s' M next later (reading.Refused R) same still c f = λ bytes known.
+      let L = within_trees (limits_of s) in
+      let a = all_taken now next bytes h.taken known (only_taken c.0) c.1 c.2 in
+      let k = h.has.kept in
+      let reached = explained_there k.prefix item f.0.ends k.stream k.whole in
+      let stops : IsRefusedKept which L (types_of s') h.taken item begin text R = record {
+        given = h.has.given;
+        outcome = f.0;
+        types = ended_there s refl h.has.gave f.1 (sym still);
+        rest = [];
+        read = h.taken;
+        whole = sym (append-nil h.taken);
+        behind = omega (arith, reached.0, k.begins);
+        there = reached.1;
+        table = h.has.gave.table;
+        kept = k;
+      } in
+      subst (λ (L : Bounds). IsRefusedKept which (within_trees L) (types_of s') bytes item begin text R) same
+      (subst (λ (b : List ℕ). IsRefusedKept which L (types_of s') b item begin text R) a.all stops)
+  end_stops s' M next later reading.Read same still c f = absurd f
+  end_stops s' M next later reading.Memory same still c f = absurd f
+  end_stops s' M next later reading.Failed same still c f = absurd f
+
+  -- bytes that are refused, or what memory is wanting for
+  pub next_lost : (s' : SessionState) (items' : ℕ) (M : Bounds) (item' : List ℕ) (begin' : ℕ) (more : List ℕ)
+      (e : Fault) → limits_of s' ≡ M → TakesNext which s s' items items' waits item begin item' begin' (Err e) more
+      → (bytes : List ℕ) → read ≡ Some bytes
+      → SomeTaken bytes now (λ taken. BeginsKept which (within_trees M) taken (text ++ more))
+  next_lost s' items' M item' begin' more e same f bytes known =
+      let b = next_begins which s' items items' h.taken waits item' begin' (text ++ more) e (f h.taken text h.has) in
+      record {
+        bytes = h.taken ++ waits;
+        taken = came now bytes known (Keeps-refl now);
+        holds = subst (λ (L : Bounds). BeginsKept which (within_trees L) (h.taken ++ waits) (text ++ more)) same
+            (begins_longer waits b);
+      }
+
+  -- and the rest of the bytes that wait is kept
+  pub next_stops : (s' : SessionState) (items' items'' : ℕ) (M : Bounds) (item' item'' : List ℕ) (begin' begin'' : ℕ)
+      (more : List ℕ) (e : Fault) → limits_of s' ≡ M → item'' ≡ item' ++ waits → begin'' ≡ begin'
+      → TakesNext which s s' items items' waits item begin item' begin' (Err e) more
+      → ReadsAll which (within_trees M) (types_of s') items'' read now item'' begin'' (Err e) (text ++ more)
+  next_stops s' items' items'' M item' item'' begin' begin'' more (reading.Refused R) same k b f = λ bytes known.
+      let L = within_trees (limits_of s') in
+      let n = f h.taken text h.has in
+      let t = came now bytes known (Keeps-refl now) in
+      let whole : h.taken ++ waits ≡ n.kept.prefix ++ item'' =
+      ap (λ (l : List ℕ). l ++ waits) n.kept.whole ∙ append_assoc n.kept.prefix item' waits
+      ∙ ap (λ (l : List ℕ). n.kept.prefix ++ l) (sym k) in
+      let begins = b ∙ n.kept.begins in
+      let reached = explained_there n.kept.prefix item'' n.shown.outcome.ends n.kept.stream whole in
+      let stops : IsRefusedKept which L (types_of s') bytes item'' begin'' (text ++ more) R = record {
+        given = n.given;
+        outcome = subst (λ (b : List ℕ). FilledOutcome base_table L b n.given (refused R)) (sym t.whole)
+            (refused_still t.left n.shown);
+        types = shown_there (h.taken ++ waits) t.left t.whole n.types;
+        rest = t.left;
+        read = h.taken ++ waits;
+        whole = t.whole;
+        behind = omega (arith, reached.0, begins);
+        there = reached.1;
+        table = n.table;
+        kept = record {
+          prefix = n.kept.prefix;
+          whole = whole;
+          begins = begins;
+          stream = n.kept.stream;
+          explained = n.kept.explained;
+        };
+      } in
+      subst (λ (L : Bounds). IsRefusedKept which (within_trees L) (types_of s') bytes item'' begin'' (text ++ more) R)
+      same stops
+  next_stops s' items' items'' M item' item'' begin' begin'' more reading.Read same k b f = λ bytes known.
+      absurd (f h.taken text h.has)
+  next_stops s' items' items'' M item' item'' begin' begin'' more reading.Memory same k b f = λ bytes known.
+      next_lost s' items' M item' begin' more reading.Memory same f bytes known
+  next_stops s' items' items'' M item' item'' begin' begin'' more reading.Failed same k b f = λ bytes known.
+      absurd (f h.taken text h.has)
+
+-- ---- what is counted
+pub counts_all : (which : Option Explained) (L : Bounds) (U : Table) (items : ℕ) (bytes : List ℕ)
+    (now : Option (List ℕ)) (item : List ℕ) (begin : ℕ) (text : List ℕ) (tally : Tally) → tally.items ≡ items
+    → tally.types ≡ definition_count U → tally.bytes ≡ begin
+    → ReadsBytes which L U items bytes now item begin (Ok true) text → EndsCountingIn profile L bytes now (Ok tally)
+counts_all which L U items bytes now item begin text tally items_so types_so bytes_so w =
+    counted_whole profile tally (items_so ∙ w.items_are) types_so bytes_so
+    (record { stream = w.stream; count = w.begins; end = w.end })
+
+pub stops_all : (which : Option Explained) (L : Bounds) (U : Table) (items : ℕ) (bytes : List ℕ)
+    (now : Option (List ℕ)) (item : List ℕ) (begin : ℕ) (text : List ℕ) (e : Fault)
+    → ReadsBytes which L U items bytes now item begin (Err e) text → IsNoGoStream L bytes now (reading_fault e)
+stops_all which L U items bytes now item begin text (reading.Refused R) x = (x.given, x.outcome)
+stops_all which L U items bytes now item begin text reading.Read x =
+    record { bytes = x.bytes; taken = x.taken; holds = (x.holds.begins.given, x.holds.longest) }
+stops_all which L U items bytes now item begin text reading.Memory x = tt
+stops_all which L U items bytes now item begin text reading.Failed x = absurd x

@@ -1,35 +1,31 @@
 -- Lines that were sent while they were made: what is answered, and what went out.
-use Rattle.std.proofs.Common.{◌≡◌, ◌∙◌, ℕ, List, [], ◌++◌, Option, None, Some, Result, Ok, Err, ap, sym, subst}
-use Rattle.std.proofs.Common.{append-nil, append_assoc, take, ◌-◌}
+use Rattle.std.proofs.Common.{◌≡◌, ◌∙◌, ℕ, List, [], ◌++◌, Option, None, Some, Result, Ok, Err, ap, sym, subst, refl}
+use Rattle.std.proofs.Common.{Bool, IfErr, append-nil, append_assoc, take, ◌-◌}
 use Rattle.std.specs.Io.KnownBytes.{Appends, Keeps}
-use Rattle.std.proofs.KnownBytes.{Appends-kept, Appends-trans}
+use Rattle.std.proofs.KnownBytes.{Appends-kept, Appends-nil, Appends-trans}
 use Rattle.gob_types.specs.Table.{Table}
 use Rattle.gob_explain.specs.Items.{ShowsFirst, ShowsItem}
 use Rattle.gob_explain.specs.Putting.{PutsOn, PutsUpTo}
 use Rattle.gob_explain.specs.declared.text.lines_out.LineFault.{LineFault}
 use Rattle.gob_explain.specs.declared.text.lines_out.LineFault.TheVariants as line
-use Rattle.gob_stream.specs.Bounds.{within_trees}
 use Rattle.gob_stream.specs.Calls.Writing.{CountsFault, CountsWriterFaults}
 use Rattle.gob_stream.specs.Devices.{counts_up}
+use Rattle.gob_stream.specs.Reading.{CountsReads}
 use Rattle.gob_stream.specs.declared.fault.Fault.{Fault}
 use Rattle.gob_stream.specs.declared.fault.Fault.TheVariants as reading
 use Rattle.gob_stream.specs.declared.fault.Refusal.{Refusal}
 use Rattle.gob_stream.specs.declared.fault.WriteFault.{WriteFault}
 use Rattle.gob_stream.specs.declared.fault.WriteFault.TheVariants as writing
-use Rattle.gob_go.specs.Calls.Session.{limits_of}
-use Rattle.gob_go.specs.Machine.SessionState.{SessionState}
-use Rattle.gob_tool.specs.Ending.{CountsOnlyWrites}
-use Rattle.gob_tool.specs.Fault.{reading_fault, writing_fault}
+use Rattle.gob_tool.specs.Fault.{writing_fault}
 use Rattle.gob_tool.specs.Sending.{Sends}
 use Rattle.gob_tool.specs.Showing.{AppendsPrefix}
 use Rattle.gob_tool.specs.declared.fault.ToolFault.{ToolFault}
 use Rattle.gob_tool.specs.declared.fault.ToolFault.TheVariants as fault
-use Rattle.gob_tool.proofs.EndLaws.{sent_prefix}
+use Rattle.gob_tool.proofs.EndLaws.{sent_prefix, writing_unread}
 use Rattle.gob_why.specs.Explain.{IsRefusedChosen, IsRefusedText, explained_up_to, refused_so}
-use Rattle.gob_why.specs.Machine.Keeping.{CutKept, ExplainsPiece, KeepsAll, TellsRefused}
+use Rattle.gob_why.specs.Machine.Keeping.{TellsRefused}
 use Rattle.gob_why.specs.Machine.Sending.{sending_answer}
 use Rattle.gob_why.specs.declared.explained.Explained.{Explained}
-use Rattle.gob_why.proofs.ExplainLaws.{all_begins}
 
 -- ---- prefixes
 -- all of a text is a prefix of it
@@ -92,6 +88,13 @@ module _ {O : Type 0} (a b : O) (out_of : O → Option (List ℕ)) (count_of : O
       sent_up_to g
       (subst (λ (f : Option (LineFault WriteFault)). PutsOn (SendsBy out_of count_of Same) a f b g text) none h)
 
+-- a flush puts out no text
+pub flush_sends : (old new : Option (List ℕ)) (r : Result (Unit {0}) WriteFault) → Keeps old new
+    → IfErr r (λ e. e ≡ writing.Write) → Sends old new [] r
+flush_sends old new (Ok u) k is = Appends-kept old old new [] (Appends-nil old) k
+flush_sends old new (Err e) k is =
+    (is, record { prefix = []; rest = []; whole = refl; out = Appends-kept old old new [] (Appends-nil old) k })
+
 -- ---- by the answer
 abbrev pub IsOkAnswer : Result (Unit {0}) ToolFault → Type 0
 IsOkAnswer (Ok u) = Unit {0}
@@ -103,6 +106,11 @@ pub all_sent : (old new : Option (List ℕ)) (m n : ℕ) (text : List ℕ) (f : 
 all_sent old new m n text None u is s = s.0
 all_sent old new m n text (Some line.Memory) u is s = absurd (subst IsOkAnswer is tt)
 all_sent old new m n text (Some (line.Out e)) u is s = absurd (subst IsOkAnswer is tt)
+
+pub none_failed : (f : Option (LineFault WriteFault)) (u : Unit {0}) → Ok u ≡ sending_answer f → f ≡ None
+none_failed None u is = refl
+none_failed (Some line.Memory) u is = absurd (subst IsOkAnswer is tt)
+none_failed (Some (line.Out e)) u is = absurd (subst IsOkAnswer is tt)
 
 -- this holds of a fault of memory, and of a failed write
 abbrev pub IsCutBy : (P : Result (Unit {0}) ToolFault → Type 0) → Type 0
@@ -119,42 +127,6 @@ cut_sent P old new m n text None e is s go = absurd (subst IsOkAnswer (sym is) t
 cut_sent P old new m n text (Some line.Memory) e is s go = subst P (sym is) (go s.0).0
 cut_sent P old new m n text (Some (line.Out d)) e is s go = subst P (sym is) (write_answer P d s.1 (go s.0).1)
 
--- ---- of a piece
--- lines that didn't all go out
-pub piece_unsent : (o : Option Explained) (s : SessionState) (items : ℕ) (bytes item : List ℕ) (begin : ℕ)
-    (text more : List ℕ) (old new : Option (List ℕ)) (r : Result (Unit {0}) Fault)
-    → KeepsAll o s items bytes item begin (text ++ more) r → AppendsPrefix old new more
-    → IsCutBy (λ r. ExplainsPiece o s items bytes item begin text old new r)
-piece_unsent o s items bytes item begin text more old new r k p =
-    let cut : CutKept o (within_trees (limits_of s)) bytes text old new = record {
-      more = more;
-      out = p;
-      begins = all_begins o s items bytes item begin (text ++ more) r k;
-    } in
-    (cut, cut)
-
--- what stopped it, where they did
-pub piece_stopped : (o : Option Explained) (s : SessionState) (items : ℕ) (bytes item : List ℕ) (begin : ℕ)
-    (text more : List ℕ) (old new : Option (List ℕ)) (e : Fault)
-    → KeepsAll o s items bytes item begin (text ++ more) (Err e) → Appends old new more
-    → ExplainsPiece o s items bytes item begin text old new (Err (reading_fault e))
-piece_stopped o s items bytes item begin text more old new (reading.Refused R) k a = (more, a, k)
-piece_stopped o s items bytes item begin text more old new reading.Read k a = absurd k
-piece_stopped o s items bytes item begin text more old new reading.Memory k a =
-    record { more = more; out = all_out old new more a; begins = k }
-piece_stopped o s items bytes item begin text more old new reading.Failed k a = absurd k
-
--- all lines went out, and then a flush failed
-pub piece_unflushed : (o : Option Explained) (s : SessionState) (items : ℕ) (bytes item : List ℕ) (begin : ℕ)
-    (text : List ℕ) (old mid new : Option (List ℕ)) (u : Unit {0})
-    → ExplainsPiece o s items bytes item begin text old mid (Ok u) → Keeps mid new
-    → ExplainsPiece o s items bytes item begin text old new (Err fault.Write)
-piece_unflushed o s items bytes item begin text old mid new u h k = record {
-  more = h.0;
-  out = all_out old new h.0 (Appends-kept old mid new h.0 h.1 k);
-  begins = all_begins o s items bytes item begin (text ++ h.0) (Ok u) h.2;
-}
-
 -- ---- of a refused item
 pub refused_lines : (which : Explained) (T : Table) (offset : ℕ) (R : Refusal) (read front text words : List ℕ)
     (place : ℕ) → IsRefusedChosen which offset → front ≡ take (explained_up_to R - offset) read
@@ -168,6 +140,22 @@ pub refused_cut : (which : Explained) (T : Table) (offset : ℕ) (R : Refusal) (
 refused_cut which T offset R read text old new t p = ((text, t, p), (text, t, p))
 
 -- ---- counts
-pub counts_on : (old mid new : ℕ) (r : Result (Unit {0}) ToolFault) → mid ≡ old → CountsOnlyWrites mid new r
-    → CountsOnlyWrites old new r
-counts_on old mid new r e h = subst (λ (n : ℕ). CountsOnlyWrites n new r) e h
+-- behind a failed read the lines have no fault, so where they have one no read failed
+pub unread_so : (r : Result Bool Fault) (f : Option (LineFault WriteFault)) (e : ToolFault)
+    → Err e ≡ sending_answer f → IfErr r (λ g. g ≡ reading.Read → f ≡ None) → IfErr r (λ g. g ≡ reading.Read → ⊥)
+unread_so (Ok w) f e is h = tt
+unread_so (Err g) f e is h = λ r. absurd (subst IsOkAnswer (sym (is ∙ ap sending_answer (h r))) tt)
+
+pub counts_unread : (old new : ℕ) (r : Result Bool Fault) → IfErr r (λ g. g ≡ reading.Read → ⊥)
+    → CountsReads old new r → new ≡ old
+counts_unread old new (Ok w) other h = h
+counts_unread old new (Err (reading.Refused R)) other h = h
+counts_unread old new (Err reading.Read) other h = absurd (other refl)
+counts_unread old new (Err reading.Memory) other h = h
+counts_unread old new (Err reading.Failed) other h = h
+
+-- what sending answers is no failed read
+pub sending_unread : (f : Option (LineFault WriteFault)) (e : ToolFault) → Err e ≡ sending_answer f → e ≡ fault.Read → ⊥
+sending_unread None e is r = absurd (subst IsOkAnswer (sym is) tt)
+sending_unread (Some line.Memory) e is r = cc
+sending_unread (Some (line.Out d)) e is r = writing_unread d cc

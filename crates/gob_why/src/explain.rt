@@ -1,26 +1,26 @@
 //! The run that explains the bytes of a stream, row by row.
 
-ghost use Rattle.std.specs.Prelude.{◌≡◌, ◌≢◌, ◌++◌, ℕ, List, IfErr, None, Some, []};
+ghost use Rattle.std.specs.Prelude.{◌≡◌, ℕ, List, None, Some, []};
 ghost use Rattle.gob_stream.specs.Bounds.{AreLimits, deepest, within_trees};
 ghost use Rattle.gob_stream.specs.Calls.Ends.{failed_reads, failed_writes, reader_of, writer_of};
 ghost use Rattle.gob_go.specs.Calls.Session.{limits_of, types_of};
 ghost use Rattle.gob_tool.specs.Ending.{CountsOnlyWrites};
 ghost use Rattle.gob_tool.specs.Showing.{CountsReadFaults, CountsWriteFaults, IsFlushedSince};
 ghost use Rattle.gob_why.specs.Explain.{ExplainAnswers};
-ghost use Rattle.gob_why.specs.Machine.Keeping.{ExplainsAll, ExplainsPiece, HasReadKept, HasReadSome, TellsRefused};
+ghost use Rattle.gob_why.specs.Machine.Keeping.{ExplainsAll, HasReadKept, TellsRefused};
 ghost use Rattle.gob_why.specs.declared.explained.Explained.{Explained};
 ghost use Rattle.gob_types.specs.Defined.{types};
 
 use crate::explained::Explained;
 use crate::kept::Kept;
-use crate::reading::take_piece;
+use crate::reading::read_all;
 use crate::refused::refused_words;
 use crate::scene::Scene;
 use crate::sending::sent;
 use gob_explain::{LinesOut, push_first_bytes};
 use gob_go::GoSession;
 use gob_stream::{Input, Limits, Output};
-use gob_tool::{Sending, ToolFault, end_run, read_piece, room_for_piece};
+use gob_tool::{Sending, ToolFault, end_run};
 use std::alloc::Global;
 use std::io::{Read, Write};
 
@@ -89,8 +89,7 @@ fn explain_to<R: Read, W: Write>(
 {
     let mut session = GoSession::new(alloc, limits)?;
     let mut kept = Kept::new(alloc, Some(which));
-    let mut items = 0;
-    let Err(fault) = explain_items(alloc, input, &mut session, &mut items, &mut kept, lines) else {
+    let Err(fault) = explain_items(alloc, input, &mut session, &mut kept, lines) else {
         return Ok(());
     };
     let ToolFault::Refused(refusal) = fault else {
@@ -98,7 +97,6 @@ fn explain_to<R: Read, W: Write>(
     };
     let scene = Scene {
         refusal,
-        items,
         table: session.table(),
         limits,
         kept: &kept,
@@ -107,18 +105,17 @@ fn explain_to<R: Read, W: Write>(
     Err(ToolFault::Refused(refusal))
 }
 
-/// Sends the rows of the items that are whole, and flushes behind each piece of the input, since that may have to be
-/// waited for. Behind a refusal `kept` has the bytes from the start of the refused item on that were read, and `items`
-/// is how many stand before it.
+/// Sends the rows of the items that are whole. Behind a refusal `kept` has the bytes from the start of the refused item
+/// on that were read.
 fn explain_items<R: Read, W: Write>(
     alloc: Global,
     input: &mut Input<R>,
     session: &mut GoSession,
-    items: &mut u64,
     kept: &mut Kept,
     lines: &mut LinesOut<Sending<'_, W>>,
 ) -> Result<(), ToolFault>
-    requires first { HasReadKept kept.old.explained session.old items.old [] kept.old.item.items kept.old.begin [] }
+    requires first { HasReadKept kept.old.explained session.old kept.old.items [] kept.old.item.items kept.old.begin
+        [] }
     requires limits { AreLimits deepest (limits_of session.old) }
     requires sound { lines.old.fault ≡ None }
     ensures same { lines.new.out.output.ghost_name ≡ lines.old.out.output.ghost_name }
@@ -132,52 +129,10 @@ fn explain_items<R: Read, W: Write>(
     ensures writes { CountsOnlyWrites (failed_writes lines.old.out.output.now) (failed_writes lines.new.out.output.now)
         result }
 {
-    let mut piece = room_for_piece(alloc)?;
-    'pieces: loop {
-        let count = read_piece(input, &mut piece)?;
-        if count == 0 {
-            return Ok(session.finish()?);
-        }
-        explain_piece(
-            alloc,
-            session,
-            &piece.as_slice()[..count],
-            items,
-            kept,
-            lines,
-        )?;
-        lines.out.output.flush_written()?;
-    }
-}
-
-/// Sends the rows of the items that are whole with a piece.
-fn explain_piece<W: Write>(
-    alloc: Global,
-    session: &mut GoSession,
-    piece: &[u8],
-    items: &mut u64,
-    kept: &mut Kept,
-    lines: &mut LinesOut<Sending<'_, W>>,
-) -> Result<(), ToolFault>
-    requires read { HasReadSome kept.old.explained session.old items.old kept.old.item.items kept.old.begin }
-    requires limits { AreLimits deepest (limits_of session.old) }
-    requires sound { lines.old.fault ≡ None }
-    ensures same { lines.new.out.output.ghost_name ≡ lines.old.out.output.ghost_name }
-    ensures sound { lines.new.fault ≡ None }
-    ensures kept { (bytes text : List ℕ)
-        → HasReadKept kept.old.explained session.old items.old bytes kept.old.item.items kept.old.begin text
-        → ExplainsPiece kept.old.explained session.new items.new (bytes ++ piece.now) kept.new.item.items kept.new.begin
-        text (W.contents (writer_of lines.old.out.output.now)) (W.contents (writer_of lines.new.out.output.now))
-        result }
-    ensures explained { kept.new.explained ≡ kept.old.explained }
-    ensures limits { limits_of session.new ≡ limits_of session.old }
-    ensures unread { IfErr result (λ fault. fault ≢ ToolFault.Read) }
-    ensures writes { CountsOnlyWrites (failed_writes lines.old.out.output.now) (failed_writes lines.new.out.output.now)
-        result }
-{
-    let taken = take_piece(alloc, session, piece, items, kept, lines);
+    let read = read_all(alloc, input, session, kept, lines);
     sent(lines)?;
-    Ok(taken?)
+    read?;
+    Ok(())
 }
 
 /// Sends the rows of the refused item, where it is explained, and what is expected there.

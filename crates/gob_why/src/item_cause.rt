@@ -31,7 +31,7 @@ pub(crate) fn item_cause(alloc: Global, scene: &Scene<'_>) -> Result<Option<Caus
     if let Some(cause) = cause_around(scene) {
         return Ok(Some(cause));
     }
-    if scene.items == 0 {
+    if scene.kept.items == 0 {
         return lost_front(alloc, scene);
     }
     cut_off(alloc, scene)
@@ -135,7 +135,7 @@ fn depth_limit(alloc: Global, scene: &Scene<'_>) -> Result<Option<Cause>, Memory
 
 // Where the first items are values whose types nothing defines.
 fn no_beginning(scene: &Scene<'_>) -> Option<Cause> {
-    if scene.items > 0 {
+    if scene.kept.items > 0 {
         return None;
     }
     let chain = chain_from(scene.item(), 0, 1);
@@ -149,7 +149,7 @@ fn no_beginning(scene: &Scene<'_>) -> Option<Cause> {
 fn text_behind(scene: &Scene<'_>) -> Option<Cause> {
     let begin = scene.kept.begin;
     match scene.item() {
-        _ if scene.items == 0 => None,
+        _ if scene.kept.items == 0 => None,
         b"\n" | b"\r\n" => Some(Cause::LineFeed { begin }),
         [_, _, ..] if is_text(scene.item()) => Some(Cause::Behind { begin }),
         _ => None,

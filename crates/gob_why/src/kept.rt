@@ -21,6 +21,8 @@ pub(crate) struct Kept {
     pub(crate) item: Vec<u8>,
     /// The offset at which that item begins.
     pub(crate) begin: u64,
+    /// How many items stand before it.
+    pub(crate) items: u64,
     /// How many values of each type there were, by its id.
     pub(crate) values: BTreeMap<u64, u64>,
     /// Which items are explained. None: none is.
@@ -33,6 +35,7 @@ impl Drop for Kept {
         let Kept {
             item: _,
             begin: _,
+            items: _,
             values: _,
             explained: _,
         } = self;
@@ -44,11 +47,13 @@ impl Kept {
     pub(crate) fn new(alloc: Global, explained: Option<Explained>) -> Kept
         ensures item { result.item.items ≡ [] }
         ensures begin { result.begin ≡ 0 }
+        ensures items { result.items ≡ 0 }
         ensures explained { result.explained ≡ explained }
     {
         Kept {
             item: Vec::new(alloc),
             begin: 0,
+            items: 0,
             values: BTreeMap::new(alloc),
             explained,
         }
@@ -58,6 +63,7 @@ impl Kept {
     pub(crate) fn keep(&mut self, bytes: &[u8]) -> Result<(), Memory>
         ensures item { OnOk result (self.new.item.items ≡ self.old.item.items ++ bytes.now) }
         ensures begin { self.new.begin ≡ self.old.begin }
+        ensures items { self.new.items ≡ self.old.items }
         ensures explained { self.new.explained ≡ self.old.explained }
     {
         Ok(self.item.extend_from_slice(bytes)?)
@@ -75,6 +81,7 @@ impl Kept {
         ensures put { PutsMore O.puts lines.old.out lines.old.fault lines.new.out lines.new.fault
             (GoesOn self.old.explained (types table.now) item.now self.old.item.items self.old.begin bytes.now
             self.new.item.items self.new.begin result) }
+        ensures items { self.new.items ≡ self.old.items }
         ensures explained { self.new.explained ≡ self.old.explained }
     {
         match item {
@@ -96,6 +103,7 @@ impl Kept {
         ensures put { PutsMore O.puts lines.old.out lines.old.fault lines.new.out lines.new.fault
             (EndsItem self.old.explained (types table.now) self.old.item.items self.old.begin bytes.now
             self.new.item.items self.new.begin result) }
+        ensures items { self.new.items ≡ self.old.items }
         ensures explained { self.new.explained ≡ self.old.explained }
     {
         self.count_value(id)?;
@@ -106,6 +114,7 @@ impl Kept {
     fn count_value(&mut self, id: TypeId) -> Result<(), Memory>
         ensures item { self.new.item ≡ self.old.item }
         ensures begin { self.new.begin ≡ self.old.begin }
+        ensures items { self.new.items ≡ self.old.items }
         ensures explained { self.new.explained ≡ self.old.explained }
     {
         let count = self.values.entry(id.0)?.or_insert(0);
@@ -124,6 +133,7 @@ impl Kept {
         ensures put { PutsMore O.puts lines.old.out lines.old.fault lines.new.out lines.new.fault
             (EndsItem self.old.explained (types table.now) self.old.item.items self.old.begin bytes.now
             self.new.item.items self.new.begin result) }
+        ensures items { self.new.items ≡ self.old.items }
         ensures explained { self.new.explained ≡ self.old.explained }
     {
         let size = (self.item.len() as u64).saturating_add(bytes.len() as u64);
@@ -146,6 +156,7 @@ impl Kept {
             (ExplainsEnd self.old.explained (types table.now) self.old.begin (self.old.item.items ++ bytes.now) size
             result) }
         ensures begin { self.new.begin ≡ self.old.begin }
+        ensures items { self.new.items ≡ self.old.items }
         ensures explained { self.new.explained ≡ self.old.explained }
     {
         if !self.is_chosen(size) {

@@ -23,6 +23,7 @@ mod cause;
 mod due;
 mod explain;
 mod explained;
+mod flushing;
 mod front_cause;
 mod in_memory;
 mod item_cause;

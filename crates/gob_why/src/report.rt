@@ -36,7 +36,7 @@ pub(crate) fn refusal_words(
 
 // Which item it is, and where in its value.
 fn push_where(scene: &Scene<'_>, place: &FaultPlace, text: &mut String) -> Result<(), Memory> {
-    let items = scene.items;
+    let items = scene.kept.items;
     let begin = scene.kept.begin;
     write!(text, "where: item {items}")?;
     if !place.path.is_empty() {
@@ -128,7 +128,7 @@ fn said_step(
 
 // The first cause that the bytes show.
 fn cause_of(alloc: Global, scene: &Scene<'_>) -> Result<Option<Cause>, Memory> {
-    if scene.items == 0 {
+    if scene.kept.items == 0 {
         if let Some(cause) = cause_at_front(alloc, scene.item(), scene.limits)? {
             return Ok(Some(cause));
         }

@@ -1,17 +1,22 @@
 //! The run that says why a stream is refused, or how much is in a whole one.
 
-ghost use Rattle.std.specs.Prelude.{◌≡◌, ℕ, List, Some, IfOk, string_bytes};
-ghost use Rattle.gob_stream.specs.Bounds.{within_trees};
+ghost use Rattle.std.specs.Prelude.{◌≡◌, ℕ, List, [], Some, IfOk, string_bytes};
+ghost use Rattle.gob_stream.specs.Bounds.{AreLimits, deepest, within_trees};
 ghost use Rattle.gob_stream.specs.Calls.Ends.{failed_reads, failed_writes, reader_of, writer_of};
+ghost use Rattle.gob_filled.specs.Outcome.{profile};
+ghost use Rattle.gob_go.specs.Calls.Session.{limits_of};
 ghost use Rattle.gob_tool.specs.Ending.{CountsOnlyWrites};
 ghost use Rattle.gob_tool.specs.Checking.{tally_line};
+ghost use Rattle.gob_tool.specs.Machine.Counting.{CountsCounting, EndsCountingIn};
 ghost use Rattle.gob_tool.specs.Showing.{CountsReadFaults, CountsWriteFaults, IsFlushedSince};
+ghost use Rattle.gob_why.specs.Machine.Keeping.{HasReadKept};
 ghost use Rattle.gob_why.specs.Why.{IsHeaded, Tells, WhyAnswers, refusal_line};
 
 use crate::kept::Kept;
 use crate::reading::read_all;
 use crate::report::{refusal_words, whole_words};
 use crate::scene::Scene;
+use gob_explain::LinesOut;
 use gob_go::GoSession;
 use gob_num::Memory;
 use gob_stream::{Input, Limits, Output};
@@ -60,13 +65,11 @@ fn tell_stream<R: Read, W: Write>(
 {
     let mut session = GoSession::new(alloc, limits)?;
     let mut kept = Kept::new(alloc, None);
-    let mut items = 0;
-    match read_all(alloc, input, &mut session, &mut items, &mut kept) {
+    match count_all(alloc, input, &mut session, &mut kept) {
         Ok(tally) => tell_whole(alloc, tally, session.table(), &kept, output),
         Err(ToolFault::Refused(refusal)) => {
             let scene = Scene {
                 refusal,
-                items,
                 table: session.table(),
                 limits,
                 kept: &kept,
@@ -76,6 +79,35 @@ fn tell_stream<R: Read, W: Write>(
         }
         Err(fault) => Err(fault),
     }
+}
+
+/// Reads all of the input, and counts what there is in it. Behind a refusal `kept` has the bytes from the start of the
+/// refused item on that were read.
+fn count_all<R: Read>(
+    alloc: Global,
+    input: &mut Input<R>,
+    session: &mut GoSession,
+    kept: &mut Kept,
+) -> Result<Tally, ToolFault>
+    requires first { HasReadKept kept.old.explained session.old kept.old.items [] kept.old.item.items kept.old.begin
+        [] }
+    requires limits { AreLimits deepest (limits_of session.old) }
+    ensures counted { (bytes : List ℕ) → R.remaining (reader_of input.old) ≡ Some bytes
+        → EndsCountingIn profile (within_trees (limits_of session.old)) bytes (R.remaining (reader_of input.new))
+        result }
+    ensures reads { CountsCounting (failed_reads input.old) (failed_reads input.new) result }
+{
+    let mut lines = LinesOut::new(alloc, Vec::new(alloc));
+    let is_whole = read_all(alloc, input, session, kept, &mut lines)?;
+    // lines that go to memory are cut off where there is none
+    if !is_whole {
+        return Err(ToolFault::Memory);
+    }
+    Ok(Tally {
+        items: kept.items,
+        types: session.table().count(),
+        bytes: kept.begin,
+    })
 }
 
 /// Writes what is said of a whole stream.

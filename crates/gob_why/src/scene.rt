@@ -16,8 +16,6 @@ pub(crate) const FIRST_DEFINED: u64 = 64;
 #[derive(Drop)]
 pub(crate) struct Scene<'a> {
     pub(crate) refusal: Refusal,
-    /// How many items stand before.
-    pub(crate) items: u64,
     pub(crate) table: &'a Table,
     pub(crate) limits: Limits,
     pub(crate) kept: &'a Kept,

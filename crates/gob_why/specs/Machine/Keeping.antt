@@ -1,12 +1,13 @@
 -- What is kept of a stream while it is read, and how its items are explained. For private clauses.
 use Rattle.std.specs.Prelude.{◌≡◌, ℕ, ◌+◌, ◌^◌, ◌<◌, ◌≤◌, List, [], ◌++◌, length, take, Option, None, Some, Result}
-use Rattle.std.specs.Prelude.{Ok, Err}
-use Rattle.std.specs.Io.KnownBytes.{Appends, Consumes}
+use Rattle.std.specs.Prelude.{Ok, Err, Bool, true, false}
+use Rattle.std.specs.Io.KnownBytes.{Appends}
 use Rattle.gob_num.specs.declared.memory.Memory.{Memory}
 use Rattle.gob_types.specs.Base.{base_table}
 use Rattle.gob_types.specs.Table.{Table}
 use Rattle.gob_explain.specs.Column.{saturated}
 use Rattle.gob_stream.specs.Bounds.{Bounds, within_trees}
+use Rattle.gob_stream.specs.Reading.{SomeTaken}
 use Rattle.gob_stream.specs.declared.fault.Fault.{Fault}
 use Rattle.gob_stream.specs.declared.fault.Fault.TheVariants as reading
 use Rattle.gob_stream.specs.declared.fault.Refusal.{Refusal}
@@ -16,6 +17,7 @@ use Rattle.gob_go.specs.Calls.Session.{HasRead, limits_of, types_of}
 use Rattle.gob_go.specs.Machine.SessionState.{SessionState}
 use Rattle.gob_go.specs.Reading.{RefusesBehind, ShowsRefusal}
 use Rattle.gob_go.specs.declared.item.GoItem.{GoItem}
+use Rattle.gob_tool.specs.CheckingGo.{LongestGoStream}
 use Rattle.gob_tool.specs.Showing.{AppendsPrefix}
 use Rattle.gob_tool.specs.declared.fault.ToolFault.{ToolFault}
 use Rattle.gob_tool.specs.declared.fault.ToolFault.TheVariants as fault
@@ -70,15 +72,6 @@ pub record HasReadSome (which : Option Explained) (s : SessionState) (items : �
   pub text : List ℕ
   pub has : HasReadKept which s items bytes item begin text
 
--- the next item is refused for what the bytes show, where the types are those of U, and this is kept up to their end
-pub record HasRefusedKept (which : Option Explained) (L : Bounds) (U : Table) (bytes item : List ℕ) (begin : ℕ)
-    (text : List ℕ) (R : Refusal) : Type 0 where
-  pub given : List FilledItem
-  pub shown : ShowsRefusal L bytes given R
-  pub types : RefusesBehind L bytes given R U
-  pub table : Table
-  pub kept : HasKept which L table given bytes item begin text
-
 -- the text is that of some items with which the bytes begin
 pub record BeginsKept (which : Option Explained) (L : Bounds) (bytes text : List ℕ) : Type 0 where
   pub given : List FilledItem
@@ -88,15 +81,6 @@ pub record BeginsKept (which : Option Explained) (L : Bounds) (bytes text : List
   pub whole : bytes ≡ prefix ++ rest
   pub stream : FilledStream base_table L given prefix table
   pub explained : AreExplained which L given prefix table text
-
--- what stops it, where the bytes were taken up to the piece, and this is kept
-abbrev pub StopsKeeping : Option Explained → Bounds → Table → (bytes item : List ℕ) → (begin : ℕ) → (text : List ℕ)
-    → Fault → Type 0
-StopsKeeping which L U bytes item begin text (reading.Refused R) =
-    HasRefusedKept which L U bytes item begin text R
-StopsKeeping which L U bytes item begin text reading.Read = ⊥
-StopsKeeping which L U bytes item begin text reading.Memory = BeginsKept which L bytes text
-StopsKeeping which L U bytes item begin text reading.Failed = ⊥
 
 -- what taking some of a piece answers: one byte or item at least; behind a refusal what was kept before the piece stays
 pub record KeepsOn (which : Option Explained) (s : SessionState) (items items' : ℕ) (bytes piece item : List ℕ)
@@ -130,70 +114,20 @@ TakesNext which s s' items items' piece item begin item' begin' result more = (b
     → HasReadKept which s items bytes item begin text
     → KeepsNext which s' items items' bytes piece item' begin' (text ++ more) result
 
--- what taking a piece answers, with which these are the bytes
-abbrev pub KeepsAll : Option Explained → (s : SessionState) → (items : ℕ) → (bytes item : List ℕ) → (begin : ℕ)
-    → (text : List ℕ) → Result (Unit {0}) Fault → Type 0
-KeepsAll which s items bytes item begin text (Ok _) = HasReadKept which s items bytes item begin text
-KeepsAll which s items bytes item begin text (Err e) =
-    StopsKeeping which (within_trees (limits_of s)) (types_of s) bytes item begin text e
+-- ---- how reading all of some bytes ends
+-- they are the stream of so many items, and the text is that of these
+pub record IsWholeKept (which : Option Explained) (L : Bounds) (U : Table) (items : ℕ) (bytes : List ℕ)
+    (now : Option (List ℕ)) (begin : ℕ) (text : List ℕ) : Type 0 where
+  pub given : List FilledItem
+  pub items_are : items ≡ length given
+  pub stream : FilledStream base_table L given bytes U
+  pub end : now ≡ Some []
+  pub begins : begin ≡ length bytes
+  pub explained : AreExplained which L given bytes U text
 
--- so it is behind whatever was read, where this text is more
-abbrev pub TakesPiece : Option Explained → (s s' : SessionState) → (items items' : ℕ) → (piece item : List ℕ)
-    → (begin : ℕ) → (item' : List ℕ) → (begin' : ℕ) → Result (Unit {0}) Fault → (more : List ℕ) → Type 0
-TakesPiece which s s' items items' piece item begin item' begin' result more = (bytes text : List ℕ)
-    → HasReadKept which s items bytes item begin text
-    → KeepsAll which s' items' (bytes ++ piece) item' begin' (text ++ more) result
-
--- the front of a piece was taken
-pub record KeepsUpTo (which : Option Explained) (s : SessionState) (items : ℕ) (bytes piece rest item : List ℕ)
-    (begin : ℕ) (text : List ℕ) : Type 0 where
-  pub prefix : List ℕ
-  pub whole : piece ≡ prefix ++ rest
-  pub has : HasReadKept which s items (bytes ++ prefix) item begin text
-
--- so it was, where this text is more than that of what was read before
-abbrev pub TakesUpTo : Option Explained → (s s' : SessionState) → (items items' : ℕ) → (piece rest item : List ℕ)
-    → (begin : ℕ) → (item' : List ℕ) → (begin' : ℕ) → (more : List ℕ) → Type 0
-TakesUpTo which s s' items items' piece rest item begin item' begin' more = (bytes text : List ℕ)
-    → HasReadKept which s items bytes item begin text
-    → KeepsUpTo which s' items' bytes piece rest item' begin' (text ++ more)
-
--- ---- the run
--- a prefix of more text is out, that of items with which the bytes begin
-pub record CutKept (which : Option Explained) (L : Bounds) (bytes text : List ℕ) (old new : Option (List ℕ)) : Type
-    0 where
-  pub more : List ℕ
-  pub out : AppendsPrefix old new more
-  pub begins : BeginsKept which L bytes (text ++ more)
-
--- what explaining a piece answers, with which these are the bytes: the text of the items that are whole with it went
--- out, behind the text of those before, or a prefix of it
-abbrev pub ExplainsPiece : Option Explained → (s : SessionState) → (items : ℕ) → (bytes item : List ℕ) → (begin : ℕ)
-    → (text : List ℕ) → (old new : Option (List ℕ)) → Result (Unit {0}) ToolFault → Type 0
-ExplainsPiece which s items bytes item begin text old new (Ok _) =
-    (more : List ℕ) × Appends old new more × HasReadKept which s items bytes item begin (text ++ more)
-ExplainsPiece which s items bytes item begin text old new (Err (fault.Refused R)) = (more : List ℕ)
-    × Appends old new more
-    × HasRefusedKept which (within_trees (limits_of s)) (types_of s) bytes item begin (text ++ more) R
-ExplainsPiece which s items bytes item begin text old new (Err fault.Write) =
-    CutKept which (within_trees (limits_of s)) bytes text old new
-ExplainsPiece which s items bytes item begin text old new (Err fault.Memory) =
-    CutKept which (within_trees (limits_of s)) bytes text old new
-ExplainsPiece which s items bytes item begin text old new (Err _) = ⊥
-
--- so far all text went out
-pub record ExplainsSo (which : Option Explained) (s : SessionState) (items : ℕ) (read now old new : Option (List ℕ))
-    (item : List ℕ) (begin : ℕ) : Type 0 where
-  pub taken : List ℕ
-  pub text : List ℕ
-  pub input : Consumes read now taken
-  pub has : HasReadKept which s items taken item begin text
-  pub out : Appends old new text
-
--- and the next item is refused, where the types are those of U, of which this was read, as far as it is explained at
--- least
-pub record RefusesSo (which : Explained) (L : Bounds) (U : Table) (bytes item : List ℕ) (begin : ℕ)
-    (old new : Option (List ℕ)) (R : Refusal) : Type 0 where
+-- the next item is refused, where the types are those of U, of which this was read, as far as it is explained at least
+pub record IsRefusedKept (which : Option Explained) (L : Bounds) (U : Table) (bytes item : List ℕ) (begin : ℕ)
+    (text : List ℕ) (R : Refusal) : Type 0 where
   pub given : List FilledItem
   pub outcome : FilledOutcome base_table L bytes given (refused R)
   pub types : AreTypesRefused L bytes given R U
@@ -203,15 +137,33 @@ pub record RefusesSo (which : Explained) (L : Bounds) (U : Table) (bytes item : 
   pub behind : begin ≤ explained_up_to R
   pub there : explained_up_to R ≤ length read
   pub table : Table
-  pub text : List ℕ
-  pub kept : HasKept (Some which) L table given read item begin text
-  pub out : Appends old new text
+  pub kept : HasKept which L table given read item begin text
 
+-- a read failed behind these bytes, and the text is that of all items that they give
+pub record IsUnreadKept (which : Option Explained) (L : Bounds) (bytes text : List ℕ) : Type 0 where
+  pub begins : BeginsKept which L bytes text
+  pub longest : LongestGoStream L bytes begins.given
+
+-- so it ends, or before the end, and then the text is that of items with which the bytes begin
+abbrev pub ReadsBytes : Option Explained → Bounds → (U : Table) → (items : ℕ) → (bytes : List ℕ)
+    → (now : Option (List ℕ)) → (item : List ℕ) → (begin : ℕ) → Result Bool Fault → (text : List ℕ) → Type 0
+ReadsBytes which L U items bytes now item begin (Ok true) text = IsWholeKept which L U items bytes now begin text
+ReadsBytes which L U items bytes now item begin (Ok false) text =
+    SomeTaken bytes now (λ taken. BeginsKept which L taken text)
+ReadsBytes which L U items bytes now item begin (Err (reading.Refused R)) text =
+    IsRefusedKept which L U bytes item begin text R
+ReadsBytes which L U items bytes now item begin (Err reading.Read) text =
+    SomeTaken bytes now (λ taken. IsUnreadKept which L taken text)
+ReadsBytes which L U items bytes now item begin (Err reading.Memory) text =
+    SomeTaken bytes now (λ taken. BeginsKept which L taken text)
+ReadsBytes which L U items bytes now item begin (Err reading.Failed) text = ⊥
+
+-- ---- the run
 -- how explaining the whole items ends, where the session has the types of U then
 abbrev pub ExplainsAll : Explained → Bounds → (U : Table) → (bytes item : List ℕ) → (begin : ℕ)
     → (now old new : Option (List ℕ)) → Result (Unit {0}) ToolFault → Type 0
 ExplainsAll which L U bytes item begin now old new (Err (fault.Refused R)) =
-    RefusesSo which L U bytes item begin old new R
+    (text : List ℕ) × IsRefusedKept (Some which) L U bytes item begin text R × Appends old new text
 ExplainsAll which L U bytes item begin now old new result = ExplainAnswers which L bytes now old new result
 
 -- what a call answers that sends such text

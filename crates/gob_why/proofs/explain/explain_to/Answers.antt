@@ -15,7 +15,8 @@ use Rattle.gob_why.proofs.explain.explain_to.Goals as goal
 
 pub explain_items-requires-clause-first : goal.explain_items-requires-clause-first
 explain_items-requires-clause-first g c =
-    kept_first _ _ _ _ _ _ c.in_ok-session.ensures.has_read refl c.new-kept.ensures.item c.new-kept.ensures.begin refl
+    kept_first _ _ _ _ _ _ c.in_ok-session.ensures.has_read c.new-kept.ensures.items c.new-kept.ensures.item
+    c.new-kept.ensures.begin refl
 
 pub explain_refused-requires : goal.explain_refused-requires
 explain_refused-requires g c = record { sound = c.in-Err.ensures.sound }

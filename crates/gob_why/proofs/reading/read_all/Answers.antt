@@ -1,138 +1,167 @@
--- From piece to piece what was taken is counted, and each end is that of the stream.
-use Rattle.std.proofs.Common.{◌∙◌, [], ap, arith, refl, subst, sym}
-use Rattle.std.proofs.lemmas.List.{length-take-le}
-use Rattle.gob_types.specs.Defined.{types, definition_count}
-use Rattle.gob_stream.specs.Bounds.{Bounds, within_trees}
+-- From turn to turn what was read is kept, and each end is that of the stream.
+use Rattle.std.proofs.Common.{[], ◌++◌, ◌∙◌, ap, drop, refl}
+use Rattle.std.proofs.KnownBytes.{Keeps-refl}
+use Rattle.gob_types.specs.Defined.{types}
+use Rattle.gob_explain.specs.Machine.Putting.{puts_nothing}
+use Rattle.gob_explain.specs.Putting.{PutsMore}
+use Rattle.gob_stream.specs.Bounds.{within_trees}
 use Rattle.gob_stream.specs.Calls.Ends.{reader_of}
-use Rattle.gob_filled.specs.Outcome.{profile}
-use Rattle.gob_go.specs.Calls.Session.{limits_of}
-use Rattle.gob_tool.specs.Fault.{reading_fault}
-use Rattle.gob_tool.specs.Machine.Counting.{EndsCountingIn}
-use Rattle.gob_tool.specs.declared.check.Tally.{Tally}
+use Rattle.gob_stream.specs.Calls.Waiting.{waiting}
+use Rattle.gob_stream.specs.declared.fault.Fault.TheVariants as reading
+use Rattle.gob_go.specs.Calls.Session.{limits_of, types_of}
 use Rattle.gob_tool.proofs.CheckLaws.{limits_as}
-use Rattle.gob_tool.proofs.EndLaws.{at_error}
-use Rattle.gob_tool.specs.CheckingGo.{IsNoGoStream}
-use Rattle.gob_why.proofs.ReadingLaws.{bytes_within, end_counts, end_stops, none_came, piece_came, piece_stops}
-use Rattle.gob_why.proofs.ReadingLaws.{piece_taken, read_failed, taken_none}
+use Rattle.gob_why.specs.Machine.Reading.{HasTaken, ReadsAll}
+use Rattle.gob_why.proofs.ReadingLaws.{at_fault, begins_all, end_stops, end_whole, more_came, more_stops, next_falls}
+use Rattle.gob_why.proofs.ReadingLaws.{next_lost, next_stops, next_taken, puts_flushed, puts_then, some_taken}
+use Rattle.gob_why.proofs.ReadingLaws.{taken_first}
 use Rattle.gob_why.proofs.reading.read_all.Goals as goal
 
-pub pieces-init : goal.pieces-init
-pieces-init g c = (
+pub returns-in_err-waiting-clause-read : goal.returns-in_err-waiting-clause-read
+returns-in_err-waiting-clause-read g c =
+    let o = c.args.kept.now.explained in
+    let s = c.args.session.now in
+    let k = c.args.kept.now in
+    let read = g.R.Read.remaining (reader_of c.args.input.now) in
+    let first = taken_first o s k.items k.item.items k.begin read [] refl c.requires.first in record {
+      text = [];
+      put = puts_nothing g.O.TextOut.puts g.met.O.TextOut.nothing c.args.lines.now.out c.args.lines.now.fault;
+      holds = at_fault (λ r. ReadsAll o (within_trees (limits_of s)) (types_of s) k.items read read k.item.items k.begin
+          r []) c.from_residual.result reading.Memory c.from_residual.ensures.1
+          (λ bytes known. begins_all first (limits_of s) read refl (Keeps-refl read) bytes known);
+    }
+
+pub items-init : goal.items-init
+items-init g c = (
   refl,
   refl,
-  taken_none _ _ _ _ _ [] (g.R.Read.remaining (reader_of c.args.input.now)) c.requires.first,
-  c.in_ok-piece.ensures,
+  refl,
+  record {
+    text = [];
+    put = puts_nothing g.O.TextOut.puts g.met.O.TextOut.nothing c.args.lines.now.out c.args.lines.now.fault;
+    holds = taken_first _ _ _ _ _ (g.R.Read.remaining (reader_of c.args.input.now)) _ c.in_ok-waiting.ensures.none
+        c.requires.first;
+  },
 )
 
-pub count_piece-requires-clause-read : goal.count_piece-requires-clause-read
-count_piece-requires-clause-read g c =
-    let h = c.pieces.invariant.2 in record { bytes = h.taken; text = h.text; has = h.has }
-
-pub count_piece-requires-clause-limits : goal.count_piece-requires-clause-limits
-count_piece-requires-clause-limits g c = limits_as c.pieces.invariant.0 c.requires.limits
-
-pub returns-in_err-count-clause-counted : goal.returns-in_err-count-clause-counted
-returns-in_err-count-clause-counted g c = λ bytes known.
-    let i = c.pieces.invariant in
-    let e = c.in_err-count.field-0.0 in
+pub returns-in_err-has_more-clause-read : goal.returns-in_err-has_more-clause-read
+returns-in_err-has_more-clause-read g c =
+    let i = c.items.invariant in
+    let p = i.3 in
+    let k = c.items.kept in
+    let e = c.in_err-has_more.field-0.0 in
     let M = limits_of c.args.session.now in
-    let next = g.R.Read.remaining (reader_of c.read_piece.new.input) in
-    at_error (λ r. EndsCountingIn profile (within_trees M) bytes next r) c.from_residual-in_err-count.result
-    (reading_fault e) c.from_residual-in_err-count.ensures.1
-    (subst (λ f. IsNoGoStream (within_trees M) bytes next (reading_fault f)) (sym c.in_err-count.ensures.fault)
-    (read_failed i.2 M next i.0 c.in_err-count.ensures.unread bytes known))
+    let U = types_of c.items.session in
+    let read = g.R.Read.remaining (reader_of c.args.input.now) in
+    let next = g.R.Read.remaining (reader_of c.has_more.new.input) in record {
+      text = p.text;
+      put = p.put;
+      holds = at_fault (λ r. ReadsAll c.args.kept.now.explained (within_trees M) U k.items read next k.item.items
+          k.begin r p.text) c.from_residual-in_err-has_more.result e c.from_residual-in_err-has_more.ensures.1
+          (more_stops p.holds M U next [] e i.0 c.in_err-has_more.ensures.read);
+    }
 
-pub returns-in_err-finish-clause-counted : goal.returns-in_err-finish-clause-counted
-returns-in_err-finish-clause-counted g c = λ bytes known.
-    let i = c.pieces.invariant in
+pub returns-in_err-finish-clause-read : goal.returns-in_err-finish-clause-read
+returns-in_err-finish-clause-read g c =
+    let i = c.items.invariant in
+    let p = i.3 in
+    let h = p.holds in
+    let k = c.items.kept in
     let e = c.in_err-finish.field-0.0 in
     let M = limits_of c.args.session.now in
-    let next = g.R.Read.remaining (reader_of c.read_piece.new.input) in
-    let zero = c.if-count-eq0.true in
-    at_error (λ r. EndsCountingIn profile (within_trees M) bytes next r) c.from_residual-in_err-finish.result
-    (reading_fault e) c.from_residual-in_err-finish.ensures.1
-    (end_stops i.2 c.finish.new.self M next e i.0
-    (none_came (g.R.Read.remaining (reader_of c.pieces.input))
-    (g.R.Read.remaining (reader_of c.read_piece.new.input))
-    c.read_piece.new.piece.items c.in_ok-count.count zero c.in_ok-count.ensures.read)
-    (c.in_ok-count.ensures.at_end zero)
-    (c.in_err-finish.ensures.finishes i.2.has.given i.2.taken i.2.has.gave) bytes known)
+    let s = c.finish.new.self in
+    let read = g.R.Read.remaining (reader_of c.args.input.now) in
+    let next = g.R.Read.remaining (reader_of c.has_more.new.input) in record {
+      text = p.text;
+      put = p.put;
+      holds = at_fault (λ r. ReadsAll c.args.kept.now.explained (within_trees M) (types_of s) k.items read next
+          k.item.items k.begin r p.text) c.from_residual-in_err-finish.result e c.from_residual-in_err-finish.ensures.1
+          (end_stops h s M next [] e i.0 (ap types c.in_err-finish.ensures.types)
+          (rw c.if-not-branch.true at c.in_ok-has_more.ensures.read)
+          (c.in_err-finish.ensures.finishes h.has.given h.taken h.has.gave));
+    }
 
-pub returns-then-count-eq0-clause-counted : goal.returns-then-count-eq0-clause-counted
-returns-then-count-eq0-clause-counted g c = λ bytes known.
-    let i = c.pieces.invariant in
-    let M = limits_of c.args.session.now in
-    let next = g.R.Read.remaining (reader_of c.read_piece.new.input) in
-    let zero = c.if-count-eq0.true in
-    let tally : Tally = record { items = c.pieces.items; types = c.count.result; bytes = c.pieces.bytes } in
-    end_counts i.2 c.finish.new.self M next c.in_ok-finish.field-0 tally i.0
-    (none_came (g.R.Read.remaining (reader_of c.pieces.input))
-    (g.R.Read.remaining (reader_of c.read_piece.new.input))
-    c.read_piece.new.piece.items c.in_ok-count.count zero c.in_ok-count.ensures.read)
-    (c.in_ok-count.ensures.at_end zero) refl
-    (c.count.ensures.count ∙ ap (λ d. definition_count (types d)) (c.table.ensures ∙ c.in_ok-finish.ensures.types)) refl
-    (c.in_ok-finish.ensures.finishes i.2.has.given i.2.taken i.2.has.gave) bytes known
+pub returns-then-not-branch-clause-read : goal.returns-then-not-branch-clause-read
+returns-then-not-branch-clause-read g c =
+    let i = c.items.invariant in
+    let p = i.3 in
+    let h = p.holds in record {
+      text = p.text;
+      put = p.put;
+      holds = end_whole h c.finish.new.self (limits_of c.args.session.now)
+          (g.R.Read.remaining (reader_of c.has_more.new.input)) [] c.in_ok-finish.field-0 i.0
+          (ap types c.in_ok-finish.ensures.types)
+          (rw c.if-not-branch.true at c.in_ok-has_more.ensures.read)
+          (c.in_ok-finish.ensures.finishes h.has.given h.taken h.has.gave);
+    }
 
-pub returns-in_err-count_piece-clause-counted : goal.returns-in_err-count_piece-clause-counted
-returns-in_err-count_piece-clause-counted g c = λ bytes known.
-    let i = c.pieces.invariant in
-    let e = c.in_err-count_piece.field-0.0 in
-    let M = limits_of c.args.session.now in
-    let next = g.R.Read.remaining (reader_of c.read_piece.new.input) in
-    let t = c.count_piece.new in
-    at_error (λ r. EndsCountingIn profile (within_trees M) bytes next r) c.from_residual-in_err-count_piece.result
-    (reading_fault e) c.from_residual-in_err-count_piece.ensures.1
-    (piece_stops i.2 t.session t.items t.kept.item.items t.kept.begin _ M next _ e
-    (c.in_err-count_piece.ensures.limits ∙ i.0)
-    (piece_came (g.R.Read.remaining (reader_of c.pieces.input))
-    (g.R.Read.remaining (reader_of c.read_piece.new.input))
-    c.in_ok-count.count c.as_slice.ensures.value c.in_ok-count.ensures.read)
-    (c.in_err-count_piece.ensures.kept.1 i.2.taken i.2.text i.2.has) bytes known)
+pub take_next-requires-clause-read : goal.take_next-requires-clause-read
+take_next-requires-clause-read g c =
+    let i = c.items.invariant in rw i.2 (some_taken i.3.holds)
 
-pub overflow_add-bytes : goal.overflow_add-bytes
-overflow_add-bytes g c =
-    let i = c.pieces.invariant in
-    let size = length-take-le c.in_ok-count.count c.as_slice.result.now
-    (omega (arith, c.as_slice.ensures.len, c.in_ok-count.ensures.within)) in
-    let t = c.count_piece.new in
-    let turn = piece_taken i.2 t.session t.items c.in_ok-count.count _ _ t.kept.item.items t.kept.begin
-    _
-    (piece_came (g.R.Read.remaining (reader_of c.pieces.input))
-    (g.R.Read.remaining (reader_of c.read_piece.new.input))
-    c.in_ok-count.count c.as_slice.ensures.value c.in_ok-count.ensures.read)
-    size (c.in_ok-count_piece.ensures.kept.1 i.2.taken i.2.text i.2.has) in
-    let limits = limits_as (c.in_ok-count_piece.ensures.limits ∙ i.0) c.requires.limits in
-    omega (arith, bytes_within turn, limits.stream)
+pub take_next-requires-clause-limits : goal.take_next-requires-clause-limits
+take_next-requires-clause-limits g c = limits_as c.items.invariant.0 c.requires.limits
 
-pub pieces-smaller : goal.pieces-smaller
-pieces-smaller g c =
-    let i = c.pieces.invariant in
-    let size = length-take-le c.in_ok-count.count c.as_slice.result.now
-    (omega (arith, c.as_slice.ensures.len, c.in_ok-count.ensures.within)) in
-    let t = c.count_piece.new in
-    let turn = piece_taken i.2 t.session t.items c.in_ok-count.count _ _ t.kept.item.items t.kept.begin
-    _
-    (piece_came (g.R.Read.remaining (reader_of c.pieces.input))
-    (g.R.Read.remaining (reader_of c.read_piece.new.input))
-    c.in_ok-count.count c.as_slice.ensures.value c.in_ok-count.ensures.read)
-    size (c.in_ok-count_piece.ensures.kept.1 i.2.taken i.2.text i.2.has) in
-    let stream = ap (λ (L : Bounds). L.stream) c.in_ok-count_piece.ensures.limits in
-    omega (arith, bytes_within turn, stream, c.if-count-eq0.false)
-
-pub pieces-preserved : goal.pieces-preserved
-pieces-preserved g c =
-    let i = c.pieces.invariant in
-    let size = length-take-le c.in_ok-count.count c.as_slice.result.now
-    (omega (arith, c.as_slice.ensures.len, c.in_ok-count.ensures.within)) in
-    let t = c.count_piece.new in
-    let turn = piece_taken i.2 t.session t.items c.in_ok-count.count _ _ t.kept.item.items t.kept.begin
-    _
-    (piece_came (g.R.Read.remaining (reader_of c.pieces.input))
-    (g.R.Read.remaining (reader_of c.read_piece.new.input))
-    c.in_ok-count.count c.as_slice.ensures.value c.in_ok-count.ensures.read)
-    size (c.in_ok-count_piece.ensures.kept.1 i.2.taken i.2.text i.2.has) in (
-      c.in_ok-count_piece.ensures.limits ∙ i.0,
-      c.in_ok-count.ensures.counted ∙ i.1,
-      rw c.in_ok-count_piece.ensures.explained turn,
-      c.in_ok-count.ensures.room ∙ i.3,
+pub items-preserved : goal.items-preserved
+items-preserved g c =
+    let i = c.items.invariant in
+    let q = rw (i.2, c.bytes.ensures) at c.in-Ok.ensures.kept in
+    let next = g.R.Read.remaining (reader_of c.has_more.new.input) in
+    let h = more_came i.3.holds next _ (rw c.if-not-branch.false at c.in_ok-has_more.ensures.read) in
+    let f = c.flush_before_waiting.ensures in
+    let t = c.take_next.new in
+    let read = g.R.Read.remaining (reader_of c.args.input.now) in
+    let both : PutsMore g.O.TextOut.puts c.args.lines.now.out c.args.lines.now.fault t.lines.out t.lines.fault
+    (HasTaken c.args.kept.now.explained t.session t.kept.items read next (waiting c.pass.new.self) t.kept.item.items
+    t.kept.begin) = puts_then g.O.TextOut.puts g.met.O.TextOut.joined g.met.O.TextOut.cut i.3 q
+    (next_taken h c.take_next.new.session _ _ _ _ q.text c.in-Ok.used c.pass.ensures.bytes q.holds) in (
+      c.in-Ok.ensures.limits ∙ i.0,
+      c.in_ok-has_more.ensures.counted ∙ i.1,
+      c.in-Ok.ensures.explained ∙ i.2,
+      puts_flushed g.O.TextOut.puts g.met.O.TextOut.joined g.met.O.TextOut.cut both f,
     )
+
+pub items-smaller : goal.items-smaller
+items-smaller g c =
+    let i = c.items.invariant in
+    let q = rw (i.2, c.bytes.ensures) at c.in-Ok.ensures.kept in
+    let next = g.R.Read.remaining (reader_of c.has_more.new.input) in
+    let h = more_came i.3.holds next _ (rw c.if-not-branch.false at c.in_ok-has_more.ensures.read) in
+    next_falls h c.take_next.new.session _ _ _ q.text c.in-Ok.used c.in-Ok.ensures.limits q.holds
+
+pub returns-in-Err-clause-read : goal.returns-in-Err-clause-read
+returns-in-Err-clause-read g c =
+    let i = c.items.invariant in
+    let q = rw (i.2, c.bytes.ensures) at c.in-Err.ensures.kept in
+    let next = g.R.Read.remaining (reader_of c.has_more.new.input) in
+    let h = more_came i.3.holds next _ (rw c.if-not-branch.false at c.in_ok-has_more.ensures.read) in
+    puts_then g.O.TextOut.puts g.met.O.TextOut.joined g.met.O.TextOut.cut i.3 q
+    (next_stops h c.take_next.new.session c.take_next.new.kept.items c.keep.new.self.items
+    (limits_of c.args.session.now) _ _ _ _ q.text c.in-Err.fault
+    (c.in-Err.ensures.limits ∙ i.0) (rw c.bytes-in-Err.ensures at c.in_ok-keep-in-Err.ensures.item)
+    c.in_ok-keep-in-Err.ensures.begin q.holds)
+
+pub returns-in_err-keep-in-Err-clause-read : goal.returns-in_err-keep-in-Err-clause-read
+returns-in_err-keep-in-Err-clause-read g c =
+    let i = c.items.invariant in
+    let q = rw (i.2, c.bytes.ensures) at c.in-Err.ensures.kept in
+    let s = c.take_next.new.session in
+    let k = c.keep.new.self in
+    let M = limits_of c.args.session.now in
+    let read = g.R.Read.remaining (reader_of c.args.input.now) in
+    let next = g.R.Read.remaining (reader_of c.has_more.new.input) in
+    let h = more_came i.3.holds next _ (rw c.if-not-branch.false at c.in_ok-has_more.ensures.read) in
+    puts_then g.O.TextOut.puts g.met.O.TextOut.joined g.met.O.TextOut.cut i.3 q
+    (at_fault (λ r. ReadsAll c.args.kept.now.explained (within_trees M) (types_of s) k.items read next k.item.items
+    k.begin r (i.3.text ++ q.text)) c.from_residual-in_err-keep-in-Err.result reading.Memory
+    c.from_residual-in_err-keep-in-Err.ensures.1
+    (next_lost h s c.take_next.new.kept.items M _ _ q.text c.in-Err.fault (c.in-Err.ensures.limits ∙ i.0) q.holds))
+
+pub returns-clause-read : goal.returns-clause-read
+returns-clause-read g c =
+    let i = c.items.invariant in
+    let p = i.3 in
+    let now = g.R.Read.remaining (reader_of c.items.input) in record {
+      text = p.text;
+      put = p.put;
+      holds = λ bytes known. begins_all p.holds (limits_of c.args.session.now) now i.0 (Keeps-refl now) bytes known;
+    }

@@ -12,9 +12,10 @@ use Rattle.gob_why.proofs.WhyLaws.{refusal_told, refusal_untold, whole_told}
 use Rattle.gob_why.proofs.KeepingLaws.{kept_first}
 use Rattle.gob_why.proofs.run.tell_stream.Goals as goal
 
-pub read_all-requires-clause-first : goal.read_all-requires-clause-first
-read_all-requires-clause-first g c =
-    kept_first _ _ _ _ _ _ c.in_ok-session.ensures.has_read refl c.new-kept.ensures.item c.new-kept.ensures.begin refl
+pub count_all-requires-clause-first : goal.count_all-requires-clause-first
+count_all-requires-clause-first g c =
+    kept_first _ _ _ _ _ _ c.in_ok-session.ensures.has_read c.new-kept.ensures.items c.new-kept.ensures.item
+    c.new-kept.ensures.begin refl
 
 pub returns-in_err-session-clause-told : goal.returns-in_err-session-clause-told
 returns-in_err-session-clause-told g c = λ bytes known.
@@ -27,7 +28,7 @@ pub returns-in-Ok-clause-told : goal.returns-in-Ok-clause-told
 returns-in-Ok-clause-told g c = λ bytes known.
     let old = g.W.Write.contents (writer_of c.args.output.now) in
     let new = g.W.Write.contents (writer_of c.tell_whole.new.output) in
-    let now = g.R.Read.remaining (reader_of c.read_all.new.input) in
+    let now = g.R.Read.remaining (reader_of c.count_all.new.input) in
     whole_told (limits_of c.in_ok-session.session) c.args.limits bytes (tally_line c.in-Ok.tally) now old new
     c.tell_whole.result c.in_ok-session.ensures.limits (c.in-Ok.ensures.counted bytes known) c.tell_whole.ensures.told
 
@@ -36,7 +37,7 @@ pub returns-in_err-tell_refusal-in-Err-Refused-clause-told :
 returns-in_err-tell_refusal-in-Err-Refused-clause-told g c = λ bytes known.
     let old = g.W.Write.contents (writer_of c.args.output.now) in
     let new = g.W.Write.contents (writer_of c.tell_refusal.new.output) in
-    let now = g.R.Read.remaining (reader_of c.read_all.new.input) in
+    let now = g.R.Read.remaining (reader_of c.count_all.new.input) in
     let e = c.in_err-tell_refusal-in-Err-Refused.field-0.0 in
     at_error (λ r. WhyAnswers (within_trees c.args.limits) bytes now old new r)
     c.from_residual-in_err-tell_refusal-in-Err-Refused.result e
@@ -49,7 +50,7 @@ pub returns-in-Err-Refused-clause-told : goal.returns-in-Err-Refused-clause-told
 returns-in-Err-Refused-clause-told g c = λ bytes known.
     let old = g.W.Write.contents (writer_of c.args.output.now) in
     let new = g.W.Write.contents (writer_of c.tell_refusal.new.output) in
-    let now = g.R.Read.remaining (reader_of c.read_all.new.input) in
+    let now = g.R.Read.remaining (reader_of c.count_all.new.input) in
     refusal_told (limits_of c.in_ok-session.session) c.args.limits bytes now old new c.in-Err-Refused.refusal
     c.in-Err-Refused.field-0 c.in-Err-Refused.field-0-is c.in_ok-session.ensures.limits
     (c.in-Err-Refused.ensures.counted bytes known) c.in_ok-tell_refusal-in-Err-Refused.ensures.told
