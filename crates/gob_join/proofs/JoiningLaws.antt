@@ -1,16 +1,22 @@
 -- How a run goes on that takes in the items of a stream, and how it ends.
-use Rattle.std.proofs.Common.{◌≡◌, ℕ, ◌<◌, List, [], ◌∷◌, ◌++◌, Option, Some, None, Result, Ok, Err, OnOk, arith, refl}
+use Rattle.std.proofs.Common.{◌≡◌, ℕ, ◌<◌, List, [], ◌∷◌, ◌++◌, Option, Some, None, Result, Ok, Err, OnOk, IfErr}
+use Rattle.std.proofs.Common.{arith, refl}
+use Rattle.std.proofs.Common.{◌≢◌}
 use Rattle.std.proofs.Common.{sym, subst, ap, ◌∙◌, append_assoc}
 use Rattle.std.specs.Prelude.{IfSome}
 use Rattle.std.specs.Result.{IsErrAnd}
-use Rattle.std.specs.Io.KnownBytes.{Appends}
+use Rattle.std.specs.Io.KnownBytes.{Appends, Consumes, append_known}
 use Rattle.std.proofs.KnownBytes.{Appends-nil, Appends-trans}
-use Rattle.std.proofs.lemmas.List.{append-nil}
+use Rattle.std.proofs.lemmas.List.{append-nil, append_cancel_left}
 use Rattle.gob_types.specs.Base.{base_table}
 use Rattle.gob_types.specs.declared.kind.Shape.{Shape}
 use Rattle.gob_types.specs.Table.{Table}
 use Rattle.gob_types.proofs.PublicLaws.{Keeps}
 use Rattle.gob_stream.specs.Bounds.{Bounds, within_trees}
+use Rattle.gob_stream.specs.Calls.Writing.{CountsFault, SentPrefix}
+use Rattle.gob_stream.specs.Reading.{CountsReads}
+use Rattle.gob_stream.specs.declared.fault.WriteFault.{WriteFault}
+use Rattle.gob_stream.specs.declared.fault.WriteFault.TheVariants as writing
 use Rattle.gob_stream.specs.declared.fault.Fault.{Fault}
 use Rattle.gob_stream.specs.declared.fault.Fault.TheVariants as reading
 use Rattle.gob_stream.specs.declared.session.Step.{Step}
@@ -24,7 +30,7 @@ use Rattle.gob_filled.proofs.Prefix.{one_loosely}
 use Rattle.gob_filled.proofs.Refused.{in_turn}
 use Rattle.gob_filled.proofs.Unique.{one_filled}
 use Rattle.gob_go.specs.Calls.Reader.{EndsWith, GoReader, HasReadFrom, StepsOnFrom, StopsFrom, gives_none, gives_one}
-use Rattle.gob_go.specs.Calls.Reader.{GivesItems, session_of}
+use Rattle.gob_go.specs.Calls.Reader.{GivesItems, session_of, waits_in}
 use Rattle.gob_go.specs.Calls.Session.{IsBetweenItems, limits_of, types_of}
 use Rattle.gob_go.specs.Meaning.{ItemMeans}
 use Rattle.gob_go.specs.declared.item.GoItem.{GoItem}
@@ -32,8 +38,8 @@ use Rattle.gob_go.proofs.SessionAnswers.{table_between}
 use Rattle.gob_go_writer.specs.Calls.Writer.{HasPut}
 use Rattle.gob_go_writer.specs.Calls.Writer as writer
 use Rattle.gob_go_writer.specs.declared.writer.GoWriter.{GoWriter}
-use Rattle.gob_join.specs.Faults.{reading_fault, taking_fault}
-use Rattle.gob_join.specs.Joining.{JoinAnswers, JoinsWhole}
+use Rattle.gob_join.specs.Faults.{CountsJoinReads, CountsJoinWrites, reading_fault, taking_fault}
+use Rattle.gob_join.specs.Joining.{JoinAnswers, JoinsCut, JoinsSome, JoinsWhole}
 use Rattle.gob_join.specs.Machine.Joining.{JoinsAll, JoinsNext, JoinsSo, ReadsOn, ReadsSo, StopsJoining}
 use Rattle.gob_join.specs.Machine.Joining.{TakesStep}
 use Rattle.gob_join.specs.Renaming.{AreRenamed, no_items, items_then, AreRenamedFillings, none_renamed, one_renamed}
@@ -243,12 +249,67 @@ reads_on s some st = record {
 
 -- ---- what stops it
 
+-- what stands in front is read, and some bytes are left
+rest_of : (bytes taken waits prefix under_way : List ℕ) (now : Option (List ℕ)) → taken ≡ prefix ++ under_way
+    → Consumes (Some bytes) now (taken ++ waits) → (rest : List ℕ) × (bytes ≡ prefix ++ rest)
+rest_of bytes taken waits prefix under_way None e c = absurd c
+rest_of bytes taken waits prefix under_way (Some left) e c = (
+  under_way ++ (waits ++ left),
+  c ∙ ap (λ t. (t ++ waits) ++ left) e ∙ append_assoc (prefix ++ under_way) waits left
+      ∙ append_assoc prefix under_way (waits ++ left),
+)
+
+-- the values of the items that were read are out
+pub some_joined : {r : GoReader} {read now : Option (List ℕ)} {w : GoWriter} {before : List FilledItem}
+    {out : List ℕ} {ids : NewId} {start sent : Option (List ℕ)} (r' : GoReader) (w' : GoWriter)
+    (s : JoinsSo r read now w before out ids start sent)
+    → limits_of (session_of r') ≡ limits_of (session_of r) → writer.limits_of w ≡ writer.limits_of w'
+    → (bytes : List ℕ) → read ≡ Some bytes
+    → JoinsSome (within_trees (limits_of (session_of r'))) bytes w' before out start sent
+some_joined {r = r} {now = now} {w = w} {before = before} {out = out} {ids = ids} {start = start} {sent = sent} r' w'
+    s same keeps bytes known =
+    let gave = s.has.gave in
+    let rest = rest_of bytes s.has.taken (waits_in r) gave.prefix gave.under_way now gave.whole
+    (subst (λ read. Consumes read now (s.has.taken ++ waits_in r)) known s.has.input) in
+    subst (λ (L : Bounds). JoinsSome (within_trees L) bytes w' before out start sent) (sym same) (record {
+      given = s.given;
+      begins = record {
+        prefix = gave.prefix;
+        rest = rest.0;
+        table = gave.table;
+        stream = gave.stream;
+        whole = rest.1;
+      };
+      writer = w;
+      limits = keeps;
+      ids = ids;
+      joins = s.joins;
+    })
+
+-- bytes that are known can be told with more behind them
+pub appends_made : (known : Option (List ℕ)) (text : List ℕ) → Appends known (append_known known text) text
+appends_made None text = tt
+appends_made (Some xs) text = refl
+
+-- a prefix of the text went out behind what had: so a prefix of both did
+pub cut_short : (start mid new : Option (List ℕ)) (more text all : List ℕ) → Appends start mid more
+    → SentPrefix text mid new → Appends start (append_known mid text) all → SentPrefix all start new
+cut_short None mid new more text all a p b = record { prefix = []; rest = all; whole = refl; out = tt }
+cut_short (Some x) None new more text all a p b = absurd a
+cut_short (Some x) (Some y) new more text all a p b = record {
+  prefix = more ++ p.prefix;
+  rest = p.rest;
+  whole = append_cancel_left x all (more ++ text) (sym b ∙ ap (λ l. l ++ text) a ∙ append_assoc x more text)
+      ∙ ap (λ l. more ++ l) p.whole ∙ sym (append_assoc more p.prefix p.rest);
+  out = Appends-trans (Some x) (Some y) new more p.prefix a p.out;
+}
+
 pub joins_stopped : {r : GoReader} {read now : Option (List ℕ)} {w : GoWriter} {before : List FilledItem}
     {out : List ℕ} {ids : NewId} {start sent : Option (List ℕ)} (r' : GoReader) (next : Option (List ℕ)) (e : Fault)
     (T : Table) (s : JoinsSo r read now w before out ids start sent)
     → limits_of (session_of r') ≡ limits_of (session_of r) → StopsFrom (session_of r) T read next s.given e
     → StopsJoining r' read next w before out start sent (reading_fault e)
-joins_stopped {ids = ids} r' next (reading.Refused R) T s same stops = λ bytes known. (
+joins_stopped {w = w} {ids = ids} r' next (reading.Refused R) T s same stops = λ bytes known. (
   s.given,
   subst (λ (L : Bounds). FilledOutcome base_table (within_trees L) bytes s.given (refused R)) (sym same)
       (stops bytes known).outcome,
@@ -261,9 +322,9 @@ joins_stopped {ids = ids} r' next (reading.Refused R) T s same stops = λ bytes 
     joins = s.joins;
   },
 )
-joins_stopped r' next reading.Read T s same stops = tt
-joins_stopped r' next reading.Memory T s same stops = tt
-joins_stopped r' next reading.Failed T s same stops = tt
+joins_stopped {w = w} r' next reading.Read T s same stops = some_joined r' w s same refl
+joins_stopped {w = w} r' next reading.Memory T s same stops = some_joined r' w s same refl
+joins_stopped {w = w} r' next reading.Failed T s same stops = some_joined r' w s same refl
 
 -- at the error that a `?` returns
 pub next_at : (r r' : GoReader) (read now : Option (List ℕ)) (w : GoWriter) (before : List FilledItem) (out : List ℕ)
@@ -274,16 +335,18 @@ next_at r r' read now w before out ids start sent (Ok u) e is h = absurd is
 next_at r r' read now w before out ids start sent (Err f) e is h =
     subst (λ e. StopsJoining r' read now w before out start sent e) (sym is) h
 
-pub taking_at : (r r' : GoReader) (read now : Option (List ℕ)) (w : GoWriter) (before : List FilledItem)
-    (out : List ℕ) (ids : NewId) (start sent : Option (List ℕ)) (res : Result (Unit {0}) JoinFault) (e : TakeFault)
-    → IsErrAnd res (λ x. x ≡ taking_fault e) → JoinsNext r r' read now w before out ids start sent res
-taking_at r r' read now w before out ids start sent res e is =
+pub taking_at : {old : GoWriter} {was : NewId} (r r' : GoReader) (read now : Option (List ℕ)) (w : GoWriter)
+    (before : List FilledItem) (out : List ℕ) (ids : NewId) (start sent : Option (List ℕ))
+    (res : Result (Unit {0}) JoinFault) (e : TakeFault) → IsErrAnd res (λ x. x ≡ taking_fault e)
+    → JoinsSo r read now old before out was start sent → limits_of (session_of r') ≡ limits_of (session_of r)
+    → writer.limits_of old ≡ writer.limits_of w → JoinsNext r r' read now w before out ids start sent res
+taking_at r r' read now w before out ids start sent res e is s same keeps =
     next_at r r' read now w before out ids start sent res (taking_fault e) is (stopped e)
   where
     stopped : (e : TakeFault) → StopsJoining r' read now w before out start sent (taking_fault e)
-    stopped (taking.Full a) = tt
-    stopped taking.Memory = tt
-    stopped taking.Failed = tt
+    stopped (taking.Full a) = some_joined r' w s same keeps
+    stopped taking.Memory = some_joined r' w s same keeps
+    stopped taking.Failed = some_joined r' w s same keeps
 
 pub all_at : (r : GoReader) (read now : Option (List ℕ)) (w : GoWriter) (before : List FilledItem) (out : List ℕ)
     (start sent : Option (List ℕ)) (res : Result (Unit {0}) JoinFault) (e : JoinFault)
@@ -292,6 +355,89 @@ pub all_at : (r : GoReader) (read now : Option (List ℕ)) (w : GoWriter) (befor
 all_at r read now w before out start sent (Ok u) e is h = absurd is
 all_at r read now w before out start sent (Err f) e is h =
     subst (λ e. StopsJoining r read now w before out start sent e) (sym is) h
+
+-- ---- what is counted
+
+pub reading_writes : (failures : ℕ) (e : Fault) (res : Result (Unit {0}) JoinFault)
+    → IsErrAnd res (λ x. x ≡ reading_fault e) → CountsJoinWrites failures failures res
+reading_writes failures e (Ok u) is = absurd is
+reading_writes failures e (Err f) is = subst (λ f. CountsJoinWrites failures failures (Err f)) (sym is) (so e)
+  where
+    so : (e : Fault) → CountsJoinWrites failures failures (Err (reading_fault e))
+    so (reading.Refused R) = refl
+    so reading.Read = refl
+    so reading.Memory = refl
+    so reading.Failed = refl
+
+pub taking_writes : (failures : ℕ) (e : TakeFault) (res : Result (Unit {0}) JoinFault)
+    → IsErrAnd res (λ x. x ≡ taking_fault e) → CountsJoinWrites failures failures res
+taking_writes failures e (Ok u) is = absurd is
+taking_writes failures e (Err f) is = subst (λ f. CountsJoinWrites failures failures (Err f)) (sym is) (so e)
+  where
+    so : (e : TakeFault) → CountsJoinWrites failures failures (Err (taking_fault e))
+    so (taking.Full r) = refl
+    so taking.Memory = refl
+    so taking.Failed = refl
+
+pub writing_writes : (old new : ℕ) (e : WriteFault) (res : Result (Unit {0}) JoinFault)
+    → IsErrAnd res (λ x. x ≡ fault.Write) → e ≡ writing.Write → CountsFault old new e → CountsJoinWrites old new res
+writing_writes old new e (Ok u) is w h = absurd is
+writing_writes old new e (Err f) is w h =
+    subst (λ f. CountsJoinWrites old new (Err f)) (sym is) (subst (CountsFault old new) w h)
+
+pub reading_unread : (e : Fault) (res : Result (Unit {0}) JoinFault) → IsErrAnd res (λ x. x ≡ reading_fault e)
+    → e ≢ reading.Read → IfErr res (λ given. given ≢ fault.Read)
+reading_unread e (Ok u) is other = tt
+reading_unread e (Err f) is other = λ r. so e other (sym is ∙ r)
+  where
+    so : (e : Fault) → e ≢ reading.Read → reading_fault e ≡ fault.Read → ⊥
+    so (reading.Refused R) other r = absurd (cc r)
+    so reading.Read other r = other refl
+    so reading.Memory other r = absurd (cc r)
+    so reading.Failed other r = absurd (cc r)
+
+pub taking_unread : (e : TakeFault) (res : Result (Unit {0}) JoinFault) → IsErrAnd res (λ x. x ≡ taking_fault e)
+    → IfErr res (λ given. given ≢ fault.Read)
+taking_unread e (Ok u) is = tt
+taking_unread e (Err f) is = λ r. so e (sym is ∙ r)
+  where
+    so : (e : TakeFault) → taking_fault e ≡ fault.Read → ⊥
+    so (taking.Full a) r = absurd (cc r)
+    so taking.Memory r = absurd (cc r)
+    so taking.Failed r = absurd (cc r)
+
+pub reads_counted : (A : Type 0) (old mid new : ℕ) (e : Fault) (res : Result (Unit {0}) JoinFault)
+    → IsErrAnd res (λ x. x ≡ reading_fault e) → mid ≡ old → CountsReads {A = A} mid new (Err e)
+    → CountsJoinReads old new res
+reads_counted A old mid new e (Ok u) is same h = absurd is
+reads_counted A old mid new e (Err f) is same h =
+    subst (λ f. CountsJoinReads old new (Err f)) (sym is) (so e (subst (λ m. CountsReads {A = A} m new (Err e)) same h))
+  where
+    so : (e : Fault) → CountsReads {A = A} old new (Err e) → CountsJoinReads old new (Err (reading_fault e))
+    so (reading.Refused R) h = h
+    so reading.Read h = h.0
+    so reading.Memory h = h
+    so reading.Failed h = h
+
+-- no read failed behind those that were counted
+pub reads_stay : (old new : ℕ) (e : JoinFault) (res : Result (Unit {0}) JoinFault) → IsErrAnd res (λ x. x ≡ e)
+    → e ≢ fault.Read → new ≡ old → CountsJoinReads old new res
+reads_stay old new e (Ok u) is other same = absurd is
+reads_stay old new e (Err f) is other same = subst (λ f. CountsJoinReads old new (Err f)) (sym is) (so e other)
+  where
+    so : (e : JoinFault) → e ≢ fault.Read → CountsJoinReads old new (Err e)
+    so (fault.Refused R) other = same
+    so (fault.Full a) other = same
+    so fault.Read other = absurd (other refl)
+    so fault.Write other = same
+    so fault.Memory other = same
+    so fault.Failed other = same
+
+pub writes_on : (old mid new : ℕ) (e : JoinFault) (res : Result (Unit {0}) JoinFault) → IsErrAnd res (λ x. x ≡ e)
+    → mid ≡ old → CountsJoinWrites mid new (Err e) → CountsJoinWrites old new res
+writes_on old mid new e (Ok u) is same h = absurd is
+writes_on old mid new e (Err f) is same h = subst (λ f. CountsJoinWrites old new (Err f)) (sym is)
+    (subst (λ m. CountsJoinWrites m new (Err e)) same h)
 
 -- ---- all of it
 
@@ -328,16 +474,42 @@ all_answers L r bytes read now w before out start sent (Ok u) same known h =
 all_answers L r bytes read now w before out start sent (Err (fault.Refused R)) same known h =
     subst (λ L. JoinAnswers (within_trees L) bytes now w before out start sent (Err (fault.Refused R))) same
     (h bytes known)
-all_answers L r bytes read now w before out start sent (Err (fault.Full a)) same known h = tt
-all_answers L r bytes read now w before out start sent (Err fault.Read) same known h = tt
-all_answers L r bytes read now w before out start sent (Err fault.Write) same known h = tt
-all_answers L r bytes read now w before out start sent (Err fault.Memory) same known h = tt
-all_answers L r bytes read now w before out start sent (Err fault.Failed) same known h = tt
+all_answers L r bytes read now w before out start sent (Err (fault.Full a)) same known h =
+    subst (λ L. JoinsSome (within_trees L) bytes w before out start sent) same (h bytes known)
+all_answers L r bytes read now w before out start sent (Err fault.Read) same known h =
+    subst (λ L. JoinsSome (within_trees L) bytes w before out start sent) same (h bytes known)
+all_answers L r bytes read now w before out start sent (Err fault.Write) same known h =
+    subst (λ L. JoinsCut (within_trees L) bytes w before out start sent) same (h bytes known)
+all_answers L r bytes read now w before out start sent (Err fault.Memory) same known h =
+    subst (λ L. JoinsSome (within_trees L) bytes w before out start sent) same (h bytes known)
+all_answers L r bytes read now w before out start sent (Err fault.Failed) same known h =
+    subst (λ L. JoinsSome (within_trees L) bytes w before out start sent) same (h bytes known)
+
+-- no item was read
+none_joined : (L : Bounds) (bytes : List ℕ) (w : GoWriter) (before : List FilledItem) (out : List ℕ)
+    (start : Option (List ℕ)) → HasPut w before out → JoinsSome L bytes w before out start start
+none_joined L bytes w before out start p = record {
+  given = [];
+  begins = record { prefix = []; rest = bytes; table = base_table; stream = no_more; whole = refl };
+  writer = w;
+  limits = refl;
+  ids = λ t. None;
+  joins = record {
+    items = [];
+    more = [];
+    put = subst (λ is. HasPut w is (out ++ [])) (sym (append-nil before))
+        (subst (λ b. HasPut w before b) (sym (append-nil out)) p);
+    sent = Appends-nil start;
+    renaming = record { each = λ t u e. absurd (cc e) };
+    values = no_items;
+  };
+}
 
 -- where there was no memory for a reader
 pub no_memory : (L : Bounds) (bytes : List ℕ) (now : Option (List ℕ)) (w : GoWriter) (before : List FilledItem)
-    (out : List ℕ) (start sent : Option (List ℕ)) (res : Result (Unit {0}) JoinFault)
-    → IsErrAnd res (λ x. x ≡ fault.Memory) → JoinAnswers L bytes now w before out start sent res
-no_memory L bytes now w before out start sent (Ok u) is = absurd is
-no_memory L bytes now w before out start sent (Err f) is =
-    subst (λ f. JoinAnswers L bytes now w before out start sent (Err f)) (sym is) tt
+    (out : List ℕ) (start : Option (List ℕ)) (res : Result (Unit {0}) JoinFault) → HasPut w before out
+    → IsErrAnd res (λ x. x ≡ fault.Memory) → JoinAnswers L bytes now w before out start start res
+no_memory L bytes now w before out start (Ok u) p is = absurd is
+no_memory L bytes now w before out start (Err f) p is =
+    subst (λ f. JoinAnswers L bytes now w before out start start (Err f)) (sym is)
+    (none_joined L bytes w before out start p)

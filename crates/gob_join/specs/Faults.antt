@@ -1,4 +1,6 @@
 -- What stops an item or a stream from being taken in, where a reader or the writer was stopped.
+use Rattle.std.specs.Prelude.{◌≡◌, ℕ, Result, Ok, Err}
+use Rattle.gob_stream.specs.Devices.{counts_up}
 use Rattle.gob_stream.specs.declared.fault.Fault.{Fault}
 use Rattle.gob_stream.specs.declared.fault.Fault.TheVariants as reading
 use Rattle.gob_go_writer.specs.declared.put_fault.PutFault.{PutFault}
@@ -26,3 +28,13 @@ abbrev pub taking_fault : TakeFault → JoinFault
 taking_fault (taking.Full r) = fault.Full r
 taking_fault taking.Memory = fault.Memory
 taking_fault taking.Failed = fault.Failed
+
+-- the fault is `Read` exactly where a read failed
+abbrev pub CountsJoinReads : (failures failures' : ℕ) → Result (Unit {0}) JoinFault → Type 0
+CountsJoinReads failures failures' (Err fault.Read) = failures' ≡ counts_up failures 1
+CountsJoinReads failures failures' _ = failures' ≡ failures
+
+-- and `Write` exactly where a write did
+abbrev pub CountsJoinWrites : (failures failures' : ℕ) → Result (Unit {0}) JoinFault → Type 0
+CountsJoinWrites failures failures' (Err fault.Write) = failures' ≡ counts_up failures 1
+CountsJoinWrites failures failures' _ = failures' ≡ failures

@@ -5,9 +5,10 @@ use Rattle.std.specs.Io.KnownBytes.{Appends}
 use Rattle.gob_types.specs.Base.{base_table}
 use Rattle.gob_types.specs.Table.{Table}
 use Rattle.gob_stream.specs.Bounds.{Bounds}
-use Rattle.gob_filled.specs.Outcome.{FilledOutcome, refused}
+use Rattle.gob_stream.specs.Calls.Writing.{SentPrefix}
+use Rattle.gob_filled.specs.Outcome.{BeginsFilled, FilledOutcome, refused}
 use Rattle.gob_filled.specs.Stream.{FilledItem, FilledStream}
-use Rattle.gob_go_writer.specs.Calls.Writer.{HasPut, types_of}
+use Rattle.gob_go_writer.specs.Calls.Writer.{HasPut, limits_of, types_of}
 use Rattle.gob_go_writer.specs.declared.writer.GoWriter.{GoWriter}
 use Rattle.gob_join.specs.Renaming.{AreRenamed, IsRenaming, NewId, values_of}
 use Rattle.gob_join.specs.declared.join_fault.JoinFault.{JoinFault}
@@ -43,10 +44,30 @@ pub record JoinsRefused (L : Bounds) (bytes : List ℕ) (w : GoWriter) (before :
   pub ids : NewId
   pub joins : Joins w before out ids given table old new
 
+-- of some first items of the file: no more went out than what a writer of those limits had put for them
+pub record JoinsSome (L : Bounds) (bytes : List ℕ) (w : GoWriter) (before : List FilledItem) (out : List ℕ)
+    (old new : Option (List ℕ)) : Type 0 where
+  pub given : List FilledItem
+  pub begins : BeginsFilled base_table L bytes given
+  pub writer : GoWriter
+  pub limits : limits_of writer ≡ limits_of w
+  pub ids : NewId
+  pub joins : Joins writer before out ids given begins.table old new
+
+-- or, behind a failed write, a prefix of that
+pub record JoinsCut (L : Bounds) (bytes : List ℕ) (w : GoWriter) (before : List FilledItem) (out : List ℕ)
+    (old new : Option (List ℕ)) : Type 0 where
+  pub made : Option (List ℕ)
+  pub some : JoinsSome L bytes w before out old made
+  pub more : List ℕ
+  pub whole : Appends old made more
+  pub cut : SentPrefix more old new
+
 -- over a file that had these bytes, for a writer that had put the items before
 abbrev pub JoinAnswers : Bounds → (bytes : List ℕ) → (now : Option (List ℕ)) → GoWriter → List FilledItem
     → (out : List ℕ) → (old new : Option (List ℕ)) → Result (Unit {0}) JoinFault → Type 0
 JoinAnswers L bytes now w before out old new (Ok _) = JoinsWhole L bytes now w before out old new
 JoinAnswers L bytes now w before out old new (Err (fault.Refused R)) = (given : List FilledItem)
     × FilledOutcome base_table L bytes given (refused R) × JoinsRefused L bytes w before out old new given
-JoinAnswers L bytes now w before out old new (Err _) = Unit {0}
+JoinAnswers L bytes now w before out old new (Err fault.Write) = JoinsCut L bytes w before out old new
+JoinAnswers L bytes now w before out old new (Err _) = JoinsSome L bytes w before out old new

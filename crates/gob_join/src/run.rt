@@ -1,14 +1,15 @@
 //! The run that takes a stream into the joined one.
 
-ghost use Rattle.std.specs.Prelude.{◌≡◌, ◌<◌, ℕ, List, [], length, OnOk, Option, Some};
+ghost use Rattle.std.specs.Prelude.{◌≡◌, ◌≢◌, ◌<◌, ℕ, List, [], length, IfErr, OnOk, Option, Some};
 ghost use Rattle.gob_types.specs.Defined.{types};
 ghost use Rattle.gob_types.specs.Table.{Table as Types};
 ghost use Rattle.gob_stream.specs.Bounds.{within_trees};
-ghost use Rattle.gob_stream.specs.Calls.Ends.{reader_of, writer_of};
+ghost use Rattle.gob_stream.specs.Calls.Ends.{failed_reads, failed_writes, reader_of, writer_of};
 ghost use Rattle.gob_filled.specs.Stream.{FilledItem};
 ghost use Rattle.gob_go.specs.Calls.Reader.{HasReadFrom, session_of, waits_in};
 ghost use Rattle.gob_go.specs.Calls.Session.{limits_of};
-ghost use Rattle.gob_go_writer.specs.Calls.Writer.{HasPut};
+ghost use Rattle.gob_go_writer.specs.Calls.Writer.{HasPut, limits_of as writer_limits};
+ghost use Rattle.gob_join.specs.Faults.{CountsJoinReads, CountsJoinWrites};
 ghost use Rattle.gob_join.specs.Joining.{JoinAnswers};
 ghost use Rattle.gob_join.specs.Renaming.{IsRenaming, among};
 ghost use Rattle.gob_join.specs.Machine.Joining.{JoinsAll, JoinsNext, JoinsSo, ReadsOn, ReadsSo, TakesStep};
@@ -26,9 +27,10 @@ use std::io::{Read, Write};
 /// Takes the values of a stream of Go's encoder, in order, into the stream that the writer writes: each as it was, but
 /// under ids of that stream, behind the definitions that it needs. Ok exactly at the end of a whole stream that the
 /// joined one has room for. Where the stream is refused, the values of the items before are taken in. Behind any other
-/// fault no more than those of some of its items are, whole but behind a failed write; of that no clause speaks. What
-/// it takes in memory grows with the types and the largest item alone. No value may be deeper than `limits.depth()` or
-/// than 1000; what an interface holds is one deeper than the interface.
+/// fault those of some first items are, whole, or behind a failed write a prefix of their bytes. The fault is `Read` or
+/// `Write` exactly where a read or a write failed. What it takes in memory grows with the types and the largest item
+/// alone. No value may be deeper than `limits.depth()` or than 1000; what an interface holds is one deeper than the
+/// interface.
 pub fn join_file<R: Read, W: Write>(
     alloc: Global,
     input: &mut Input<R>,
@@ -40,6 +42,9 @@ pub fn join_file<R: Read, W: Write>(
         → R.remaining (reader_of input.old) ≡ Some bytes
         → JoinAnswers (within_trees limits) bytes (R.remaining (reader_of input.new)) writer.new before out
         (W.contents (writer_of output.old)) (W.contents (writer_of output.new)) result }
+    ensures limits { writer_limits writer.new ≡ writer_limits writer.old }
+    ensures reads { CountsJoinReads (failed_reads input.old) (failed_reads input.new) result }
+    ensures writes { CountsJoinWrites (failed_writes output.old) (failed_writes output.new) result }
 {
     let mut reader = GoReader::new(alloc, limits)?;
     let mut known = KnownTypes::new(alloc, reader.table())?;
@@ -61,6 +66,9 @@ fn join_items<R: Read, W: Write>(
         → JoinsAll reader.new (R.remaining (reader_of input.old)) (R.remaining (reader_of input.new)) writer.new before
         out (W.contents (writer_of output.old)) (W.contents (writer_of output.new)) result }
     ensures limits { limits_of (session_of reader.new) ≡ limits_of (session_of reader.old) }
+    ensures kept { writer_limits writer.new ≡ writer_limits writer.old }
+    ensures reads { CountsJoinReads (failed_reads input.old) (failed_reads input.new) result }
+    ensures writes { CountsJoinWrites (failed_writes output.old) (failed_writes output.new) result }
 {
     'items: while reader.more(input)? {
         join_next(alloc, reader, known, writer, output)?;
@@ -85,6 +93,9 @@ fn join_next<W: Write>(
     ensures onward { (read now : Option (List ℕ)) → ReadsSo reader.old read now
         → OnOk result (ReadsOn reader.old reader.new read now) }
     ensures limits { limits_of (session_of reader.new) ≡ limits_of (session_of reader.old) }
+    ensures kept { writer_limits writer.new ≡ writer_limits writer.old }
+    ensures unread { IfErr result (λ given. given ≢ JoinFault.Read) }
+    ensures writes { CountsJoinWrites (failed_writes output.old) (failed_writes output.new) result }
 {
     let step = reader.step(alloc)?;
     let mut text = Vec::new(alloc);
@@ -102,8 +113,9 @@ fn take_step(
     writer: &mut GoWriter,
     text: &mut Vec<u8>,
 ) -> Result<(), TakeFault>
-    ensures { OnOk result (TakesStep item writer.old writer.new text.old.items text.new.items (types table.now)
+    ensures taken { OnOk result (TakesStep item writer.old writer.new text.old.items text.new.items (types table.now)
         (among known.old.renaming) (among known.new.renaming)) }
+    ensures kept { writer_limits writer.new ≡ writer_limits writer.old }
 {
     match item {
         None => Ok(()),

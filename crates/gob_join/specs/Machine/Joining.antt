@@ -9,7 +9,7 @@ use Rattle.gob_go.specs.declared.item.GoItem.{GoItem}
 use Rattle.gob_types.specs.Table.{Table}
 use Rattle.gob_go_writer.specs.Calls.Writer.{HasPut, types_of}
 use Rattle.gob_go_writer.specs.declared.writer.GoWriter.{GoWriter}
-use Rattle.gob_join.specs.Joining.{JoinAnswers, Joins, JoinsWhole}
+use Rattle.gob_join.specs.Joining.{JoinAnswers, Joins, JoinsCut, JoinsSome, JoinsWhole}
 use Rattle.gob_join.specs.Renaming.{IsRenaming, NewId}
 use Rattle.gob_join.specs.Taking.{TakesItem}
 use Rattle.gob_join.specs.declared.join_fault.JoinFault.{JoinFault}
@@ -37,7 +37,10 @@ abbrev pub StopsJoining : GoReader → (read now : Option (List ℕ)) → GoWrit
     → (start sent : Option (List ℕ)) → JoinFault → Type 0
 StopsJoining r read now w before out start sent (fault.Refused R) = (bytes : List ℕ) → read ≡ Some bytes
     → JoinAnswers (within_trees (limits_of (session_of r))) bytes now w before out start sent (Err (fault.Refused R))
-StopsJoining r read now w before out start sent _ = Unit {0}
+StopsJoining r read now w before out start sent fault.Write = (bytes : List ℕ) → read ≡ Some bytes
+    → JoinsCut (within_trees (limits_of (session_of r))) bytes w before out start sent
+StopsJoining r read now w before out start sent _ = (bytes : List ℕ) → read ≡ Some bytes
+    → JoinsSome (within_trees (limits_of (session_of r))) bytes w before out start sent
 
 abbrev pub JoinsNext : (r r' : GoReader) → (read now : Option (List ℕ)) → GoWriter → List FilledItem → (out : List ℕ)
     → NewId → (start sent : Option (List ℕ)) → Result (Unit {0}) JoinFault → Type 0
