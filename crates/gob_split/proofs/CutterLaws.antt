@@ -1,7 +1,8 @@
 -- How parts grow.
 use Rattle.std.proofs.Common.{◌≡◌, ◌∙◌, ℕ, ◌<◌, List, [], ◌∷◌, ◌++◌, length, drop, take, arith, refl}
 use Rattle.std.proofs.Common.{sym, ap, subst, append_assoc, Option, Some, None}
-use Rattle.std.proofs.Common.{Result, Ok, Err, take-append-drop}
+use Rattle.std.proofs.Common.{Result, Ok, Err, take-append-drop, nat_lt, true, false}
+use Rattle.std.proofs.lemmas.Bool.Decides.{nat_tests}
 use Rattle.std.specs.Result.{IsErr, IsErrAnd}
 use Rattle.std.proofs.lemmas.List.{append-nil, drop_at, take_at}
 use Rattle.gob_split.specs.Machine.Cutting.{CountsLast, CountsPart, HasNotBegun, HasNotTurned, HasTurned}
@@ -40,6 +41,13 @@ pub one_value : (value : List ℕ) → 0 < length value → value_count value �
 one_value [] e = absurd (omega (arith, e))
 one_value (b ∷ value) e = refl
 
+-- so many of them, by whether there are some
+pub some_values : (n values : ℕ) → n ≡ values → nat_lt 0 n ≡ true → 0 < values
+some_values n values e is = grind (arith, nat_tests)
+
+pub no_values : (n values : ℕ) → n ≡ values → nat_lt 0 n ≡ false → values ≡ 0
+no_values n values e is = grind (arith, nat_tests)
+
 -- ---- what was written
 pub cut_nothing : (all : List (List ℕ)) (x : List ℕ) → IsCut (all ++ x ∷ []) all
 cut_nothing all x = cut_between (x ∷ []) refl
@@ -59,14 +67,14 @@ module _ (how : PartSize) (defining : List ℕ) (full : List (List ℕ)) (before
       → TurnAnswers how defining full part (λ made. Are (before ++ made)) r
   turns_so part (Ok f) done b = record {
     full' = all_parts full part;
-    part = record { bytes = defining; values = 0 };
+    part = record { bytes = defining; values = 0; ends = 0 };
     turns = turns done;
     counts = b.counts;
     out = subst Are (append_assoc before (all_parts full part) (defining ∷ [])) b.out;
   }
   turns_so part (Err e) done (not_begun out) = record {
     full' = all_parts full part;
-    part = record { bytes = defining; values = 0 };
+    part = record { bytes = defining; values = 0; ends = 0 };
     turns = turns done;
     written = all_parts full part;
     cut = λ more. cut_nothing (all_parts full part) (defining ++ more);
@@ -74,7 +82,7 @@ module _ (how : PartSize) (defining : List ℕ) (full : List (List ℕ)) (before
   }
   turns_so part (Err e) done (begun_some prefix rest is out) = record {
     full' = all_parts full part;
-    part = record { bytes = defining; values = 0 };
+    part = record { bytes = defining; values = 0; ends = 0 };
     turns = turns done;
     written = all_parts full part ++ prefix ∷ [];
     cut = λ more. cut_within (all_parts full part) prefix (rest ++ more)

@@ -1,13 +1,14 @@
 -- Into which parts the texts of items are split. (docs/FORMAT.md, Parts of a stream: this project's own.)
-use Rattle.std.specs.Prelude.{◌≡◌, ℕ, ◌+◌, ◌<◌, ◌≤◌, List, [], ◌∷◌, ◌++◌, length, Option, Some, None}
+use Rattle.std.specs.Prelude.{◌≡◌, ℕ, ◌+◌, ◌<◌, ◌≤◌, ◌⊎◌, List, [], ◌∷◌, ◌++◌, length, Option, Some, None}
 use Rattle.gob_split.specs.Text.{Text, text_bytes}
 use Rattle.gob_split.specs.declared.part_size.PartSize.{PartSize}
 use Rattle.gob_split.specs.declared.part_size.PartSize.TheVariants as size
 
--- a part so far: its bytes, and how many values there are in it
+-- a part so far: its bytes, how many values there are in it, and how many in its last item
 pub record Part : Type 0 where
   pub bytes : List ℕ
   pub values : ℕ
+  pub ends : ℕ
 
 -- the parts, of which the last one may get more
 abbrev pub all_parts : List (List ℕ) → Option Part → List (List ℕ)
@@ -30,23 +31,27 @@ values_of (t ∷ texts) = value_count t.value + values_of texts
 -- ---- where a part ends
 abbrev pub IsDone : PartSize → Option Part → Type 0
 IsDone how None = Unit {0}
-IsDone (size.Bytes n) (Some p) = n ≤ length p.bytes
-IsDone (size.Values n) (Some p) = n ≤ p.values
+IsDone (size.Bytes n) (Some p) = (0 < p.ends) × (n ≤ length p.bytes)
+IsDone (size.Values n) (Some p) = (0 < p.ends) × (n ≤ p.values)
 
 abbrev pub HasRoom : PartSize → Part → Type 0
-HasRoom (size.Bytes n) p = length p.bytes < n
-HasRoom (size.Values n) p = p.values < n
+HasRoom (size.Bytes n) p = (p.ends ≡ 0) ⊎ (length p.bytes < n)
+HasRoom (size.Values n) p = (p.ends ≡ 0) ⊎ (p.values < n)
 
 -- the next item goes into a new part, which begins with the definitions in force, where the last one is done, or there
 -- is none; else into that
 pub data Turns (how : PartSize) (defining : List ℕ) (full : List (List ℕ)) : Option Part → List (List ℕ) → Part
     → Type 0 where
   turns : {last : Option Part} → IsDone how last
-      → Turns how defining full last (all_parts full last) (record { bytes = defining; values = 0 })
+      → Turns how defining full last (all_parts full last) (record { bytes = defining; values = 0; ends = 0 })
   stays : {p : Part} → HasRoom how p → Turns how defining full (Some p) full p
 
 abbrev pub with_text : Part → Text → Part
-with_text p t = record { bytes = p.bytes ++ text_bytes t; values = p.values + value_count t.value }
+with_text p t = record {
+  bytes = p.bytes ++ text_bytes t;
+  values = p.values + value_count t.value;
+  ends = value_count t.value;
+}
 
 -- the texts, one behind another, are split so
 pub data IsSplit (how : PartSize) : List Text → List (List ℕ) → Option Part → Type 0 where

@@ -20,6 +20,8 @@ use std::alloc::Global;
 pub(crate) struct Filling {
     pub(crate) bytes: u64,
     pub(crate) values: u64,
+    /// Whether its last item is a value.
+    pub(crate) ends_with_value: bool,
 }
 
 impl Filling {
@@ -28,9 +30,11 @@ impl Filling {
         requires { text.now.definitions ≤ length text.now.bytes.items }
         ensures { (p : Part) → CountsPart self p → CountsPart result (with_text p (text_in text.now)) }
     {
+        let values = values_in(text);
         Filling {
             bytes: self.bytes.saturating_add(text.bytes.len() as u64),
-            values: self.values.saturating_add(values_in(text)),
+            values: self.values.saturating_add(values),
+            ends_with_value: values > 0,
         }
     }
 }
@@ -123,6 +127,7 @@ fn begin<P: Parts>(parts: &mut P, defining: &[u8]) -> Result<Filling, NotWritten
     let filling = Filling {
         bytes: defining.len() as u64,
         values: 0,
+        ends_with_value: false,
     };
     parts.begin()?;
     parts.send(defining)?;

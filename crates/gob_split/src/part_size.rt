@@ -6,7 +6,7 @@ ghost use Rattle.gob_split.specs.Machine.Cutting.{CountsPart};
 
 use crate::cutter::Filling;
 
-/// Where a part ends: with the first item with which it has as much, or more.
+/// Where a part ends: with the first value with which it has as much, or more.
 #[derive(Clone, Copy, Debug, PartialEq, Eq)]
 pub enum PartSize {
     /// So many bytes, with those of the definitions in front.
@@ -21,6 +21,9 @@ impl PartSize {
         ensures done { result ≡ true → (p : Part) → CountsPart filling p → IsDone self (Some p) }
         ensures room { result ≡ false → (p : Part) → CountsPart filling p → HasRoom self p }
     {
+        if !filling.ends_with_value {
+            return false;
+        }
         match self {
             PartSize::Bytes(most) => filling.bytes >= most,
             PartSize::Values(most) => filling.values >= most,

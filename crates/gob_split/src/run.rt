@@ -20,8 +20,9 @@ use std::alloc::Global;
 use std::io::Read;
 
 /// Splits a stream of Go's encoder into parts behind those that are there. Each part begins with the definitions of the
-/// items before it, and then has items in their bytes, up to the first one with which it is as large as `size` says; a
-/// definition that stands in a value stands in an item of its own before it instead.
+/// items before it, and then has items in their bytes, up to the first value with which it is as large as `size` says.
+/// So none ends with a definition but the last one of a stream that does; Go's decoder takes that for one that was cut
+/// off. A definition that stands in a value stands in an item of its own before it instead.
 ///
 /// Ok exactly at the end of a whole stream, which may be of no part. Before a fault is answered the items before it are
 /// put into parts; at `ToolFault::Write` a prefix of these may be. What it takes in memory grows with the types and the

@@ -1,5 +1,6 @@
 -- What has been put into parts, and what putting a text answers. For private clauses.
-use Rattle.std.specs.Prelude.{◌≡◌, ℕ, ◌-◌, ◌^◌, List, [], ◌∷◌, ◌++◌, length, min, Option, Some, None, Result, Ok, Err}
+use Rattle.std.specs.Prelude.{◌≡◌, ℕ, ◌-◌, ◌^◌, ◌<◌, List, [], ◌∷◌, ◌++◌, length, min, Option, Some, None}
+use Rattle.std.specs.Prelude.{Result, Ok, Err, true, false}
 use Rattle.gob_tool.specs.declared.fault.ToolFault.{ToolFault}
 use Rattle.gob_tool.specs.declared.fault.ToolFault.TheVariants as fault
 use Rattle.gob_split.specs.Split.{Part, all_parts, definitions_of, IsCut, IsSplit, Turns}
@@ -13,6 +14,8 @@ use Rattle.gob_split.specs.declared.parts.NotWritten.{NotWritten}
 pub record CountsPart (f : Filling) (p : Part) : Type 0 where
   pub bytes : f.bytes ≡ min (length p.bytes) (2 ^ 64 - 1)
   pub values : f.values ≡ min p.values (2 ^ 64 - 1)
+  pub done : f.ends_with_value ≡ true → 0 < p.ends
+  pub not_done : f.ends_with_value ≡ false → p.ends ≡ 0
 
 abbrev pub CountsLast : Option Filling → Option Part → Type 0
 CountsLast None None = Unit {0}
@@ -30,7 +33,7 @@ pub record IsCutting (how : PartSize) (c : Cutter) (texts : List Text) (full : L
 
 -- ---- a part was begun behind others
 pub record HasBegun (bytes : List ℕ) (all : List (List ℕ)) (Are : List (List ℕ) → Type 0) (f : Filling) : Type 0 where
-  pub counts : CountsPart f (record { bytes = bytes; values = 0 })
+  pub counts : CountsPart f (record { bytes = bytes; values = 0; ends = 0 })
   pub out : Are (all ++ bytes ∷ [])
 
 -- or it wasn't, or not all of the bytes went out

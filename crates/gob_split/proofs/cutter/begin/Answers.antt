@@ -1,4 +1,4 @@
-use Rattle.std.proofs.Common.{[], arith}
+use Rattle.std.proofs.Common.{[], arith, refl}
 use Rattle.gob_split.specs.Machine.Cutting.{begun_some, not_begun}
 use Rattle.gob_split.proofs.CutterLaws.{begins_at}
 use Rattle.gob_split.proofs.cutter.begin.Goals as goal
@@ -16,6 +16,6 @@ returns-in_err-send-clause-begun g c = λ all old.
 
 pub returns-clause-begun : goal.returns-clause-begun
 returns-clause-begun g c = λ all old. record {
-  counts = record { bytes = omega arith; values = omega arith };
+  counts = record { bytes = omega arith; values = omega arith; done = λ is. absurd (cc is); not_done = λ is. refl };
   out = c.in_ok-send.ensures.sent all [] (c.in_ok-begin.ensures.begun all old);
 }
