@@ -25,8 +25,8 @@ use std::alloc::Global;
 use std::io::{Read, Write};
 
 /// Takes the values of a stream of Go's encoder, in order, into the stream that the writer writes: each as it was, but
-/// under ids of that stream, behind the definitions that it needs. Ok exactly at the end of a whole stream that the
-/// joined one has room for. Where the stream is refused, the values of the items before are taken in. Behind any other
+/// under ids of that stream, behind the definitions that it needs. Ok only at the end of a whole stream, all of whose
+/// values are then taken in. Where the stream is refused, the values of the items before are taken in. Behind any other
 /// fault those of some first items are, whole, or behind a failed write a prefix of their bytes. The fault is `Read` or
 /// `Write` exactly where a read or a write failed. What it takes in memory grows with the types and the largest item
 /// alone. No value may be deeper than `limits.depth()` or than 1000; what an interface holds is one deeper than the
