@@ -13,6 +13,8 @@ class Due(NamedTuple):
 
 
 OTHER = "Get the file that holds the stream: this is another."
+SALVAGE = ("Get the file once more from where it comes from, or read what isn't damaged: "
+           "gob values --salvage IN")
 FETCH = "Get the file once more from where it comes from, in binary, and compare its size or checksum."
 BEGIN = "Get the file from its first byte on."
 MISSING = "The beginning of the stream is missing: the first item is a value, and nothing defines its type."
@@ -24,6 +26,8 @@ IN_JSON = "The file is JSON, and a string in it is base64 of a gob stream."
 INFLATE = ("python3 -c 'import sys, zlib; sys.stdout.buffer.write(zlib.decompress(sys.stdin.buffer.read()))' <IN | "
            "gob why")
 FROM_JSON = """jq -r '.. | strings | select(startswith("H/+BAwEB"))' IN | head -n 1 | base64 -d | gob why"""
+FROM_XXD = "sed 's/^[^:]*: //; s/  .*//' IN | xxd -r -p | gob why"
+FROM_DUMP = "sed 's/^[^ ]* *//; s/|.*//' IN | xxd -r -p | gob why"
 FROM_NUMBERS = "tr -c 0-9 ' ' <IN | xargs printf %02x | xxd -r -p | gob why"
 
 
@@ -62,7 +66,8 @@ def one_byte(made, byte):
 
 
 def lost(made, count):
-    return Due(made, f"The beginning of the stream is missing: from byte {count} on whole items stand.", BEGIN)
+    return Due(made, f"The beginning of the stream is missing or was changed: from byte {count} on whole items stand.",
+               "Get the file once more, from its first byte on.")
 
 
 def zeros(made, begin=48):
@@ -75,9 +80,14 @@ def cut_off(made, begin, stream):
                f"head -c {begin} IN | gob why; tail -c +{stream + 1} IN | gob why")
 
 
+def between(made, begin, stream):
+    cause = f"{stream - begin} bytes stand here that are no item, and another encoder's stream begins at byte {stream}."
+    return Due(made, cause, f"head -c {begin} IN | gob why; tail -c +{stream + 1} IN | gob why")
+
+
 def damaged(made, end):
     cause = f"These bytes were changed. The item ends where its count says, and the next begins at byte {end}."
-    return Due(made, cause, "Get the file once more, or read all other items: gob salvage IN | gob values")
+    return Due(made, cause, "Get the file once more, or read all other items: gob values --salvage IN")
 
 
 PACKED = {
@@ -147,15 +157,27 @@ FORMS = {
 }
 
 SPELLED = {
-    "openssl_base64": spelled("openssl base64 -in POINT", "base64", "base64 -d IN | gob why"),
+    "openssl_base64": spelled("openssl base64 -in POINT", "base64", "base64 -di IN | gob why"),
     "xxd_plain": spelled("xxd -p POINT", "hexadecimal digits", "xxd -r -p IN | gob why"),
     "xxd_plain_one_line": spelled("xxd -p -c 999 POINT", "hexadecimal digits", "xxd -r -p IN | gob why"),
     "hex_upper": spelled("xxd -u -p -c 999 POINT", "hexadecimal digits", "xxd -r -p IN | gob why"),
     "postgres_hex": spelled("Postgres' bytea: \\x", "hexadecimal digits", "xxd -r -p IN | gob why"),
     "hex_0x": spelled("the same behind 0x", "hexadecimal digits", "xxd -r -p IN | gob why"),
     "od_x1": spelled("od -An -tx1 POINT", "hexadecimal digits", "xxd -r -p IN | gob why"),
-    "point.xxd": spelled("xxd POINT", "a dump by xxd", "xxd -r IN | gob why"),
-    "hexdump_C": spelled("hexdump -C POINT", "a dump by hexdump", "cut -c 11-58 IN | xxd -r -p | gob why"),
+    "point.xxd": spelled("xxd POINT", "a dump by xxd", FROM_XXD),
+    "hexdump_C": spelled("hexdump -C POINT", "a dump by hexdump or od", FROM_DUMP),
+    "xxd_32": spelled("xxd -c 32 POINT", "a dump by xxd", FROM_XXD),
+    "od_t_x1": spelled("od -t x1 POINT", "a dump by hexdump or od", FROM_DUMP),
+    "hexdump_short": Due("hexdump -C of an int and a text of 100 letters a",
+                         "The file is a dump by hexdump or od of a gob stream, in which a line of * stands for lines "
+                         "that repeat.",
+                         "Get the file itself, or a dump of all its lines, as hexdump -v -C and od -v -t x1 make them."),
+    "base64_crlf": spelled("base64 -w 32 POINT, with CR before each LF", "base64", "base64 -di IN | gob why"),
+    "base64_of_gzip": Due("gzip -n <POINT | base64", "The file is base64, and what it holds begins as gzip does.",
+                          "base64 -di IN | gob why"),
+    "hex_of_zstd": Due("zstd <POINT | xxd -p", "The file is hexadecimal digits, and what it holds begins as zstd does.",
+                       "xxd -r -p IN | gob why"),
+    "json_string": Due("Go's encoding/json of POINT", IN_JSON, FROM_JSON),
     "go_bytes_printed": spelled("Go: fmt.Println(POINT)", "a list of decimal numbers", FROM_NUMBERS),
     "json_array": spelled("python3: json.dumps(list(POINT))", "a list of decimal numbers", FROM_NUMBERS),
     "latin1_as_utf8": spelled("iconv -f LATIN1 -t UTF-8 POINT",
@@ -205,6 +227,7 @@ BEFORE = {
     "prefix_100": prefix("100 bytes of text and POINT", 100),
     "snappy_block": prefix("a block of snappy that isn't packed", 2),
     "torn_in_definition_then_new": prefix("20 bytes of NOTES, and NOTES", 20),
+    "zeros_in_front": prefix("512 zeros and POINT", 512),
     "lost_front_1": lost("NOTES from byte 1 on", 37),
     "lost_front_10": lost("NOTES from byte 10 on", 28),
     "lost_front_50": lost("NOTES from byte 50 on", 27),
@@ -227,12 +250,15 @@ WITHIN = {
     "behind_space": Due("POINT and a space", TORN, "Get the whole file."),
     "torn_then_new": cut_off("700 bytes of NOTES, and POINT", 692, 700),
     "torn_then_new_same": cut_off("700 bytes of NOTES, and NOTES", 692, 700),
+    "two_with_a_line_between": between("POINT, a line and POINT", 48, 51),
+    "two_that_hold": Due("Go: two encoders, each of a list whose interface holds a struct",
+                         "Another encoder's stream begins with this item: it defines type 65 once more, in the same "
+                         "way.", "head -c 64 IN | gob why; tail -c +65 IN | gob why"),
     "middle_byte": damaged("NOTES, whose byte 824 is 07", 864),
     "first_byte": damaged("NOTES, whose byte 5 is 09", 38),
     "middle_hole": Due("dd: 512 bytes of NOTES are zeros",
                        "504 zeros stand here, and other bytes behind them: a piece of the file is lost, or was never "
-                       "written.",
-                       "Get the file once more from where it comes from, and compare its checksum."),
+                       "written.", SALVAGE),
 }
 
 FILES = PACKED | FORMS | SPELLED | BEFORE | WITHIN

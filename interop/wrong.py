@@ -49,8 +49,11 @@ TWO_NUMBERS = HEX("10ff8105010104 54696d65 01ff84000000".replace(" ", ""))
 BIG = HEX("151000082a6269672e496e74ff81050102ff8400000007ff82040002 0205".replace(" ", ""))
 
 CHANGED = "These bytes were changed, or something else stands in the file from here on."
+FIRST = "This is no gob stream, or these bytes were changed."
 WRITER = "Go's encoder doesn't write this. Either these bytes were changed, or another program wrote the file."
 FETCH = "Get the file once more from where it comes from, in binary, and compare its size or checksum."
+SALVAGE = ("Get the file once more from where it comes from, or read what isn't damaged: "
+           "gob values --salvage IN")
 
 COUNT = "how many bytes the next item has"
 TYPE = "a type: the id of a defined one, or below 0 the id that is defined here"
@@ -95,10 +98,10 @@ def definitions(count):
 REASONS = [
     Row("bad_head", POINT + HEX("07ff820180014200"), due(
         "1 BadHead at 36 seen 37", "No number begins with this byte.", f"item 1, Point.X: {VALUE_OF_POINT}", INT,
-        "80, at byte 36", CHANGED, FETCH)),
+        "80, at byte 36", CHANGED, SALVAGE)),
     Row("not_minimal", POINT + HEX("08ff8201ff2c014200"), due(
         "2 NotMinimal at 36 seen 38", "This number is spelled in more bytes than it needs.",
-        f"item 1, Point.X: {VALUE_OF_POINT}", INT, "ff 2c, at byte 36", WRITER, FETCH)),
+        f"item 1, Point.X: {VALUE_OF_POINT}", INT, "ff 2c, at byte 36", WRITER, SALVAGE)),
     Row("item_too_long", POINT + HEX("fc04000001ff82"), due(
         "3 ItemTooLong at 32 seen 37", "More bytes are announced here than the limit allows, or what is around them.",
         "item 1, which begins at byte 32", COUNT, "fc 04 00 00 01, at byte 32",
@@ -111,14 +114,14 @@ REASONS = [
         COUNT, "fb 20 00 00 00 00, at byte 0", NO_STREAM, "file IN"), ("--item", "18446744073709551615")),
     Row("short", POINT + HEX("03ff8201"), due(
         "5 Short at 36 seen 36", "The item ends here, and its value isn't complete.",
-        f"item 1, Point.X: {VALUE_OF_POINT}", INT, "the end of the item, at byte 36", CHANGED, FETCH)),
+        f"item 1, Point.X: {VALUE_OF_POINT}", INT, "the end of the item, at byte 36", CHANGED, SALVAGE)),
     Row("extra", POINT + HEX("08ff82012c01420007"), due(
         "6 Extra at 40 seen 40", "The value is complete here, and its item goes on.",
-        f"item 1, Point: {VALUE_OF_POINT}", WHOLE, "07, at byte 40", CHANGED, FETCH)),
+        f"item 1, Point: {VALUE_OF_POINT}", WHOLE, "07, at byte 40", CHANGED, SALVAGE)),
     Row("extra_at_the_end", HEX("04040006"), due(
         "6 Extra at 4 seen 4", "The value is complete here, and its item goes on.",
         "item 0, int: a value of type 2, int, which begins at byte 0", WHOLE, "no byte that was read, at byte 4",
-        CHANGED, FETCH)),
+        FIRST, FETCH)),
     Row("reserved_type", POINT + HEX("037d0100"), due(
         "7 ReservedType(63) at 33 seen 34", "A type is defined under a number that no type may have.",
         "item 1, which begins at byte 32", TYPE, "7d, at byte 33", *behind(32))),
@@ -126,10 +129,10 @@ REASONS = [
         "8 DefinedTwice(65) at 33 seen 35", "A type is defined under a number that has one already.",
         "item 1, which begins at byte 32", TYPE, "ff 81, at byte 33",
         "Another encoder's stream begins with this item: it defines type 65 once more, in the same way.",
-        "gob salvage IN | gob values")),
+        "gob values --salvage IN")),
     Row("too_many_types", definitions(10001), due(
         "9 TooManyTypes at 149874 seen 149877", "More than 10,000 types are defined.",
-        "item 10000, which begins at byte 149873", TYPE, "fe 4e a1, at byte 149874", CHANGED, FETCH)),
+        "item 10000, which begins at byte 149873", TYPE, "fe 4e a1, at byte 149874", CHANGED, SALVAGE)),
     Row("undefined_type", POINT + HEX("03ff8400"), due(
         "10 UndefinedType(66) at 33 seen 35", "A value has a type that isn't defined, or leads to one that isn't.",
         "item 1, which begins at byte 32", TYPE, "ff 84, at byte 33",
@@ -138,21 +141,21 @@ REASONS = [
     Row("bottomless", LOOP + HEX("04ff820001"), due(
         "11 Bottomless(65) at 17 seen 19",
         "A value has a type of arrays that hold themselves, of which there is no value.",
-        "item 1, which begins at byte 16", TYPE, "ff 82, at byte 17", WRITER, FETCH)),
+        "item 1, which begins at byte 16", TYPE, "ff 82, at byte 17", WRITER, SALVAGE)),
     Row("single_tag", HEX("03040106"), due(
         "12 SingleTag at 2 seen 3", "Before a value that is no struct a byte other than 0 stands.",
         "item 0, int: a value of type 2, int, which begins at byte 0", TAG, "01, at byte 2", NO_STREAM, "file IN")),
     Row("bool", HEX("03020002"), due(
         "13 Bool at 3 seen 4", "A bool is neither 0 nor 1.",
-        "item 0, bool: a value of type 1, bool, which begins at byte 0", "a bool: 0 or 1", "02, at byte 3", CHANGED,
+        "item 0, bool: a value of type 1, bool, which begins at byte 0", "a bool: 0 or 1", "02, at byte 3", FIRST,
         FETCH)),
     Row("array_count", ARRAY + HEX("06ff8200030202"), due(
         "14 ArrayCount at 19 seen 20", "An array has another length than its type says.",
         "item 1, type 65: a value of type 65, which begins at byte 15", "the array's length, which is 2",
-        "03, at byte 19", CHANGED, FETCH)),
+        "03, at byte 19", CHANGED, SALVAGE)),
     Row("field_number", POINT + HEX("07ff82012c024200"), due(
         "15 FieldNumber at 37 seen 38", "A struct has no such field.", f"item 1, Point: {VALUE_OF_POINT}", FIELDS,
-        "02, at byte 37", CHANGED, FETCH)),
+        "02, at byte 37", CHANGED, SALVAGE)),
     Row("too_deep", NODE + item(HEX("ff82"), b"\1" * 5, bytes(6)), due(
         "17 TooDeep at 37 seen 37", "Parts lie in one another deeper than the limit allows.",
         "item 1, Node.Next.Next.Next.Next.Next: a value of type 65, Node, which begins at byte 29",
@@ -188,7 +191,7 @@ REASONS = [
 ]
 
 
-def in_interface(line, what, path, expected, found, cause=CHANGED, step=FETCH):
+def in_interface(line, what, path, expected, found, cause=FIRST, step=FETCH):
     return due(line, what, f"item 0, interface{{}}{path}: a value of type 8, interface{{}}, which begins at byte 0",
                expected, found, cause, step)
 
@@ -259,10 +262,10 @@ CAUSES = [
         "head IN")),
     Row("base64", base64.encodebytes(GOB), at_front(
         "7 ReservedType(24) at 1 seen 2", RESERVED, "2f, at byte 1",
-        "The file is base64, and what it holds is a gob stream.", "base64 -d IN | gob why")),
+        "The file is base64, and what it holds is a gob stream.", "base64 -di IN | gob why")),
     Row("base64_for_urls", base64.urlsafe_b64encode(GOB), at_front(
         "7 ReservedType(48) at 1 seen 2", RESERVED, "5f, at byte 1",
-        "The file is base64, and what it holds is a gob stream.", "tr -- '-_' '+/' <IN | base64 -d | gob why")),
+        "The file is base64, and what it holds is a gob stream.", "tr -- '-_' '+/' <IN | base64 -di | gob why")),
     Row("length_of_4_high_first", HEX("00000028") + GOB, at_front(
         "5 Short at 1 seen 1", SHORT, "the end of the item, at byte 1",
         "Before the stream stands its length, in 4 bytes, the high one first.", "tail -c +5 IN | gob why")),
@@ -303,7 +306,7 @@ CAUSES = [
         "8 DefinedTwice(65) at 41 seen 43", "A type is defined under a number that has one already.",
         "item 2, which begins at byte 40", TYPE, "ff 81, at byte 41",
         "Another encoder's stream begins with this item: it defines type 65 once more, in the same way.",
-        "gob salvage IN | gob values")),
+        "gob values --salvage IN")),
     Row("another_type", GOB + ARRAY, due(
         "8 DefinedTwice(65) at 41 seen 43", "A type is defined under a number that has one already.",
         "item 2, which begins at byte 40", TYPE, "ff 81, at byte 41",
@@ -311,7 +314,7 @@ CAUSES = [
         "head -c 40 IN | gob why; tail -c +41 IN | gob why")),
     Row("no_stream_of_its_own", GOB + HEX("05ff81020000"), due(
         "8 DefinedTwice(65) at 41 seen 43", "A type is defined under a number that has one already.",
-        "item 2, which begins at byte 40", TYPE, "ff 81, at byte 41", CHANGED, FETCH)),
+        "item 2, which begins at byte 40", TYPE, "ff 81, at byte 41", CHANGED, SALVAGE)),
     Row("zeros_at_the_end", GOB + bytes(100), due(
         "5 Short at 41 seen 41", SHORT, "item 2, which begins at byte 40", TYPE, "the end of the item, at byte 41",
         "From here on there are only zeros, as far as was read: room that was never written.",
@@ -319,7 +322,22 @@ CAUSES = [
     Row("hole", GOB + bytes(16) + VALUE, due(
         "5 Short at 41 seen 41", SHORT, "item 2, which begins at byte 40", TYPE, "the end of the item, at byte 41",
         "16 zeros stand here, and other bytes behind them: a piece of the file is lost, or was never written.",
-        "Get the file once more from where it comes from, and compare its checksum.")),
+        SALVAGE)),
+    Row("zeros_in_front", bytes(16) + GOB, at_front(
+        "5 Short at 1 seen 1", SHORT, "the end of the item, at byte 1",
+        "16 bytes stand before the stream: whole items follow.", "tail -c +17 IN | gob why")),
+    Row("zeros_between", GOB + bytes(16) + GOB, due(
+        "5 Short at 41 seen 41", SHORT, "item 2, which begins at byte 40", TYPE, "the end of the item, at byte 41",
+        "16 bytes stand here that are no item, and another encoder's stream begins at byte 56.",
+        "head -c 40 IN | gob why; tail -c +57 IN | gob why")),
+    Row("line_feed_between", GOB + b"\n" + GOB, due(
+        "7 ReservedType(16) at 41 seen 42", RESERVED, "item 2, which begins at byte 40", TYPE, "1f, at byte 41",
+        "1 byte stands here that is no item, and another encoder's stream begins at byte 41.",
+        "head -c 40 IN | gob why; tail -c +42 IN | gob why")),
+    Row("quoted_base64", b'"' + base64.b64encode(GOB) + b'"\n', at_front(
+        "10 UndefinedType(36) at 1 seen 2", UNDEFINED, "48, at byte 1",
+        "The file is JSON, and a string in it is base64 of a gob stream.",
+        """jq -r '.. | strings | select(startswith("H/+BAwEB"))' IN | head -n 1 | base64 -d | gob why""")),
     Row("line_feed", GOB + b"\n", due(
         "22 Ended at 41 seen 41", "The file ends within an item.", "item 2, which begins at byte 40", TYPE,
         "the end of the input, at byte 41", "A line feed stands behind the last item.", "head -c 40 IN | gob why")),

@@ -421,6 +421,25 @@ def judged(stream, limits=STANDARD):
     return items, None, judge.types
 
 
+def without_definitions(value, inner):
+    """The value without the definitions in it, which go to the inner ones."""
+    if isinstance(value, Held):
+        inner.extend(value.definitions)
+        return value._replace(definitions=[], value=without_definitions(value.value, inner))
+    if isinstance(value, (list, tuple)):
+        return type(value)(without_definitions(part, inner) for part in value)
+    return value
+
+
+def hoisted(items):
+    """Returns the items, where each definition in a value is an item of its own before it."""
+    out = []
+    for item in items:
+        value = None if isinstance(item, Definition) else without_definitions(item.value, out)
+        out.append(item if isinstance(item, Definition) else item._replace(value=value))
+    return out
+
+
 def outcome(stream, limits=STANDARD):
     """Returns the lines that these bytes give, those of the items and that of the refusal."""
     items, refused, types = judged(stream, limits)

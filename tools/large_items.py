@@ -1,5 +1,5 @@
-"""Streams of one large item each, whose interfaces hold thousands of values, with what is due of them by `gob values` and
-`gob types`. Both are made here element by element, from docs/FORMAT.md.
+"""Streams of one large item each, whose interfaces hold thousands of values or hundreds of levels, with what is due of
+them by `gob values` and `gob types`. Both are made here element by element, from docs/FORMAT.md.
 """
 import base64
 import sys
@@ -79,5 +79,20 @@ def large(name, length):
     return Large(name, LIST + b"".join(map(item, segments)), STANDARD, f"[{values}]\n", TYPES)
 
 
+def nested(name, levels, length):
+    """Returns a stream of lists that hold one another, each but the innermost beside a text of this length."""
+    text = "a" * length
+    value, json = b"\0\0", "[]"
+    for _ in range(levels):
+        beside = named("string") + HEX("0c") + spelled(1 + len(named(text))) + b"\0" + named(text)
+        value = b"\0\2" + beside + named("[]interface {}") + HEX("ff82") + spelled(len(value)) + value
+        json = f'["{text}",{json}]'
+    return Large(name, LIST + item(HEX("ff82") + value), STANDARD, f"{json}\n", TYPES.partition("\n// type 66")[0])
+
+
 def large_items():
-    return [large("an item of 100 KB", 50), large("an item of 3 MB", 4000)]
+    return [
+        large("an item of 100 KB", 50),
+        large("an item of 3 MB", 4000),
+        nested("an item of 1 MB in as many levels as it may have", 499, 2000),
+    ]

@@ -3,22 +3,24 @@ _gob() {
     local current=${COMP_WORDS[COMP_CWORD]} previous=${COMP_WORDS[COMP_CWORD - 1]} words=
     COMPREPLY=()
     case $previous in
-    --depth | --item | --only | --as | --at) return ;;
+    --depth | --item | --only | --as | --at | --size | --values | --line) return ;;
     esac
     if [ "$COMP_CWORD" -eq 1 ]; then
-        words='values types why explain verify salvage show check rewrite take write version help --help -h --version -V'
+        words='values types why explain verify salvage split join show check rewrite take convert write version help --help -h --version -V'
     elif [ "${COMP_WORDS[1]}" = help ]; then
-        words='values types why explain verify salvage show check rewrite take write version help'
+        words='values types why explain verify salvage split join show check rewrite take convert write version help'
     elif [[ $current == -* ]]; then
         words='--depth --item -h --help'
         case ${COMP_WORDS[1]} in
-        values) words+=' --zeros --raw --tagged --typed --only --each --as --progress' ;;
-        types) words+=' --main --progress' ;;
+        values) words+=' --zeros --raw --tagged --typed --only --each --as --progress --salvage' ;;
+        types) words+=' --main --progress --salvage' ;;
         explain) words+=' --fault --at' ;;
         verify) words+=' --progress' ;;
-        show) words+=' --go --progress' ;;
+        split) words+=' --size --values' ;;
+        show) words+=' --go --progress --salvage' ;;
         check) words+=' --go --progress' ;;
         rewrite) words+=' --go --hoist' ;;
+        write) words+=' --line' ;;
         esac
     else
         mapfile -t COMPREPLY < <(compgen -f -- "$current")

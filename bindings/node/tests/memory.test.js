@@ -11,9 +11,12 @@ const MB = 1 << 20;
 setFlagsFromString("--expose-gc");
 const collect = runInNewContext("gc");
 
-function heapUsed() {
+// What is held: objects, and behind them buffers and the memory of WebAssembly. (Of what the process has beside these,
+// the collector decides by the machine's pace.)
+function held() {
     collect();
-    return process.memoryUsage().heapUsed;
+    const { heapUsed, external } = process.memoryUsage();
+    return heapUsed + external;
 }
 
 // a string of a thousand bytes, as an item
@@ -28,12 +31,12 @@ test("a stream of 30 MB takes no more than its largest item asks", async () => {
     for await (const { value } of gob.read(source())) {
         // (an assertion for each would take memory of its own)
         if (value.length === 1000) values++;
-        if (values === 5000) before = process.memoryUsage().rss;
-        if (values % 5000 === 0) most = Math.max(most, process.memoryUsage().rss);
+        if (values === 5000) before = held();
+        if (values % 5000 === 0) most = Math.max(most, held());
     }
     assert.equal(values, 30000);
     assert.deepEqual(await gob.check(source()), { items: 30000, types: 0, values: 30000, bytes: 30 * piece.length });
-    assert.ok(most - before < 15 * MB, `${(most - before) / MB} MB more`);
+    assert.ok(most - before < 2 * MB, `${(most - before) / MB} MB more`);
 });
 
 test("100 readings at once, and 1,000 one after another", async () => {
@@ -44,10 +47,10 @@ test("100 readings at once, and 1,000 one after another", async () => {
 });
 
 test("a value that is kept keeps no other", async () => {
-    const kept = [], before = heapUsed();
+    const kept = [], before = held();
     let place = 0;
     for await (const { value } of gob.read(Array(40).fill(piece))) if (place++ % 1000 === 0) kept.push(value);
     assert.equal(kept.length, 40);
-    const more = heapUsed() - before;
+    const more = held() - before;
     assert.ok(more < 5 * MB, `${more / MB} MB more`);
 });

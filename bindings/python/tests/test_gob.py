@@ -636,10 +636,11 @@ class Columns(unittest.TestCase):
 class Dask(unittest.TestCase):
     def counted(self, *words):
         package = pathlib.Path(__file__).parents[1]
+        path = f"{os.path.dirname(os.environ.get('GOB', ''))}:{os.environ['PATH']}"
         ran = subprocess.run([sys.executable, package / "examples/dask_values.py", *words], capture_output=True,
-                             text=True, check=False, env={**os.environ, "PYTHONPATH": str(package)})
+                             text=True, check=False, env={**os.environ, "PYTHONPATH": str(package), "PATH": path})
         # (dask has warnings of its own)
-        said = [line for line in ran.stderr.splitlines() if words[0] in line]
+        said = [line for line in ran.stderr.splitlines() if any(word in line for word in words)]
         return ran.returncode, sorted(ran.stdout.split()), said
 
     def test_a_folder_is_counted(self):
@@ -662,6 +663,19 @@ class Dask(unittest.TestCase):
             # what a worker sends keeps its nanoseconds
             at = client.submit(gob.load, EVENT + NEAR, opaque=gob.go.known).result()[0]["At"]
             self.assertEqual(at.nanosecond, 123456789)
+
+    @unittest.skipUnless("GOB" in os.environ, "GOB names no program")
+    def test_a_large_file_is_split(self):
+        with tempfile.TemporaryDirectory() as folder, tempfile.TemporaryDirectory() as parts:
+            large = pathlib.Path(folder) / "large.gob"
+            large.write_bytes(POINT + 99 * POINT[32:])
+            words = "--above", "100", "--parts", parts, folder
+            self.assertEqual(self.counted(*words), (0, ["100", "Point"], []))
+            large.write_bytes(POINT + 99 * POINT[32:] + POINT[32:36])
+            at = len(POINT) + 99 * len(POINT[32:])
+            said = [f"{large}: refused 22 Ended at {at + 4} seen {at + 4}"]
+            self.assertEqual(self.counted(*words), (1, ["100", "Point"], said))
+            self.assertEqual(list(pathlib.Path(parts).iterdir()), [])
 
 
 class Wheels(unittest.TestCase):

@@ -1,22 +1,40 @@
 -- What the words ask the program for. (docs/FORMAT.md, The program: this project's own.)
 use Rattle.std.specs.Prelude.{◌≡◌, ◌≢◌, ◌⊎◌, List, map}
 use Rattle.clap.specs.Words.{Text, subcommand_of}
+use Rattle.gob_words.specs.Splitting.{AsksToSplit, RefusesToSplit}
 use Rattle.gob_words.specs.Views.{AsksToView, RefusesToView, files_in}
 use Rattle.gob_words.specs.Words.{Asks, HasNoFault, Refuses, program}
+use Rattle.gob_words.specs.declared.view.View.{View}
+use Rattle.gob_words.specs.declared.view.ViewCommand.{ViewCommand}
 use Rattle.gob_words.specs.declared.view.ViewCommand.TheVariants as command
 use Rattle.gob_words.specs.declared.view.ViewFault.{ViewFault}
 use Rattle.gob_words.specs.declared.view.ViewFault.TheVariants as fault
 use Rattle.gob.specs.declared.asked.Asked.{Asked}
 use Rattle.gob.specs.declared.asked.Asked.TheVariants as asked
 
--- the words ask for this: of a view that reads some files, with their names
+-- the command takes some files
+abbrev pub TakesFiles : ViewCommand → Type 0
+TakesFiles given = (given ≡ command.Verify) ⊎ (given ≡ command.Join)
+
+-- the words ask for this: of a view that reads some files with their names, and of parts with their size and directory
 abbrev pub AsksFor : List Text → Asked → Type 0
 AsksFor words (asked.Order order) = Asks words order
-AsksFor words (asked.View view) = AsksToView words view × (view.command ≢ command.Verify)
-AsksFor words (asked.Files view files) = AsksToView words view × (view.command ≡ command.Verify)
+AsksFor words (asked.View view) = AsksToView words view × (view.command ≢ command.Split)
+    × (TakesFiles view.command → ⊥)
+AsksFor words (asked.Parts view splitting) = AsksToView words view × (view.command ≡ command.Split)
+    × (HasNoFault words → AsksToSplit (subcommand_of program words) splitting)
+AsksFor words (asked.Files view files) = AsksToView words view × TakesFiles view.command
     × (HasNoFault words → map (λ file. file.now) files.items ≡ files_in (subcommand_of program words))
 
--- the words ask for nothing: as a view, or for help, or no memory was had
+-- the words ask for parts of no size
+pub record RefusesParts (words : List Text) (given : ViewFault) : Type 0 where
+  pub view : View
+  pub asks : AsksToView words view
+  pub parts : view.command ≡ command.Split
+  pub refuses : HasNoFault words → RefusesToSplit (subcommand_of program words) given
+
+-- the words ask for nothing: as a view, or for help, or for parts of no size, or no memory was had
 abbrev pub RefusesAll : List Text → ViewFault → Type 0
-RefusesAll words (fault.Order given) = Refuses words given ⊎ RefusesToView words (fault.Order given)
-RefusesAll words given = RefusesToView words given
+RefusesAll words (fault.Order given) =
+    Refuses words given ⊎ (RefusesToView words (fault.Order given) ⊎ RefusesParts words (fault.Order given))
+RefusesAll words given = RefusesToView words given ⊎ RefusesParts words given

@@ -21,6 +21,7 @@ is_told command.Explain = true
 is_told command.ShowGo = true
 is_told command.CheckGo = true
 is_told command.RewriteGo = true
+is_told command.Split = true
 is_told _ = false
 
 -- the name of the file that a refusal is told with

@@ -1,17 +1,21 @@
 //! What the words ask for.
 
-ghost use Rattle.std.specs.Prelude.{MatchResult, map};
-ghost use Rattle.gob.specs.Asked.{AsksFor, RefusesAll};
+ghost use Rattle.std.specs.Prelude.{◌≡◌, MatchBool, MatchResult, map};
+ghost use Rattle.gob.specs.Asked.{AsksFor, RefusesAll, TakesFiles};
 
-use gob_words::{Order, OrderFault, View, ViewCommand, ViewFault, files_of, order_of, view_of};
+use gob_words::{
+    Order, OrderFault, Splitting, View, ViewCommand, ViewFault, files_of, order_of, splitting_of,
+    view_of,
+};
 use std::alloc::Global;
 
-/// What the words ask for: an exact command, a view of one stream, or one of some files.
+/// What the words ask for: an exact command, a view of one stream, one of some files, or files of a stream's parts.
 #[derive(Drop)]
 pub(crate) enum Asked<'a> {
     Order(Order<'a>),
     View(View<'a>),
     Files(View<'a>, Vec<&'a str>),
+    Parts(View<'a>, Splitting<'a>),
 }
 
 /// What the words ask for, the program's name first: the order that they are, and else what they ask to be shown.
@@ -32,9 +36,20 @@ fn shown_by<'a>(alloc: Global, words: &'a [&'a str]) -> Result<Asked<'a>, ViewFa
         (RefusesAll (map (λ word. word.now) words.entry.now)) }
 {
     let view = view_of(alloc, words)?;
-    if view.command != ViewCommand::Verify {
+    if view.command == ViewCommand::Split {
+        let splitting = splitting_of(alloc, words)?;
+        return Ok(Asked::Parts(view, splitting));
+    }
+    if !takes_files(view.command) {
         return Ok(Asked::View(view));
     }
     let files = files_of(alloc, words)?;
     Ok(Asked::Files(view, files))
+}
+
+// Whether the command takes some files.
+fn takes_files(command: ViewCommand) -> bool
+    ensures { MatchBool result (TakesFiles command) (¬ TakesFiles command) }
+{
+    matches!(command, ViewCommand::Verify | ViewCommand::Join)
 }

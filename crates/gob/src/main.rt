@@ -4,11 +4,15 @@
 //! standard output. `gob check [IN]` prints one line that says how much there is in a whole stream, and `gob rewrite
 //! [IN]` writes the stream without the fields that are zero.
 //! `gob take WANTED [IN]` receives each value of IN as one of the type of the first value in the file WANTED, and
-//! prints a line for each. `gob values [IN]` prints each value as plain JSON, `gob types [IN]` the types as Go source,
-//! `gob why [IN]` why IN is refused or how much is in it, `gob explain [IN]` the bytes row by row, and `gob version`
-//! the version. `gob verify FILE..` prints a line for each file that says whether it is a whole stream.
+//! prints a line for each; `gob convert WANTED [IN]` writes the stream of what is received. `gob values [IN]` prints
+//! each value as plain JSON, `gob types [IN]` the types as Go source, `gob why [IN]` why IN is refused or how much is
+//! in it, `gob explain [IN]` the bytes row by row, and `gob version` the version. `gob verify FILE..` prints a line for
+//! each file that says whether it is a whole stream.
 //! `gob write [LINES]` writes the stream that lines of `gob show` say.
-//! `gob salvage [IN]` writes what isn't damaged of IN, and says on standard error what is left out.
+//! `gob split IN DIR` writes IN as files of the directory DIR, each a whole stream, and `gob join FILE..` the values of
+//! the files as one stream.
+//! `gob salvage [IN]` writes what isn't damaged of IN, and says on standard error what is left out, as `--salvage` of
+//! `values`, `types` and `show` does of what they print.
 //! `gob help` says the rest. Where the program stops at a fault, it prints a line on standard error, but none where
 //! `why` has said it on standard output, and behind a refusal of another view's file what to type. Its exit status is 0
 //! for a whole stream and for help, 1 for an input that is no stream, that is damaged or has values that don't match,
@@ -26,16 +30,21 @@ ghost use Rattle.gob.specs.Stop.{stop_status, ending_status, HasAnswered, EndsRu
 ghost use Rattle.gob.specs.Stop.{IsQuietIfClosed, IsToldOnce, IsUnopened, seen_after, seen_of, unused};
 
 mod asked;
+mod join;
+mod part_files;
 mod pipe;
 mod progress;
+mod split;
 mod verdict;
 mod verify;
 mod way_on;
 mod write;
 
 use crate::asked::{Asked, asked_by};
+use crate::join::join;
 use crate::pipe::Pipe;
 use crate::progress::{size_of, watched};
+use crate::split::split;
 use crate::verdict::Verdict;
 use crate::verify::verify;
 use crate::way_on::with_way_on;
@@ -163,6 +172,10 @@ fn run(rt: &HostRuntime) -> Result<(), Stop> {
         Ok(Asked::Order(order)) => run_for(rt, &order),
         Ok(Asked::View(view)) if view.command == ViewCommand::Write => write(rt, &view),
         Ok(Asked::View(view)) => run_view_on(rt, &view),
+        Ok(Asked::Parts(view, splitting)) => split(rt, &view, &splitting),
+        Ok(Asked::Files(view, files)) if view.command == ViewCommand::Join => {
+            join(rt, &view, &files)
+        }
         Ok(Asked::Files(view, files)) => verify(rt, &view, &files),
         Err(ViewFault::Order(fault)) => answer(rt, fault),
         Err(ViewFault::Word(line)) => Err(Stop::View(line)),

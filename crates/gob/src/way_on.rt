@@ -48,10 +48,12 @@ fn is_told(command: ViewCommand) -> bool
         | ViewCommand::Explain
         | ViewCommand::ShowGo
         | ViewCommand::CheckGo
-        | ViewCommand::RewriteGo => true,
+        | ViewCommand::RewriteGo
+        | ViewCommand::Split => true,
         ViewCommand::Why
         | ViewCommand::Verify
         | ViewCommand::Salvage
+        | ViewCommand::Join
         | ViewCommand::Write
         | ViewCommand::Version => false,
     }

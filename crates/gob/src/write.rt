@@ -11,9 +11,6 @@ use std::alloc::Global;
 use std::fs::File;
 use std::io::{BufWriter, Read, Write};
 
-// The most bytes of a line, with its line feed.
-const MOST_LINE: u64 = 268435456;
-
 /// Opens the file of the lines, then writes their stream.
 pub(crate) fn write(rt: &HostRuntime, view: &View) -> Result<(), Stop> {
     let writer = buffered(rt.alloc(), rt.stdout())?;
@@ -34,7 +31,7 @@ fn write_out<R: Read, W: Write + Drop>(
     writer: BufWriter<Pipe<W>>,
 ) -> Result<(), Stop> {
     let mut output = Output::new(writer);
-    match run_write(alloc, input, &mut output, limits_of(view), MOST_LINE) {
+    match run_write(alloc, input, &mut output, limits_of(view), view.line) {
         Ok(()) => settled(Ok(()), output).ending,
         Err(LinesFault::Read) => settled(Err(ToolFault::Read), output).ending,
         Err(LinesFault::Write) => settled(Err(ToolFault::Write), output).ending,

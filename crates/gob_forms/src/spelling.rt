@@ -75,7 +75,7 @@ impl Spelling {
             Spelling::Base64 | Spelling::UrlBase64 => "base64",
             Spelling::Hex => "hexadecimal digits",
             Spelling::Xxd => "a dump by xxd",
-            Spelling::Hexdump => "a dump by hexdump",
+            Spelling::Hexdump => "a dump by hexdump or od",
             Spelling::Decimal => "a list of decimal numbers",
             Spelling::Latin1 => "text in UTF-8, made of bytes that were taken for Latin-1",
         }
@@ -86,11 +86,11 @@ impl Spelling {
         ensures { result.now ≡ spelling_step self }
     {
         match self {
-            Spelling::Base64 => "base64 -d IN | gob why",
-            Spelling::UrlBase64 => "tr -- '-_' '+/' <IN | base64 -d | gob why",
+            Spelling::Base64 => "base64 -di IN | gob why",
+            Spelling::UrlBase64 => "tr -- '-_' '+/' <IN | base64 -di | gob why",
             Spelling::Hex => "xxd -r -p IN | gob why",
-            Spelling::Xxd => "xxd -r IN | gob why",
-            Spelling::Hexdump => "cut -c 11-58 IN | xxd -r -p | gob why",
+            Spelling::Xxd => "sed 's/^[^:]*: //; s/  .*//' IN | xxd -r -p | gob why",
+            Spelling::Hexdump => "sed 's/^[^ ]* *//; s/|.*//' IN | xxd -r -p | gob why",
             Spelling::Decimal => "tr -c 0-9 ' ' <IN | xargs printf %02x | xxd -r -p | gob why",
             Spelling::Latin1 => "iconv -f UTF-8 -t ISO-8859-1 IN | gob why",
         }

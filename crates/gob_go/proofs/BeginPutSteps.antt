@@ -1,4 +1,5 @@
 -- A value in an item of its own begins.
+use Rattle.std.proofs.Common.{Bool}
 use Rattle.std.proofs.Common.{◌≡◌, ℕ, ◌+◌, ◌-◌, ◌≤◌, min, List, [], ◌∷◌, ◌++◌, length, Ok, arith, refl, sym}
 use Rattle.std.proofs.Common.{subst, length-append}
 use Rattle.gob_num.specs.Unsigned.{AreBytes}
@@ -53,35 +54,37 @@ level_begins {U = U} {l = l} {id = id} {limit = limit} {announced = announced} d
       rest = omega arith;
     }
 
-pub value_begins : {L : Bounds} {offset m at left : ℕ} {c a : List ℕ} {body : Extent} {id : TypeId} {levels : Levels}
+pub value_begins : {keep : Bool} {L : Bounds} {offset m at left : ℕ} {c a : List ℕ} {body : Extent} {id : TypeId}
+    {levels : Levels}
     (d : Defined) → L.depth ≤ 65536 → IsCount L offset m c body → IsNumberOf positive id a
     → at ≡ body.begin + length a → at ≤ body.end → MayPut (types d) id
     → LevelIsNew id L.depth body.end (body.end - at) levels.innermost → levels.outer.items ≡ [] → levels.left ≡ left
-    → left ≡ L.item - (body.end - body.begin) → ValueHasRead L (types d) offset (types d) levels (c ++ a)
-value_begins {L = L} {offset = offset} {m = m} {at = at} {left = left} {c = c} {a = a} {body = body} {levels = levels}
+    → left ≡ L.item - (body.end - body.begin) → ValueHasRead keep L (types d) offset (types d) levels (c ++ a)
+value_begins {keep = keep} {L = L} {offset = offset} {m = m} {at = at} {left = left} {c = c} {a = a} {body = body}
+    {levels = levels}
     d deep k (of_value {t = id} s) t l may new outer e f =
     let kb = k.begin in let ke = k.end in let ki = k.item in let ks = k.stream in
     let p : Stands base_table L (types d) offset (c ++ a) (types d) (new_level (types d) id L.depth body.end ∷ [])
     standing.in_value left =
     standing.at_value k.count k.item (omega arith) (omega arith) s (omega arith) may (omega arith) in
     let place : offset + length ((c ++ a) ++ []) ≡ at = omega (arith, length-append c a, length-append (c ++ a) []) in
-    let others : OthersAre (types d) levels [] nothing_said [] left = record {
-      fillings = subst (λ fs. AreFillings (types d) fs nothing_said.fillings) (sym new.fillings) no_fillings;
-      outer = subst (λ ls. AreOuter (types d) ls [] []) (sym outer) none_outer;
+    let others : OthersAre keep (types d) levels [] nothing_said [] left = record {
+      fillings = λ on. subst (λ fs. AreFillings (types d) fs nothing_said.fillings) (sym new.fillings) no_fillings;
+      outer = subst (λ ls. AreOuter keep (types d) ls [] []) (sym outer) none_outer;
       left_is = e;
     } in
-    subst (λ z. ValueHasRead L (types d) offset (types d) levels z) (append_nil (c ++ a))
+    subst (λ z. ValueHasRead keep L (types d) offset (types d) levels z) (append_nil (c ++ a))
     (in_value_at [] p refl (level_begins deep may (extends_itself d) new (omega arith)) others)
 
-pub part_few : {L : Bounds} {T : Table} {offset : ℕ} {d d' : Defined} {z piece : List ℕ} {levels : Levels}
-    {taken : PartTaken} → PartSteps L T offset d z piece levels d' (Ok taken) → taken.used ≤ length piece
+pub part_few : {keep : Bool} {L : Bounds} {T : Table} {offset : ℕ} {d d' : Defined} {z piece : List ℕ} {levels : Levels}
+    {taken : PartTaken} → PartSteps keep L T offset d z piece levels d' (Ok taken) → taken.used ≤ length piece
 part_few (part_goes_on e l h) = l
 part_few (item_ends e l h) = l
 
-pub is_in_value : {L : Bounds} {d : Defined} {at left : ℕ} {body : Extent} {id : TypeId} {levels : Levels}
+pub is_in_value : {keep : Bool} {L : Bounds} {d : Defined} {at left : ℕ} {body : Extent} {id : TypeId} {levels : Levels}
     → L.depth ≤ 65536 → IsAtBody L d at body (IsNumberOf positive id) → MayPut (types d) id
     → LevelIsNew id L.depth body.end (body.end - at) levels.innermost → levels.outer.items ≡ [] → levels.left ≡ left
-    → left ≡ L.item - (body.end - body.begin) → IsInValue L d at levels
+    → left ≡ L.item - (body.end - body.begin) → IsInValue keep L d at levels
 is_in_value {d = d} deep h may new outer e f =
     let kb = h.counted.begin in let ks = h.counted.stream in let t = h.taken_is in
     record {

@@ -1,4 +1,5 @@
 -- Taking the bytes of the count of an item.
+use Rattle.std.proofs.Common.{Bool}
 use Rattle.std.proofs.Common.{◌≡◌, ℕ, ◌+◌, ◌<◌, ◌≤◌, List, [], ◌++◌, length}
 use Rattle.std.proofs.Common.{take, drop, None, Ok, Err, arith, refl, sym, ap, subst, length-append}
 use Rattle.gob_num.specs.Unsigned.{IsUnsigned}
@@ -30,70 +31,73 @@ use Rattle.gob_go.proofs.NumberStages.{NumberFault, number_fault, fault_of_numbe
 use Rattle.gob_go.specs.Reading.{RefusesWith}
 use Rattle.gob_go.proofs.Refusals.{NoNumber, count_numbered, number_shown, nothing_there}
 
-pub count_at_number : {L : Bounds} {d : Defined} {at : ℕ} {number : NumberStage}
-    → IsWithinItem L d at (stage.Count (record { number = number })) → AtNumber number at
-count_at_number w = from w.in_item w.taken_is
+pub count_at_number : {keep : Bool} {L : Bounds} {d : Defined} {at : ℕ} {number : NumberStage}
+    → IsWithinItem keep L d at (stage.Count (record { number = number })) → AtNumber number at
+count_at_number {keep = keep} w = from w.in_item w.taken_is
   where
     from : {L : Bounds} {T U : Table} {offset at : ℕ} {number : NumberStage} {z : List ℕ}
-        → StageHasRead L T offset U (stage.Count (record { number = number })) z → at ≡ offset + length z
+        → StageHasRead keep L T offset U (stage.Count (record { number = number })) z → at ≡ offset + length z
         → AtNumber number at
     from (in_count q e n) t = at_number n t
 
-pub count_bounded : {L : Bounds} {d : Defined} {at : ℕ} {number : NumberStage}
-    → IsWithinItem L d at (stage.Count (record { number = number })) → number.rest.end ≡ no_end
-count_bounded w = end_of w.in_item
+pub count_bounded : {keep : Bool} {L : Bounds} {d : Defined} {at : ℕ} {number : NumberStage}
+    → IsWithinItem keep L d at (stage.Count (record { number = number })) → number.rest.end ≡ no_end
+count_bounded {keep = keep} w = end_of w.in_item
   where
     end_of : {L : Bounds} {T U : Table} {offset : ℕ} {number : NumberStage} {z : List ℕ}
-        → StageHasRead L T offset U (stage.Count (record { number = number })) z → number.rest.end ≡ no_end
+        → StageHasRead keep L T offset U (stage.Count (record { number = number })) z → number.rest.end ≡ no_end
     end_of (in_count q e n) = n.ends
 
-pub count_begins : {L : Bounds} {T U : Table} {offset : ℕ} {number : NumberStage} {z : List ℕ}
-    → StageHasRead L T offset U (stage.Count (record { number = number })) z
+pub count_begins : {keep : Bool} {L : Bounds} {T U : Table} {offset : ℕ} {number : NumberStage} {z : List ℕ}
+    → StageHasRead keep L T offset U (stage.Count (record { number = number })) z
     → (number.rest.begin ≡ offset) × (number.rest.begin + length number.number ≡ offset + length z)
 count_begins (in_count q e n) = let b = n.begins in let l = ap length n.bytes in (n.begins, omega arith)
 
 -- an item begins at the latest where the stream may end
-pub count_within : {L : Bounds} {d : Defined} {T U : Table} {at offset : ℕ} {number : NumberStage} {z : List ℕ}
-    → IsWithinItem L d at (stage.Count (record { number = number }))
-    → StageHasRead L T offset U (stage.Count (record { number = number })) z → offset ≤ L.stream
-count_within w h = let a = begin_of w.in_item in let b = begin_of h in let l = w.within in omega arith
+pub count_within : {keep : Bool} {L : Bounds} {d : Defined} {T U : Table} {at offset : ℕ} {number : NumberStage}
+    {z : List ℕ}
+    → IsWithinItem keep L d at (stage.Count (record { number = number }))
+    → StageHasRead keep L T offset U (stage.Count (record { number = number })) z → offset ≤ L.stream
+count_within {keep = keep} w h = let a = begin_of w.in_item in let b = begin_of h in let l = w.within in omega arith
   where
     begin_of : {L : Bounds} {T U : Table} {offset : ℕ} {number : NumberStage} {z : List ℕ}
-        → StageHasRead L T offset U (stage.Count (record { number = number })) z → number.rest.begin ≡ offset
+        → StageHasRead keep L T offset U (stage.Count (record { number = number })) z → number.rest.begin ≡ offset
     begin_of (in_count q e n) = n.begins
 
-pub count_more : {L : Bounds} {d : Defined} {T : Table} {offset : ℕ} {old new : NumberStage} {z piece : List ℕ}
-    → StageHasRead L T offset (types d) (stage.Count (record { number = old })) z
+pub count_more : {keep : Bool} {L : Bounds} {d : Defined} {T : Table} {offset : ℕ} {old new : NumberStage}
+    {z piece : List ℕ}
+    → StageHasRead keep L T offset (types d) (stage.Count (record { number = old })) z
     → NumberAnswers old new piece (Ok taken.More) → new.rest ≡ old.rest
-    → StepsOn L T offset d z piece d
+    → StepsOn keep L T offset d z piece d
     (Ok (record { used = length piece; stage = stage.Count (record { number = new }); item = None }))
-count_more {L = L} {d = d} {T = T} {offset = offset} {new = new} {piece = piece} (in_count q e n) h r =
+count_more {keep = keep} {L = L} {d = d} {T = T} {offset = offset} {new = new} {piece = piece} (in_count q e n) h r =
     goes_on refl (omega arith)
-    (subst (λ p. StageHasRead L T offset (types d) (stage.Count (record { number = new })) (q ++ p))
+    (subst (λ p. StageHasRead keep L T offset (types d) (stage.Count (record { number = new })) (q ++ p))
     (sym (take_whole piece (length piece) (omega arith))) (in_count (q ++ piece) e (number_goes_on piece n h r)))
 
-pub count_stops : {L : Bounds} {d : Defined} {T : Table} {offset : ℕ} {old : NumberStage} {z piece : List ℕ}
+pub count_stops : {keep : Bool} {L : Bounds} {d : Defined} {T : Table} {offset : ℕ} {old : NumberStage}
+    {z piece : List ℕ}
     (new : NumberStage) (f : Fault)
-    → offset + 9 < no_end → StageHasRead L T offset (types d) (stage.Count (record { number = old })) z
-    → NumberAnswers old new piece (Err f) → StepsOn L T offset d z piece d (Err f)
-count_stops {L = L} {d = d} {T = T} {offset = offset} {piece = piece} new f l (in_count q e n) h =
+    → offset + 9 < no_end → StageHasRead keep L T offset (types d) (stage.Count (record { number = old })) z
+    → NumberAnswers old new piece (Err f) → StepsOn keep L T offset d z piece d (Err f)
+count_stops {keep = keep} {L = L} {d = d} {T = T} {offset = offset} {piece = piece} new f l (in_count q e n) h =
     refused_by (fault_of_number piece new f n h)
   where
-    refused_by : {f : Fault} → NumberFault offset no_end (q ++ piece) f → StepsOn L T offset d q piece d (Err f)
+    refused_by : {f : Fault} → NumberFault offset no_end (q ++ piece) f → StepsOn keep L T offset d q piece d (Err f)
     refused_by (number_fault r) =
         refuses_it (record { refuses = refused_count (count_numbered _ l r); table = e; shown = number_shown r })
 
 -- behind a whole count the body begins
-pub count_whole : {L : Bounds} {d : Defined} {T : Table} {offset m used end : ℕ} {old first : NumberStage}
+pub count_whole : {keep : Bool} {L : Bounds} {d : Defined} {T : Table} {offset m used end : ℕ} {old first : NumberStage}
     {body : Extent}
     {z piece : List ℕ}
-    → StageHasRead L T offset (types d) (stage.Count (record { number = old })) z → NumberIsWhole old piece m used
+    → StageHasRead keep L T offset (types d) (stage.Count (record { number = old })) z → NumberIsWhole old piece m used
     → end ≡ offset + length z + used
     → (0 < m) × (m ≤ L.item) × (end + m ≤ L.stream) × (body.begin ≡ end) × (body.end ≡ end + m)
     → first ≡ record { rest = body; number = [] }
-    → StepsOn L T offset d z piece d
+    → StepsOn keep L T offset d z piece d
     (Ok (record { used = used; stage = stage.TypeNumber (record { number = first }); item = None }))
-count_whole {L = L} {d = d} {T = T} {offset = offset} {m = m} {used = used} {first = first} {body = body}
+count_whole {keep = keep} {L = L} {d = d} {T = T} {offset = offset} {m = m} {used = used} {first = first} {body = body}
     {piece = piece} (in_count q e n) h f j b =
     let w = number_is_whole n h in
     let all = cut_length q piece used w.within in
@@ -105,7 +109,7 @@ count_whole {L = L} {d = d} {T = T} {offset = offset} {m = m} {used = used} {fir
       end = omega arith;
     } in
     goes_on refl w.within
-    (subst (λ z. StageHasRead L T offset (types d) (stage.TypeNumber (record { number = first })) z)
+    (subst (λ z. StageHasRead keep L T offset (types d) (stage.TypeNumber (record { number = first })) z)
     (append_nil (q ++ take used piece))
     (in_type_number [] e count (number_begins b (omega arith))))
 
@@ -117,12 +121,13 @@ judged_so K i s (above_stream l k) = above_stream (omega arith) (omega arith)
 judged_so K i s (no_body z l) = no_body z (omega arith)
 
 -- a count of more than there may be, or of none
-pub count_judged : {L : Bounds} {d : Defined} {T : Table} {offset m used begin end : ℕ} {old : NumberStage}
+pub count_judged : {keep : Bool} {L : Bounds} {d : Defined} {T : Table} {offset m used begin end : ℕ}
+    {old : NumberStage}
     {R : Refusal}
     {z piece : List ℕ}
-    → StageHasRead L T offset (types d) (stage.Count (record { number = old })) z → NumberIsWhole old piece m used
+    → StageHasRead keep L T offset (types d) (stage.Count (record { number = old })) z → NumberIsWhole old piece m used
     → begin ≡ offset → end ≡ offset + length z + used → CountJudged L begin end m R
-    → StepsOn L T offset d z piece d (Err (fault.Refused R))
+    → StepsOn keep L T offset d z piece d (Err (fault.Refused R))
 count_judged {L = L} {d = d} {T = T} {offset = offset} {m = m} {used = used} {end = end} {R = R} {piece = piece}
     (in_count q e n) h b f j =
     let w = number_is_whole n h in

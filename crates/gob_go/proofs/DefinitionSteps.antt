@@ -1,4 +1,5 @@
 -- What becomes of an item, or of what fills a nil, where a piece of a description is taken.
+use Rattle.std.proofs.Common.{Bool}
 use Rattle.std.proofs.Common.{◌≡◌, ◌≢◌, ℕ, negsuc, ◌+◌, ◌-◌, ◌<◌, ◌≤◌, List, ◌∷◌, ◌++◌, length}
 use Rattle.std.proofs.Common.{take, Result, Ok, Err, arith, refl, sym, ap, ◌∙◌, subst, length-append}
 use Rattle.std.proofs.lemmas.List.{length-take}
@@ -201,9 +202,9 @@ held_refused w p e b n shown = record { refuses = refused_value e p (as_in_an_it
 
 -- ---- a definition in an item of its own
 
-definition_stops : {L : Bounds} {d d' : Defined} {T : Table} {offset m : ℕ} {body : Extent} {f : Fault}
+definition_stops : {keep : Bool} {L : Bounds} {d d' : Defined} {T : Table} {offset m : ℕ} {body : Extent} {f : Fault}
     {c z piece w : List ℕ} → IsCount L offset m c body → types d ≡ T → z ++ piece ≡ c ++ w
-    → DescriptionFault L d d' body.begin body.end w f → StepsOn L T offset d z piece d' (Err f)
+    → DescriptionFault L d d' body.begin body.end w f → StepsOn keep L T offset d z piece d' (Err f)
 definition_stops {L = L} {d = d} {T = T} {offset = offset} {z = z} {piece = piece} {w = w} k same e
     (refused_there {R = R} s b n shown) =
     refuses_it (subst (λ (d : Defined). RefusesWith L T offset (z ++ piece) R (types d)) (sym s)
@@ -215,23 +216,25 @@ abbrev pub EndsAt : (taken : ℕ) → Extent → Described → Type 0
 EndsAt taken rest (described.More description) = Unit {0}
 EndsAt taken rest (described.Whole definition used) = taken + used ≡ rest.end
 
-pub definition_steps : {L : Bounds} {d d' : Defined} {T : Table} {offset m : ℕ} {id : TypeId} {body rest : Extent}
+pub definition_steps : {keep : Bool} {L : Bounds} {d d' : Defined} {T : Table} {offset m : ℕ} {id : TypeId}
+    {body rest : Extent}
     {said : Described} {c a y : List ℕ} (taken : ℕ) (piece : List ℕ) → IsCount L offset m c body → types d ≡ T
     → HasWireType (types d) → Describing L (types d) id rest body.begin body.end a
     → EndsAt taken rest said → ReadsDescription d id L.depth rest y piece d' (Ok said)
-    → StepsOn L T offset d (c ++ (a ++ y)) piece d' (Ok (behind_described taken (length piece) said))
-definition_steps {L = L} {d = d} {d' = d'} {T = T} {offset = offset} {id = id} {rest = rest} {c = c} {a = a} {y = y}
+    → StepsOn keep L T offset d (c ++ (a ++ y)) piece d' (Ok (behind_described taken (length piece) said))
+definition_steps {keep = keep} {L = L} {d = d} {d' = d'} {T = T} {offset = offset} {id = id} {rest = rest} {c = c}
+    {a = a} {y = y}
     taken piece k
     same w h at (description_goes_on {reader = reader} s b) =
     let st = stage.Definition (record { description = record { id = id; rest = rest; reader = reader } }) in
-    let now : StageHasRead L T offset (types d) st (c ++ (a ++ (y ++ piece))) =
+    let now : StageHasRead keep L T offset (types d) st (c ++ (a ++ (y ++ piece))) =
     in_definition a (y ++ piece) same k (describes_on h b) in
     let there : c ++ (a ++ (y ++ piece)) ≡ (c ++ (a ++ y)) ++ take (length piece) piece =
     sym (ap (λ l. (c ++ (a ++ y)) ++ l) (take_whole piece (length piece) (omega arith)) ∙ three c a y piece) in
     goes_on (ap (λ (d : Defined). d.most) s) (omega arith)
-    (subst (λ (d : Defined). StageHasRead L T offset (types d) st ((c ++ (a ++ y)) ++ take (length piece) piece))
+    (subst (λ (d : Defined). StageHasRead keep L T offset (types d) st ((c ++ (a ++ y)) ++ take (length piece) piece))
     (sym s)
-    (subst (λ z. StageHasRead L T offset (types d) st z) there now))
+    (subst (λ z. StageHasRead keep L T offset (types d) st z) there now))
 definition_steps {L = L} {d = d} {d' = d'} {T = T} {offset = offset} {m = m} {id = id} {rest = rest} {c = c} {a = a}
     {y = y} taken piece k
     same w h at (description_ends {kept = kept} {used = used} there given) =
@@ -250,12 +253,13 @@ definition_steps {L = L} {d = d} {d' = d'} {T = T} {offset = offset} {m = m} {id
     (omega (arith, length-append c (a ++ (y ++ take used piece)))) defined in
     gives whole.most there.within (subst (λ z. IsFilledItem base_table L T offset (defining id (view kept)) z
     (types d'))
-    (sym split) item') means_definition (omega arith)
+    (sym split) item') (λ on. means_definition) (omega arith)
 
-pub definition_fails : {L : Bounds} {d d' : Defined} {T : Table} {offset m : ℕ} {id : TypeId} {body rest : Extent}
+pub definition_fails : {keep : Bool} {L : Bounds} {d d' : Defined} {T : Table} {offset m : ℕ} {id : TypeId}
+    {body rest : Extent}
     {f : Fault} {c a y : List ℕ} (piece : List ℕ) → IsCount L offset m c body → types d ≡ T → HasWireType (types d)
     → Describing L (types d) id rest body.begin body.end a → length y ≤ size rest
-    → ReadsDescription d id L.depth rest y piece d' (Err f) → StepsOn L T offset d (c ++ (a ++ y)) piece d' (Err f)
+    → ReadsDescription d id L.depth rest y piece d' (Err f) → StepsOn keep L T offset d (c ++ (a ++ y)) piece d' (Err f)
 definition_fails {c = c} {a = a} {y = y} piece k same w h l r =
     definition_stops k same (three c a y piece) (description_fault piece w h l r)
 
@@ -279,12 +283,13 @@ pub record ReadyToTake (L : Bounds) (d : Defined) (description : DescriptionStag
   pub has_read : IsBodyUnderWay (types d) wire_type description.rest tree_building description.reader
   pub admits : Admits d description.id
 
-pub definition_ready : {L : Bounds} {d : Defined} {at : ℕ} {description : DescriptionStage}
-    → IsWithinItem L d at (stage.Definition (record { description = description })) → ReadyToTake L d description
-definition_ready w = ready w.known w.in_item
+pub definition_ready : {keep : Bool} {L : Bounds} {d : Defined} {at : ℕ} {description : DescriptionStage}
+    → IsWithinItem keep L d at (stage.Definition (record { description = description })) → ReadyToTake L d description
+definition_ready {keep = keep} w = ready w.known w.in_item
   where
     ready : {L : Bounds} {d : Defined} {T : Table} {offset : ℕ} {description : DescriptionStage} {z : List ℕ}
-        → AreTypes L d → StageHasRead L T offset (types d) (stage.Definition (record { description = description })) z
+        → AreTypes L d → StageHasRead keep L T offset (types d)
+        (stage.Definition (record { description = description })) z
         → ReadyToTake L d description
     ready known (in_definition a y same k h) =
         record { has_read = description_under_way h; admits = admitted known h.may }
@@ -301,20 +306,21 @@ room_left : {L : Bounds} {U : Table} {description : DescriptionStage} {begin end
     → DescriptionIs L U description begin end a y → length y < size description.rest
 room_left h = h.read.viable.room
 
-pub definition_failed : {L : Bounds} {d d' : Defined} {T : Table} {offset : ℕ} {z : List ℕ} {f : Fault}
+pub definition_failed : {keep : Bool} {L : Bounds} {d d' : Defined} {T : Table} {offset : ℕ} {z : List ℕ} {f : Fault}
     (description : DescriptionStage) (piece : List ℕ) → HasWireType (types d)
-    → StageHasRead L T offset (types d) (stage.Definition (record { description = description })) z
-    → ReadsSomewhere d description piece d' (Err f) → StepsOn L T offset d z piece d' (Err f)
+    → StageHasRead keep L T offset (types d) (stage.Definition (record { description = description })) z
+    → ReadsSomewhere d description piece d' (Err f) → StepsOn keep L T offset d z piece d' (Err f)
 definition_failed {L = L} description piece w (in_definition a y same k h) g =
     let r = room_left h in
     definition_fails piece k same w (describing h) (omega arith) (g L.depth y h.read.after)
 
-pub definition_went : {L : Bounds} {d d' : Defined} {T : Table} {offset : ℕ} {z : List ℕ} {said : Described}
+pub definition_went : {keep : Bool} {L : Bounds} {d d' : Defined} {T : Table} {offset : ℕ} {z : List ℕ}
+    {said : Described}
     (taken : ℕ) (description : DescriptionStage) (piece : List ℕ) → HasWireType (types d)
     → EndsAt taken description.rest said
-    → StageHasRead L T offset (types d) (stage.Definition (record { description = description })) z
+    → StageHasRead keep L T offset (types d) (stage.Definition (record { description = description })) z
     → ReadsSomewhere d description piece d' (Ok said)
-    → StepsOn L T offset d z piece d' (Ok (behind_described taken (length piece) said))
+    → StepsOn keep L T offset d z piece d' (Ok (behind_described taken (length piece) said))
 definition_went {L = L} taken description piece w at (in_definition a y same k h) g =
     definition_steps taken piece k same w (describing h) at (g L.depth y h.read.after)
 
@@ -332,18 +338,20 @@ ends_at {a = a} {y = y} taken piece h at (description_ends {used = used} there g
       length-take used piece,
     )
 
-pub definition_ends : {L : Bounds} {d d' : Defined} {T : Table} {offset taken : ℕ} {z : List ℕ} {said : Described}
+pub definition_ends : {keep : Bool} {L : Bounds} {d d' : Defined} {T : Table} {offset taken : ℕ} {z : List ℕ}
+    {said : Described}
     (description : DescriptionStage) (piece : List ℕ) → taken ≡ offset + length z
-    → StageHasRead L T offset (types d) (stage.Definition (record { description = description })) z
+    → StageHasRead keep L T offset (types d) (stage.Definition (record { description = description })) z
     → ReadsSomewhere d description piece d' (Ok said) → EndsAt taken description.rest said
 definition_ends {L = L} {taken = taken} description piece at (in_definition {c = c} a y same k h) g =
     let b = k.begin in
     ends_at taken piece (describing h) (omega (arith, length-append c (a ++ y))) (g L.depth y h.read.after)
 
 -- the item ends where the stream may end, at the latest
-pub definition_fits : {L : Bounds} {d d' : Defined} {T : Table} {offset taken : ℕ} {z : List ℕ} {said : Described}
+pub definition_fits : {keep : Bool} {L : Bounds} {d d' : Defined} {T : Table} {offset taken : ℕ} {z : List ℕ}
+    {said : Described}
     (description : DescriptionStage) (piece : List ℕ) → HasWireType (types d) → taken ≡ offset + length z
-    → StageHasRead L T offset (types d) (stage.Definition (record { description = description })) z
+    → StageHasRead keep L T offset (types d) (stage.Definition (record { description = description })) z
     → ReadsSomewhere d description piece d' (Ok said) → taken + used_of_described said ≤ L.stream
 definition_fits {L = L} {d = d} {d' = d'} {offset = offset} {taken = taken} {said = said} description piece w at
     (in_definition {m = m} {c = c} {body = body} a y same k h) g = fits (describing h) (room_left h)
@@ -367,9 +375,10 @@ definition_fits {L = L} {d = d} {d' = d'} {offset = offset} {taken = taken} {sai
           length-take used piece,
         )
 
-pub definition_some : {L : Bounds} {d d' : Defined} {T : Table} {offset : ℕ} {z : List ℕ} {said : Described}
+pub definition_some : {keep : Bool} {L : Bounds} {d d' : Defined} {T : Table} {offset : ℕ} {z : List ℕ}
+    {said : Described}
     (taken : ℕ) (description : DescriptionStage) (piece : List ℕ)
-    → StageHasRead L T offset (types d) (stage.Definition (record { description = description })) z
+    → StageHasRead keep L T offset (types d) (stage.Definition (record { description = description })) z
     → ReadsSomewhere d description piece d' (Ok said) → 0 < length piece
     → 0 < (behind_described taken (length piece) said).used
 definition_some {L = L} {d = d} {d' = d'} {said = said} taken description piece (in_definition a y same k h) g =

@@ -1,5 +1,5 @@
 -- A value that is whole with its segment fills the nil of the one around it, and the last one is that of the item.
-use Rattle.std.proofs.Common.{◌≡◌, ℕ, ◌+◌, ◌≤◌, List, [], ◌∷◌, ◌++◌, length, Ok, Err, Bool, true, false, arith}
+use Rattle.std.proofs.Common.{◌≡◌, ℕ, ◌+◌, ◌≤◌, List, [], ◌∷◌, ◌++◌, length, Ok, Err, Bool, true, false, IsTrue, arith}
 use Rattle.std.proofs.Common.{refl, sym, ap, ◌∙◌, subst}
 use Rattle.gob_num.specs.Unsigned.{AreBytes}
 use Rattle.gob_types.specs.Base.{base_table}
@@ -53,18 +53,21 @@ one_last (x ∷ xs) (y ∷ ys) a b e =
     let r = one_last xs ys a b t in let same : xs ≡ ys = r.0 in (cc, r.1)
 
 -- the innermost of the outer levels
-data LastOuter (U : Table) (rest : List declared.Level) (l : declared.Level) : List Level → List Open → Type 0 where
-  last : {lv : Level} {levels : List Level} {o : Open} {os : List Open} {d : ℕ} → AreOuter U rest levels os
-      → LevelAtNil U l lv [] d → FillingsAre U l o → HeldIs l.held o → LastOuter U rest l (lv ∷ levels) (o ∷ os)
+data LastOuter (keep : Bool) (U : Table) (rest : List declared.Level) (l : declared.Level) : List Level → List Open
+    → Type 0 where
+  last : {lv : Level} {levels : List Level} {o : Open} {os : List Open} {d : ℕ} → AreOuter keep U rest levels os
+      → LevelAtNil U l lv [] d → FillingsAre keep U l o → HeldIs l.held o
+      → LastOuter keep U rest l (lv ∷ levels) (o ∷ os)
 
-last_outer : {U : Table} {items : List declared.Level} {levels : List Level} {os : List Open}
-    (rest : List declared.Level) (l : declared.Level) → AreOuter U items levels os → items ≡ rest ++ l ∷ []
-    → LastOuter U rest l levels os
+last_outer : {keep : Bool} {U : Table} {items : List declared.Level} {levels : List Level} {os : List Open}
+    (rest : List declared.Level) (l : declared.Level) → AreOuter keep U items levels os → items ≡ rest ++ l ∷ []
+    → LastOuter keep U rest l levels os
 last_outer rest l none_outer e = absurd (no_last rest l (sym e))
-last_outer {U = U} rest l (outer_then {l = m} {outer = outer} {lv = lv} {levels = levels} {o = o} {os = os} q n f h) e =
+last_outer {keep = keep} {U = U} rest l (outer_then {l = m} {outer = outer} {lv = lv} {levels = levels} {o = o}
+    {os = os} q n f h) e =
     let r = one_last outer rest m l e in
-    subst (λ l. LastOuter U rest l (lv ∷ levels) (o ∷ os)) r.1
-    (subst (λ r. LastOuter U r m (lv ∷ levels) (o ∷ os)) r.0 (last q n f h))
+    subst (λ l. LastOuter keep U rest l (lv ∷ levels) (o ∷ os)) r.1
+    (subst (λ r. LastOuter keep U r m (lv ∷ levels) (o ∷ os)) r.0 (last q n f h))
 
 -- ---- one filling more
 
@@ -75,34 +78,37 @@ with_filling : {U : Table} {all : List Filling} {fs : spelled.Fillings} {w : spe
 with_filling kept no_fillings i = filling_then i no_fillings
 with_filling kept (filling_then j f) i = filling_then j (with_filling kept f i)
 
-held_filling : {U : Table} {l l' value : declared.Level} {o : Open} {v : Tree} (lv inner : Level) (held : Open)
-    (b : List ℕ) → Holds value l l' → l.skeleton.items ≡ lv.done ++ [] → FillingsAre U l o → HeldIs l.held o
+held_filling : {keep : Bool} {U : Table} {l l' value : declared.Level} {o : Open} {v : Tree} (lv inner : Level)
+    (held : Open)
+    (b : List ℕ) → Holds keep value l l' → l.skeleton.items ≡ lv.done ++ [] → FillingsAre keep U l o → HeldIs l.held o
     → SpellsTop U inner.type v (inner.done ++ b) → value.id ≡ inner.type
-    → value.skeleton.items ≡ inner.done ++ b → FillingsAre U value held
-    → AreFillings U l'.fillings.items (and_filling o.fillings (length lv.done) o.name o.definitions inner.type
+    → value.skeleton.items ≡ inner.done ++ b → FillingsAre keep U value held
+    → IsTrue keep → AreFillings U l'.fillings.items
+    (and_filling o.fillings (length lv.done) o.name o.definitions inner.type
     (filled v held.fillings))
-held_filling {U = U} {l = l} {l' = l'} {value = value} {o = o} {v = v} lv inner held b h s f n sp i k g =
-    let kept = h.filling in
-    let id : (out-Filling kept).id ≡ inner.type = h.id_held ∙ i in
-    let place : (out-Filling kept).place ≡ length lv.done = h.place ∙ ap length (s ∙ append_nil lv.done) in
+held_filling {U = U} {l = l} {l' = l'} {value = value} {o = o} {v = v} lv inner held b h s f n sp i k g on =
+    let q = h.kept on in let kept = q.filling in
+    let id : (out-Filling kept).id ≡ inner.type = q.id_held ∙ i in
+    let place : (out-Filling kept).place ≡ length lv.done = q.place ∙ ap length (s ∙ append_nil lv.done) in
     let spells : SpellsTop U (out-Filling kept).id v (out-Filled (out-Filling kept).value).skeleton.items =
-    rw (id, h.skeleton_held, k) sp in
+    rw (id, q.skeleton_held, k) sp in
     let inside : AreFillings U (out-Filled (out-Filling kept).value).fillings.items held.fillings =
-    rw h.fillings_held g in
-    let all = with_filling kept f (is_filled spells inside) in
-    rw h.fillings (rw id at (rw place at (rw (h.name, n.name) at (rw (h.definitions, n.definitions) at all))))
+    rw q.fillings_held (g on) in
+    let all = with_filling kept (f on) (is_filled spells inside) in
+    rw q.fillings (rw id at (rw place at (rw (q.name, n.name) at (rw (q.definitions, n.definitions) at all))))
 
 -- ---- the nil of the level around
 
 -- what is whole fills the nil at hand of the level around
-fills_last : {L : Bounds} {T : Table} {offset : ℕ} {U : Table} (all levels : Levels) {outer after : declared.Level}
+fills_last : {keep : Bool} {L : Bounds} {T : Table} {offset : ℕ} {U : Table} (all levels : Levels)
+    {outer after : declared.Level}
     {z : List ℕ} {lv : Level} {around : List Level} {left : ℕ} {v : Tree} {o : Open} {os : List Open} (b : List ℕ)
-    → LastOuter U levels.outer.items outer around os → Holds all.innermost outer after → levels.left ≡ left
+    → LastOuter keep U levels.outer.items outer around os → Holds keep all.innermost outer after → levels.left ≡ left
     → (p : Stands base_table L T offset z U (lv ∷ around) in_value left) → opens p ≡ o ∷ os
     → SpellsTop lv.table lv.type v (lv.done ++ b) → depth v ≤ lv.limit → offset + length (z ++ b) ≡ lv.end
     → Extends lv.table U → all.innermost.id ≡ lv.type → all.innermost.skeleton.items ≡ lv.done ++ b
-    → FillingsAre U all.innermost o
-    → FillsNil L T offset U after levels.outer.items levels.left (z ++ b)
+    → FillingsAre keep U all.innermost o
+    → FillsNil keep L T offset U after levels.outer.items levels.left (z ++ b)
 fills_last {U = U} all levels {outer = outer} {after = after} {z = z} {lv = lv} {left = left} {v = v} {o = o} b
     (last {lv = around} {levels = others} {o = q} {os = os} {d = d} outer_are n f h) held kept p said sp de ends grown
     id
@@ -142,24 +148,27 @@ fills_last {U = U} all levels {outer = outer} {after = after} {z = z} {lv = lv} 
       within = let l = (levels_nest p).0.ends in omega arith;
     }
 
-pub fills_outer : {L : Bounds} {T : Table} {offset : ℕ} {U : Table} {all levels : Levels} {outer after : declared.Level}
-    {z : List ℕ} → ArePopped all levels outer → ValueIsWhole L T offset U all z → Holds levels.innermost outer after
-    → FillsNil L T offset U after levels.outer.items levels.left z
-fills_outer {U = U} {all = all} {levels = levels} {outer = outer} {after = after} k
+pub fills_outer : {keep : Bool} {L : Bounds} {T : Table} {offset : ℕ} {U : Table} {all levels : Levels}
+    {outer after : declared.Level}
+    {z : List ℕ} → ArePopped all levels outer → ValueIsWhole keep L T offset U all z
+    → Holds keep levels.innermost outer after
+    → FillsNil keep L T offset U after levels.outer.items levels.left z
+fills_outer {keep = keep} {U = U} {all = all} {levels = levels} {outer = outer} {after = after} k
     (value_whole b p said sp de ends ready grown id sk others) held =
     fills_last all levels b (last_outer levels.outer.items outer others.outer k.items)
-    (subst (λ l. Holds l outer after) k.innermost held) (k.left ∙ others.left_is) p said sp de ends grown id sk
+    (subst (λ l. Holds keep l outer after) k.innermost held) (k.left ∙ others.left_is) p said sp de ends grown id sk
     others.fillings
 
 -- ---- the last value
 
-ends_item : {L : Bounds} {T : Table} {offset : ℕ} {U : Table} {levels : Levels} {items : List declared.Level}
+ends_item : {keep : Bool} {L : Bounds} {T : Table} {offset : ℕ} {U : Table} {levels : Levels}
+    {items : List declared.Level}
     {z : List ℕ} {lv : Level} {around : List Level} {left : ℕ} {v : Tree} {o : Open} {os : List Open} (b : List ℕ)
-    → AreBytes (z ++ b) → AreOuter U items around os → items ≡ []
+    → AreBytes (z ++ b) → AreOuter keep U items around os → items ≡ []
     → (p : Stands base_table L T offset z U (lv ∷ around) in_value left) → opens p ≡ o ∷ os
     → SpellsTop lv.table lv.type v (lv.done ++ b) → depth v ≤ lv.limit → offset + length (z ++ b) ≡ lv.end
     → Extends lv.table U → levels.innermost.id ≡ lv.type → levels.innermost.skeleton.items ≡ lv.done ++ b
-    → FillingsAre U levels.innermost o → PutIsWhole L T offset U levels (z ++ b)
+    → FillingsAre keep U levels.innermost o → PutIsWhole keep L T offset U levels (z ++ b)
 ends_item {L = L} {T = T} {offset = offset} {U = U} {levels = levels} {z = z} {lv = lv} {v = v} {o = o} b bytes
     none_outer e p said sp de ends grown id sk inside =
     record {
@@ -174,29 +183,36 @@ ends_item {L = L} {T = T} {offset = offset} {U = U} {levels = levels} {z = z} {l
 ends_item b bytes (outer_then {l = l} {outer = outer} q n f h) e p said sp de ends grown id sk inside =
     absurd (no_last outer l e)
 
-pub put_whole : {L : Bounds} {T : Table} {offset : ℕ} {U : Table} {levels : Levels} {z : List ℕ}
-    → ValueIsWhole L T offset U levels z → AreBytes z → levels.outer.items ≡ [] → PutIsWhole L T offset U levels z
+pub put_whole : {keep : Bool} {L : Bounds} {T : Table} {offset : ℕ} {U : Table} {levels : Levels} {z : List ℕ}
+    → ValueIsWhole keep L T offset U levels z → AreBytes z → levels.outer.items ≡ []
+    → PutIsWhole keep L T offset U levels z
 put_whole {levels = levels} (value_whole b p said sp de ends ready grown id sk others) bytes e =
     ends_item {levels = levels} b bytes others.outer e p said sp de ends grown id sk others.fillings
 
-pub as_held : {value other l m l' : declared.Level} → Holds value l l' → value ≡ other → l ≡ m → Holds other m l'
-as_held {value = value} {m = m} {l' = l'} h e f =
-    subst (λ v. Holds v m l') e (subst (λ l. Holds value l l') f h)
+pub as_held : {keep : Bool} {value other l m l' : declared.Level} → Holds keep value l l' → value ≡ other → l ≡ m
+    → Holds keep other m l'
+as_held {keep = keep} {value = value} {m = m} {l' = l'} h e f =
+    subst (λ v. Holds keep v m l') e (subst (λ l. Holds keep value l l') f h)
 
 -- ---- what ending answers
 
-pub end_stops : {L : Bounds} {T : Table} {offset : ℕ} {d : Defined} {z : List ℕ} {levels : Levels} (f : Fault)
-    → FillingSteps L T offset d z levels (Err f) → GoesSteps L T offset d z levels (Err f)
+pub end_stops : {keep : Bool} {L : Bounds} {T : Table} {offset : ℕ} {d : Defined} {z : List ℕ} {levels : Levels}
+    (f : Fault)
+    → FillingSteps keep L T offset d z levels (Err f) → GoesSteps keep L T offset d z levels (Err f)
 end_stops f (filling_refused r) = goes_refused r
 end_stops f no_memory_for_filling = no_memory_there
 
-pub end_on : {L : Bounds} {T : Table} {offset : ℕ} {d : Defined} {z : List ℕ} {levels : Levels} (whole : Bool)
-    → whole ≡ false → FillingSteps L T offset d z levels (Ok whole) → GoesSteps L T offset d z levels (Ok goes.On)
+pub end_on : {keep : Bool} {L : Bounds} {T : Table} {offset : ℕ} {d : Defined} {z : List ℕ} {levels : Levels}
+    (whole : Bool)
+    → whole ≡ false → FillingSteps keep L T offset d z levels (Ok whole)
+    → GoesSteps keep L T offset d z levels (Ok goes.On)
 end_on whole e (filling_goes_on h) = value_goes_on h
 end_on whole e (filling_ends h) = cc
 
-pub end_whole : {L : Bounds} {T : Table} {offset : ℕ} {d : Defined} {z : List ℕ} {levels : Levels} (whole : Bool)
-    → whole ≡ true → FillingSteps L T offset d z levels (Ok whole) → ValueIsWhole L T offset (types d) levels z
+pub end_whole : {keep : Bool} {L : Bounds} {T : Table} {offset : ℕ} {d : Defined} {z : List ℕ} {levels : Levels}
+    (whole : Bool)
+    → whole ≡ true → FillingSteps keep L T offset d z levels (Ok whole)
+    → ValueIsWhole keep L T offset (types d) levels z
 end_whole whole e (filling_goes_on h) = cc
 end_whole whole e (filling_ends h) = h
 
@@ -204,9 +220,9 @@ none_left : {A : Type 0} (xs : List A) → length xs ≡ 0 → xs ≡ []
 none_left [] e = refl
 none_left (x ∷ xs) e = absurd (omega arith)
 
-pub end_item : {L : Bounds} {T : Table} {offset : ℕ} {d : Defined} {z : List ℕ} (levels levels' : Levels)
-    → ValueIsWhole L T offset (types d) levels z → AreBytes z → length levels.outer.items ≡ 0
-    → levels.innermost ≡ levels'.innermost → GoesSteps L T offset d z levels' (Ok goes.ToEnd)
+pub end_item : {keep : Bool} {L : Bounds} {T : Table} {offset : ℕ} {d : Defined} {z : List ℕ} (levels levels' : Levels)
+    → ValueIsWhole keep L T offset (types d) levels z → AreBytes z → length levels.outer.items ≡ 0
+    → levels.innermost ≡ levels'.innermost → GoesSteps keep L T offset d z levels' (Ok goes.ToEnd)
 end_item {L = L} {T = T} {offset = offset} {d = d} {z = z} levels levels' h o e f =
     let w = put_whole h o (none_left levels.outer.items e) in
     goes_to_end (record {
@@ -217,5 +233,6 @@ end_item {L = L} {T = T} {offset = offset} {d = d} {z = z} levels levels' h o e 
       fillings = w.fillings;
       value_is = w.value_is;
       spelled = subst (λ (l : declared.Level). SpellsTop (types d) l.id w.tree l.skeleton.items) f w.spelled;
-      filled = subst (λ (l : declared.Level). AreFillings (types d) l.fillings.items w.fillings) f w.filled;
+      filled = λ on. subst (λ (l : declared.Level). AreFillings (types d) l.fillings.items w.fillings) f
+          (w.filled on);
     })

@@ -1,54 +1,40 @@
 -- What a session has come to within a piece, step by step.
-use Rattle.std.proofs.Common.{◌≡◌, ℕ, ◌+◌, ◌-◌, ◌<◌, ◌≤◌, List, [], ◌∷◌, ◌++◌, length, take, drop, Option, Some, None}
+use Rattle.std.proofs.Common.{Bool, true}
+use Rattle.std.proofs.Common.{◌≡◌, ℕ, ◌≤◌, List, [], ◌∷◌, ◌++◌, length, take, drop, Option, Some, None}
 use Rattle.std.proofs.Common.{IfSome, Result, Ok, Err, arith, refl, sym, ap, ◌∙◌, subst, append_assoc, length-append}
-use Rattle.std.proofs.Common.{length-drop}
-use Rattle.std.proofs.Math.Seq.{take-add}
-use Rattle.std.proofs.lemmas.List.{append-nil, take-append-drop, take_all, take_rest}
+use Rattle.std.proofs.lemmas.List.{append-nil, take-append-drop}
 use Rattle.gob_types.specs.Base.{base_table}
 use Rattle.gob_types.specs.Defined.{types}
 use Rattle.gob_types.specs.Table.{Table}
 use Rattle.gob_stream.specs.declared.fault.Fault.{Fault}
 use Rattle.gob_stream.specs.declared.fault.Fault.TheVariants as fault
 use Rattle.gob_stream.specs.declared.fault.Refusal.{Refusal}
+use Rattle.gob_stream.specs.declared.session.Step.{Step}
 use Rattle.gob_stream.specs.Bounds.{Bounds, within_trees}
+use Rattle.gob_stream.specs.Feeding.{FeedsBy, ReachesBy, StopsBy, TakesBy, at_item, at_step, had_failed, no_item, no_step}
+use Rattle.gob_stream.specs.Feeding.{one_item}
 use Rattle.gob_stream.specs.Reading.{Given}
+use Rattle.gob_stream.proofs.Reader.ReadStreamSteps.{given_as}
 use Rattle.gob_filled.specs.Outcome.{RefusesFilled, refused_count, refused_body, refused_value, RefusesAt}
 use Rattle.gob_filled.specs.Outcome.{in_skeleton, short_name, as_in_an_item, inner_count, next_count, BeginsFilled}
 use Rattle.gob_filled.specs.Standing.{Level, Next, Stands}
 use Rattle.gob_filled.specs.Stream.{FilledItem, IsFilledItem, FilledStream}
 use Rattle.gob_go.specs.Calls.Session.{FeedAnswers, FeedsHonestly, IsBetweenItems}
+use Rattle.gob_go.specs.GoStepping.{StepsSo, go_stepping}
 use Rattle.gob_go.specs.Machine.HasRead.{StageHasRead, in_count, in_type_number, in_definition, in_put, HasRead}
 use Rattle.gob_go.specs.Machine.SessionState.{SessionState}
-use Rattle.gob_go.specs.Machine.Stages.{count_at, AdvancesOver, over_some, over_item, StepAnswers}
+use Rattle.gob_go.specs.Machine.Stages.{count_at, AdvancesOver, over_some, over_item}
 use Rattle.gob_go.specs.Meaning.{ItemMeans, ItemsMean, mean_none}
 use Rattle.gob_go.specs.Reading.{GivesOn, ShowsRefusal, RefusesBehind, GivesOfTaken, HasTypesWithin, as_before}
 use Rattle.gob_go.specs.Reading.{behind_item, within_value, behind_definition, HasTypesBeyond, types_at, types_refused}
 use Rattle.gob_go.specs.declared.item.GoItem.{GoItem}
 use Rattle.gob_go.specs.declared.stage.Stage.{Stage}
+use Rattle.gob_go.proofs.AdvanceSteps.{not_read}
 use Rattle.gob_go.proofs.HonestLaws.{always_honest}
 use Rattle.gob_go.proofs.ItemsLaws.{Grown, same_grown, grown_on, grown_keeps, defines_grown, stands_grown, item_grown}
 use Rattle.gob_go.proofs.ItemsLaws.{Last, last_of, one_reading, longest}
 use Rattle.gob_go.proofs.MeaningLaws.{all_mean_on, one_means_more}
 use Rattle.gob_go.proofs.UnderWayLaws.{stage_grown, no_item_yet}
-
--- ---- the piece
--- a piece from there on, as a slice
-abbrev pub rest_of : List ℕ → ℕ → List ℕ
-rest_of piece used = take (length piece - used) (drop used piece)
-
-further : (bytes piece : List ℕ) (used step : ℕ) → (bytes ++ take used piece) ++ take step (rest_of piece used)
-    ≡ bytes ++ take (used + step) piece
-further bytes piece used step =
-    ap (λ l. (bytes ++ take used piece) ++ take step l) (take_rest piece used)
-    ∙ append_assoc bytes (take used piece) (take step (drop used piece))
-    ∙ ap (λ l. bytes ++ l) (sym (take-add used step piece))
-
-all_bytes : (bytes piece : List ℕ) (used : ℕ) → (bytes ++ take used piece) ++ rest_of piece used ≡ bytes ++ piece
-all_bytes bytes piece used =
-    ap (λ l. (bytes ++ take used piece) ++ l) (take_rest piece used)
-    ∙ append_assoc bytes (take used piece) (drop used piece) ∙ ap (λ l. bytes ++ l) (take-append-drop used piece)
-
--- ---- what was read of the piece
 
 -- the items were given behind the others, and all are those of the bytes
 pub record ReadsTo (s' : SessionState) (given : List GoItem) (items : List FilledItem) (bytes : List ℕ) : Type 0 where
@@ -58,13 +44,10 @@ pub record ReadsTo (s' : SessionState) (given : List GoItem) (items : List Fille
   pub after : HasRead s' all bytes
   pub mean : ItemsMean after.table given more
 
--- so many bytes of the piece were taken, in so many steps
-pub record HasFed (s s' : SessionState) (out out' : List GoItem) (piece : List ℕ) (used steps : ℕ) : Type 0 where
-  pub within : used ≤ length piece
-  pub onward : steps ≤ used
-  pub limits : s'.limits ≡ s.limits
-  pub fed : Given out out' (λ given. (items : List FilledItem) (bytes : List ℕ) → HasRead s items bytes
-      → ReadsTo s' given items (bytes ++ take used piece))
+-- wherever the session stood, it has read these bytes more now
+record HasFed (s s' : SessionState) (given : List GoItem) (z : List ℕ) : Type 0 where
+  limits : s'.limits ≡ s.limits
+  fed : (items : List FilledItem) (bytes : List ℕ) → HasRead s items bytes → ReadsTo s' given items (bytes ++ z)
 
 read_none : {s : SessionState} {items : List FilledItem} {bytes : List ℕ} → HasRead s items bytes
     → ReadsTo s [] items (bytes ++ [])
@@ -76,24 +59,8 @@ read_none {s = s} {items = items} {bytes = bytes} a = record {
   mean = mean_none;
 }
 
-pub feed_start : {s : SessionState} (out : List GoItem) (piece : List ℕ) → HasFed s s out out piece 0 0
-feed_start out piece = record {
-  within = omega arith;
-  onward = omega arith;
-  limits = refl;
-  fed = record { given = []; appended = sym (append-nil out); holds = λ items bytes a. read_none a };
-}
-
--- a step over the front of a piece
-pub record StepsOver (s s' : SessionState) (piece : List ℕ) (used : ℕ) (item : Option GoItem) : Type 0 where
-  pub some : (0 < used) × (used ≤ length piece)
-  pub limits : s'.limits ≡ s.limits
-  pub between : IfSome item (λ _. IsBetweenItems s')
-  pub advances : (items : List FilledItem) (bytes : List ℕ) → HasRead s items bytes
-      → AdvancesOver s' items bytes piece used item
-
 stands_over : {s' : SessionState} {items : List FilledItem} {bytes piece : List ℕ} {used : ℕ} {item : Option GoItem}
-    → AdvancesOver s' items bytes piece used item → item ≡ None → HasRead s' items (bytes ++ take used piece)
+    → AdvancesOver true s' items bytes piece used item → item ≡ None → HasRead s' items (bytes ++ take used piece)
 stands_over (over_some p l a) e = a
 stands_over (over_item p l m a) e = absurd (cc)
 
@@ -104,16 +71,16 @@ record GivesOne (s' : SessionState) (items : List FilledItem) (bytes : List ℕ)
   after : HasRead s' (items ++ item ∷ []) bytes
 
 gives_over : {s' : SessionState} {items : List FilledItem} {bytes piece : List ℕ} {used : ℕ} {item : Option GoItem}
-    {given : GoItem} → AdvancesOver s' items bytes piece used item → item ≡ Some given
+    {given : GoItem} → AdvancesOver true s' items bytes piece used item → item ≡ Some given
     → GivesOne s' items (bytes ++ take used piece) given
 gives_over (over_some p l a) e = absurd (cc)
 gives_over {s' = s'} {given = given} (over_item {given = one} {i = i} p l m a) e =
     let same : one ≡ given = cc in
-    record { item = i; mean = subst (λ x. ItemMeans (types s'.types) x i) same m; after = a }
+    record { item = i; mean = subst (λ x. ItemMeans (types s'.types) x i) same (m refl); after = a }
 
 -- behind which no byte was taken, so the types are those of the stream
-pub between_table : {L : Bounds} {T U : Table} {offset n : ℕ} {expects : Stage} {y : List ℕ}
-    → StageHasRead L T offset U expects y → expects ≡ count_at n → U ≡ T
+pub between_table : {keep : Bool} {L : Bounds} {T U : Table} {offset n : ℕ} {expects : Stage} {y : List ℕ}
+    → StageHasRead keep L T offset U expects y → expects ≡ count_at n → U ≡ T
 between_table (in_count q g k) e = g
 between_table (in_type_number a g k n) e = absurd (cc)
 between_table (in_definition a y g k d) e = absurd (cc)
@@ -132,35 +99,6 @@ one_table {s = s} {items = items} x y a h e f =
     (sym (append_assoc a.prefix a.under_way x) ∙ ap (λ l. l ++ x) (sym a.whole) ∙ f ∙ ap (λ l. l ++ y) h.whole
     ∙ append_assoc h.prefix h.under_way y)).table
 
--- with a step the reader has come further, by no item
-pub feed_on : {s t t' : SessionState} {out out' out'' : List GoItem} {piece : List ℕ} {used steps step : ℕ}
-    {item : Option GoItem} → HasFed s t out out' piece used steps → StepsOver t t' (rest_of piece used) step item
-    → item ≡ None → out'' ≡ out' → HasFed s t' out out'' piece (used + step) (steps + 1)
-feed_on {t' = t'} {piece = piece} {used = used} {step = step} h o e f =
-    let w = h.within in let n = h.onward in let p = o.some.0 in let q = o.some.1 in
-    record {
-      within = omega (arith, ap length (take_rest piece used), length-drop used piece);
-      onward = omega arith;
-      limits = o.limits ∙ h.limits;
-      fed = record {
-        given = h.fed.given;
-        appended = f ∙ h.fed.appended;
-        holds = λ items bytes a.
-            let before = h.fed.holds items bytes a in
-            let now = stands_over (o.advances before.all (bytes ++ take used piece) before.after) e in
-            let there = subst (λ b. HasRead t' before.all b) (further bytes piece used step) now in
-            record {
-              more = before.more;
-              all = before.all;
-              all_are = before.all_are;
-              after = there;
-              mean = subst (λ T. ItemsMean T h.fed.given before.more)
-                  (one_table (take step (rest_of piece used)) [] before.after there o.limits
-                  (further bytes piece used step ∙ sym (append-nil (bytes ++ take (used + step) piece)))) before.mean;
-            };
-      };
-    }
-
 -- the last of them, and what was given before it
 record GivesLast (t' : SessionState) (given : List GoItem) (one : GoItem) (all more : List FilledItem)
     (bytes : List ℕ) : Type 0 where
@@ -171,19 +109,20 @@ record GivesLast (t' : SessionState) (given : List GoItem) (one : GoItem) (all m
   one_means : ItemMeans after.table one item
   types_are : types t'.types ≡ after.table
 
-gives_last : {t t' : SessionState} {given : List GoItem} {items : List FilledItem} {bytes piece : List ℕ} {step : ℕ}
-    {item : Option GoItem} {one : GoItem} (before : ReadsTo t given items bytes) → StepsOver t t' piece step item
-    → item ≡ Some one → GivesLast t' given one before.all before.more (bytes ++ take step piece)
+gives_last : {t t' : SessionState} {given : List GoItem} {items : List FilledItem} {bytes piece : List ℕ}
+    {step : Step GoItem} {one : GoItem} (before : ReadsTo t given items bytes) → TakesBy go_stepping t t' piece step
+    → step.item ≡ Some one → GivesLast t' given one before.all before.more (bytes ++ take step.used piece)
 gives_last {t' = t'} {given = given} {bytes = bytes} {piece = piece} {step = step} {one = one} before o e =
-    let g = gives_over (o.advances before.all bytes before.after) e in
+    let more = take step.used piece in
+    let g = gives_over (o.answers.advances before.all bytes before.after) e in
     let a = g.after in
     let table = between_table a.stage (is_between t' o.between e) in
     let last = last_of before.all a.stream in
     let b = before.after in
     let stream = subst (λ L. FilledStream base_table (within_trees L) before.all last.before last.table) o.limits
     last.items_are in
-    let same = one_reading (b.under_way ++ take step piece) (last.bytes ++ a.under_way) b.stream stream
-    (sym (append_assoc b.prefix b.under_way (take step piece)) ∙ ap (λ l. l ++ take step piece) (sym b.whole)
+    let same = one_reading (b.under_way ++ more) (last.bytes ++ a.under_way) b.stream stream
+    (sym (append_assoc b.prefix b.under_way more) ∙ ap (λ l. l ++ more) (sym b.whole)
     ∙ a.whole ∙ ap (λ l. l ++ a.under_way) last.whole ∙ append_assoc last.before last.bytes a.under_way) in
     record {
       item = g.item;
@@ -194,57 +133,56 @@ gives_last {t' = t'} {given = given} {bytes = bytes} {piece = piece} {step = ste
       types_are = table;
     }
 
--- or by one
-pub feed_item : {s t t' : SessionState} {out out' out'' : List GoItem} {piece : List ℕ} {used steps step : ℕ}
-    {item : Option GoItem} {given : GoItem} → HasFed s t out out' piece used steps
-    → StepsOver t t' (rest_of piece used) step item → item ≡ Some given → out'' ≡ out' ++ given ∷ []
-    → HasFed s t' out out'' piece (used + step) (steps + 1)
-feed_item {t' = t'} {out = out} {piece = piece} {used = used} {step = step} {given = given} h o e f =
-    let w = h.within in let n = h.onward in let p = o.some.0 in let q = o.some.1 in
+fed_by : {s s' : SessionState} {given : List GoItem} {z : List ℕ} → ReachesBy go_stepping s given z s'
+    → HasFed s s' given z
+fed_by no_step = record { limits = refl; fed = λ items bytes a. read_none a }
+fed_by {s' = s'} (no_item {given = given} {z = z} {piece = piece} {step = step} h o none) =
+    let so_far = fed_by h in
+    let more = take step.used piece in
     record {
-      within = omega (arith, ap length (take_rest piece used), length-drop used piece);
-      onward = omega arith;
-      limits = o.limits ∙ h.limits;
-      fed = record {
-        given = h.fed.given ++ given ∷ [];
-        appended = f ∙ ap (λ l. l ++ given ∷ []) h.fed.appended ∙ append_assoc out h.fed.given (given ∷ []);
-        holds = λ items bytes a.
-            let before = h.fed.holds items bytes a in
-            let g = gives_last before o e in
-            subst (λ b. ReadsTo t' (h.fed.given ++ given ∷ []) items b) (further bytes piece used step) (record {
-              more = before.more ++ g.item ∷ [];
-              all = before.all ++ g.item ∷ [];
-              all_are = ap (λ l. l ++ g.item ∷ []) before.all_are ∙ append_assoc items before.more (g.item ∷ []);
-              after = g.after;
-              mean = one_means_more (all_mean_on (grown_keeps (item_grown g.last.item)) g.mean) g.one_means;
-            });
-      };
+      limits = o.limits ∙ so_far.limits;
+      fed = λ items bytes a.
+          let there = so_far.fed items bytes a in
+          let all = append_assoc bytes z more in
+          let now = subst (λ b. HasRead s' there.all b) all
+          (stands_over (o.answers.advances there.all (bytes ++ z) there.after) none) in
+          record {
+            more = there.more;
+            all = there.all;
+            all_are = there.all_are;
+            after = now;
+            mean = subst (λ T. ItemsMean T given there.more)
+                (one_table more [] there.after now o.limits (all ∙ sym (append-nil (bytes ++ (z ++ more))))) there.mean;
+          };
     }
-
--- it stands there by whichever name it goes
-pub feed_there : {s t t' : SessionState} {out out' : List GoItem} {piece : List ℕ} {used steps : ℕ}
-    → t' ≡ t → HasFed s t out out' piece used steps → HasFed s t' out out' piece used steps
-feed_there {s = s} {out = out} {out' = out'} {piece = piece} {used = used} {steps = steps} e h =
-    subst (λ t. HasFed s t out out' piece used steps) (sym e) h
+fed_by {s' = s'} (one_item {given = given} {z = z} {piece = piece} {step = step} {item = item} h o one) =
+    let so_far = fed_by h in
+    record {
+      limits = o.limits ∙ so_far.limits;
+      fed = λ items bytes a.
+          let there = so_far.fed items bytes a in
+          let g = gives_last there o one in
+          subst (λ b. ReadsTo s' (given ++ item ∷ []) items b) (append_assoc bytes z (take step.used piece)) (record {
+            more = there.more ++ g.item ∷ [];
+            all = there.all ++ g.item ∷ [];
+            all_are = ap (λ l. l ++ g.item ∷ []) there.all_are ∙ append_assoc items there.more (g.item ∷ []);
+            after = g.after;
+            mean = one_means_more (all_mean_on (grown_keeps (item_grown g.last.item)) g.mean) g.one_means;
+          });
+    }
 
 -- ---- how feeding ends
 -- the whole piece was taken
-pub fed_all : {s s' : SessionState} {out out' : List GoItem} {piece : List ℕ} {used steps : ℕ}
-    → HasFed s s' out out' piece used steps → length piece ≤ used
-    → Given out out' (λ given. (items : List FilledItem) (bytes : List ℕ) → HasRead s items bytes
-    → GivesOn (types s'.types) given items (λ all. HasRead s' all (bytes ++ piece)))
-fed_all {s' = s'} {piece = piece} {used = used} h l = record {
-  given = h.fed.given;
-  appended = h.fed.appended;
-  holds = λ items bytes a.
-      let before = h.fed.holds items bytes a in
-      record {
-        more = before.more;
-        mean = all_mean_on (grown_keeps (stage_grown before.after.stage)) before.mean;
-        holds = subst (λ i. HasRead s' i (bytes ++ piece)) before.all_are
-            (subst (λ p. HasRead s' before.all (bytes ++ p)) (take_all used piece l) before.after);
-      };
-}
+fed_all : {s s' : SessionState} {given : List GoItem} {piece : List ℕ} → HasFed s s' given piece
+    → (items : List FilledItem) (bytes : List ℕ) → HasRead s items bytes
+    → GivesOn (types s'.types) given items (λ all. HasRead s' all (bytes ++ piece))
+fed_all {s' = s'} {piece = piece} h items bytes a =
+    let there = h.fed items bytes a in
+    record {
+      more = there.more;
+      mean = all_mean_on (grown_keeps (stage_grown there.after.stage)) there.mean;
+      holds = subst (λ i. HasRead s' i (bytes ++ piece)) there.all_are there.after;
+    }
 
 -- no list that the bytes begin with is longer
 gives_all : {s : SessionState} {items : List FilledItem} {bytes : List ℕ} → HasRead s items bytes
@@ -313,24 +251,6 @@ lost {t' = t'} {given = given} {items = items} {more = more} {whole = whole} {U 
           (gives_but_last rest g t e, types_behind_last rest g u e));
     }
 
-pub feed_no_memory : {s t t' : SessionState} {out out' out'' : List GoItem} {piece : List ℕ} {used steps step : ℕ}
-    {item : Option GoItem} {one : GoItem} {f : Fault} (s' : SessionState)
-    → HasFed s t out out' piece used steps → StepsOver t t' (rest_of piece used) step item → item ≡ Some one
-    → s'.types ≡ t'.types → s'.taken ≡ t'.taken → f ≡ fault.Memory → out'' ≡ out'
-    → Given out out'' (λ given. (items : List FilledItem) (bytes : List ℕ) → HasRead s items bytes
-    → FeedAnswers s s' items bytes piece given (Err f))
-feed_no_memory {s = s} {piece = piece} {used = used} {step = step} s' h o n k v e f = record {
-  given = h.fed.given;
-  appended = f ∙ h.fed.appended;
-  holds = λ items bytes a.
-      let before = h.fed.holds items bytes a in
-      let g = gives_last before o n in
-      subst (λ f. FeedAnswers s s' items bytes piece h.fed.given (Err f)) (sym e)
-      (lost (rest_of piece (used + step)) (o.limits ∙ h.limits) before.all_are g (ap types k ∙ g.types_are)
-      (v ∙ g.after.taken) (ap (λ b. b ++ rest_of piece (used + step)) (further bytes piece used step)
-      ∙ all_bytes bytes piece (used + step)));
-}
-
 -- ---- at a fault of a step
 at_grown : {L : Bounds} {T U : Table} {offset at left : ℕ} {z w : List ℕ} {levels : List Level} {next : Next}
     {R : Refusal} → Stands base_table L T offset z U levels next left
@@ -364,45 +284,45 @@ mean_there {given = given} x y before s e g =
     (sym (append_assoc a.prefix a.under_way x) ∙ ap (λ l. l ++ x) (sym a.whole) ∙ e) in
     all_mean_on (grown_keeps g) (subst (λ T. ItemsMean T given before.more) same.table before.mean)
 
+-- what a refusal tells of the bytes
+abbrev RefusesSo : Bounds → List ℕ → List FilledItem → Refusal → Table → Type 0
+RefusesSo L bytes all R U = ShowsRefusal (within_trees L) bytes all R × RefusesBehind (within_trees L) bytes all R U
+
 refused_so : {t : SessionState} {given : List GoItem} {items : List FilledItem} {R : Refusal} {U : Table} {L : Bounds}
-    (bytes piece : List ℕ) (used : ℕ) → t.limits ≡ L
-    → (before : ReadsTo t given items (bytes ++ take used piece))
-    → ShowsRefusal (within_trees t.limits) ((bytes ++ take used piece) ++ rest_of piece used) before.all R
-    → RefusesBehind (within_trees t.limits) ((bytes ++ take used piece) ++ rest_of piece used) before.all R U
-    → GivesOn U given items (λ all. ShowsRefusal (within_trees L) (bytes ++ piece) all R
-    × RefusesBehind (within_trees L) (bytes ++ piece) all R U)
-refused_so {t = t} {items = items} {R = R} {U = U} bytes piece used l before shows behind =
+    {bytes whole : List ℕ} (rest : List ℕ) → t.limits ≡ L → bytes ++ rest ≡ whole
+    → (before : ReadsTo t given items bytes) → RefusesSo t.limits (bytes ++ rest) before.all R U
+    → GivesOn U given items (λ all. RefusesSo L whole all R U)
+refused_so {t = t} {items = items} {R = R} {U = U} {bytes = bytes} {whole = whole} rest l w before (shows, behind) =
     let grown = subst (λ U. Grown behind.table U) (sym behind.refuses.table) (refused_grown behind.refuses.refuses) in
     record {
       more = before.more;
-      mean = mean_there (rest_of piece used) behind.rest before behind.stream behind.whole grown;
-      holds = subst (λ L. ShowsRefusal (within_trees L) (bytes ++ piece) (items ++ before.more) R
-          × RefusesBehind (within_trees L) (bytes ++ piece) (items ++ before.more) R U) l
-          (subst (λ all. ShowsRefusal (within_trees t.limits) (bytes ++ piece) all R
-          × RefusesBehind (within_trees t.limits) (bytes ++ piece) all R U) before.all_are
-          (subst (λ b. ShowsRefusal (within_trees t.limits) b before.all R
-          × RefusesBehind (within_trees t.limits) b before.all R U) (all_bytes bytes piece used) (shows, behind)));
+      mean = mean_there rest behind.rest before behind.stream behind.whole grown;
+      holds = subst (λ L. RefusesSo L whole (items ++ before.more) R U) l
+          (subst (λ all. RefusesSo t.limits whole all R U) before.all_are
+          (subst (λ b. RefusesSo t.limits b before.all R U) w (shows, behind)));
     }
 
+-- what a fault of memory tells of them, where so many were taken
+abbrev LacksMemory : Bounds → ℕ → List ℕ → List FilledItem → Table → Type 0
+LacksMemory L taken bytes all U = GivesOfTaken (within_trees L) taken bytes all
+    × HasTypesBeyond (within_trees L) bytes all U
+
 no_memory_so : {t : SessionState} {given : List GoItem} {items : List FilledItem} {U : Table} {taken : ℕ} {L : Bounds}
-    (bytes piece : List ℕ) (used : ℕ) → t.limits ≡ L → taken ≡ t.taken
-    → (before : ReadsTo t given items (bytes ++ take used piece))
-    → HasTypesBeyond (within_trees t.limits) ((bytes ++ take used piece) ++ rest_of piece used) before.all U
-    → GivesOn U given items (λ all. GivesOfTaken (within_trees L) taken (bytes ++ piece) all
-    × HasTypesBeyond (within_trees L) (bytes ++ piece) all U)
-no_memory_so {t = t} {items = items} {U = U} {taken = taken} bytes piece used l v before beyond =
+    {bytes whole : List ℕ} (rest : List ℕ) → t.limits ≡ L → bytes ++ rest ≡ whole → taken ≡ t.taken
+    → (before : ReadsTo t given items bytes)
+    → HasTypesBeyond (within_trees t.limits) (bytes ++ rest) before.all U
+    → GivesOn U given items (λ all. LacksMemory L taken whole all U)
+no_memory_so {t = t} {items = items} {U = U} {taken = taken} {bytes = bytes} {whole = whole} rest l w v before beyond =
     let a = before.after in
     record {
       more = before.more;
-      mean = mean_there (rest_of piece used) beyond.rest before beyond.stream beyond.whole (within_grown beyond.within);
-      holds = subst (λ L. GivesOfTaken (within_trees L) taken (bytes ++ piece) (items ++ before.more)
-          × HasTypesBeyond (within_trees L) (bytes ++ piece) (items ++ before.more) U) l
-          (subst (λ all. GivesOfTaken (within_trees t.limits) taken (bytes ++ piece) all
-          × HasTypesBeyond (within_trees t.limits) (bytes ++ piece) all U) before.all_are (
+      mean = mean_there rest beyond.rest before beyond.stream beyond.whole (within_grown beyond.within);
+      holds = subst (λ L. LacksMemory L taken whole (items ++ before.more) U) l
+          (subst (λ all. LacksMemory t.limits taken whole all U) before.all_are (
             record {
-              prefix = bytes ++ take used piece;
-              rest = rest_of piece used;
-              whole = sym (all_bytes bytes piece used);
+              prefix = bytes;
+              rest = rest;
+              whole = sym w;
               taken_is = v ∙ a.taken;
               given = record {
                 prefix = a.prefix;
@@ -413,36 +333,48 @@ no_memory_so {t = t} {items = items} {U = U} {taken = taken} bytes piece used l 
               };
               but_last = λ others b. let n = gives_all a others b in omega arith;
             },
-            subst (λ b. HasTypesBeyond (within_trees t.limits) b before.all U) (all_bytes bytes piece used) beyond,
+            subst (λ b. HasTypesBeyond (within_trees t.limits) b before.all U) w beyond,
           ));
     }
 
-stops_so : {t : SessionState} {items : List FilledItem} {given : List GoItem} (s s' : SessionState)
-    (bytes piece : List ℕ) (used : ℕ) (f : Fault) → (before : ReadsTo t given items (bytes ++ take used piece))
-    → t.limits ≡ s.limits → s'.taken ≡ t.taken
-    → StepAnswers t s' before.all (bytes ++ take used piece) (rest_of piece used) (Err f)
+stops_so : {t : SessionState} {items : List FilledItem} {given : List GoItem} {rest : List ℕ} (s s' : SessionState)
+    (bytes z piece : List ℕ) (f : Fault) → (before : ReadsTo t given items (bytes ++ z)) → t.limits ≡ s.limits
+    → (bytes ++ z) ++ rest ≡ bytes ++ piece → StepsSo true t s' rest (Err f)
     → FeedAnswers s s' items bytes piece given (Err f)
-stops_so s s' bytes piece used (fault.Refused R) before l v r = (
-  refused_so bytes piece used l before r.0 r.1,
-  let n = r.2 in omega (arith, length-append bytes (take used piece)),
-)
-stops_so s s' bytes piece used fault.Read before l v r = r
-stops_so s s' bytes piece used fault.Memory before l v r = no_memory_so bytes piece used l v before r
-stops_so s s' bytes piece used fault.Failed before l v r = r
+stops_so {rest = rest} s s' bytes z piece (fault.Refused R) before l w o =
+    let r = o.advances before.all (bytes ++ z) before.after in (
+      refused_so rest l w before (r.0, r.1),
+      let n = r.2 in omega (arith, length-append bytes z),
+    )
+stops_so s s' bytes z piece fault.Read before l w o = o.advances before.all (bytes ++ z) before.after
+stops_so {rest = rest} s s' bytes z piece fault.Memory before l w o =
+    no_memory_so rest l w o.taken before (o.advances before.all (bytes ++ z) before.after)
+stops_so s s' bytes z piece fault.Failed before l w o = o.advances before.all (bytes ++ z) before.after
 
-pub feed_stops : {s t : SessionState} {out out' : List GoItem} {piece : List ℕ} {used steps : ℕ} (f : Fault)
-    (s' : SessionState) → HasFed s t out out' piece used steps → s'.taken ≡ t.taken
-    → ((items : List FilledItem) (bytes : List ℕ) → HasRead t items bytes
-    → StepAnswers t s' items bytes (rest_of piece used) (Err f))
-    → Given out out' (λ given. (items : List FilledItem) (bytes : List ℕ) → HasRead s items bytes
-    → FeedAnswers s s' items bytes piece given (Err f))
-feed_stops {s = s} {piece = piece} {used = used} f s' h v stops = record {
-  given = h.fed.given;
-  appended = h.fed.appended;
-  holds = λ items bytes a.
-      let before = h.fed.holds items bytes a in
-      stops_so s s' bytes piece used f before h.limits v (stops before.all (bytes ++ take used piece) before.after);
-}
+stops : {s s' : SessionState} {piece : List ℕ} {given : List GoItem} {f : Fault}
+    → StopsBy go_stepping s s' piece given f → (items : List FilledItem) (bytes : List ℕ) → HasRead s items bytes
+    → FeedAnswers s s' items bytes piece given (Err f)
+stops (had_failed failed) items bytes a = not_read a failed
+stops {s = s} {s' = s'} {piece = piece} (at_step {z = z} {rest = rest} {f = f} h w o) items bytes a =
+    let so_far = fed_by h in
+    stops_so s s' bytes z piece f (so_far.fed items bytes a) so_far.limits
+    (append_assoc bytes z rest ∙ ap (λ l. bytes ++ l) (sym w)) o
+stops (at_item {z = z} {rest = rest} {step = step} h w o one k v) items bytes a =
+    let so_far = fed_by h in
+    let there = so_far.fed items bytes a in
+    let g = gives_last there o one in
+    let more = take step.used rest in
+    let left = drop step.used rest in
+    lost left (o.limits ∙ so_far.limits) there.all_are g (ap types k ∙ g.types_are) (v ∙ g.after.taken)
+    (append_assoc (bytes ++ z) more left ∙ ap (λ l. (bytes ++ z) ++ l) (take-append-drop step.used rest)
+    ∙ append_assoc bytes z rest ∙ ap (λ l. bytes ++ l) (sym w))
+
+-- what feeding a piece answers
+pub feeds : (s s' : SessionState) (piece : List ℕ) (given : List GoItem) (result : Result (Unit {0}) Fault)
+    → FeedsBy go_stepping s s' piece given result → (items : List FilledItem) (bytes : List ℕ) → HasRead s items bytes
+    → FeedAnswers s s' items bytes piece given result
+feeds s s' piece given (Ok u) h = fed_all (fed_by h)
+feeds s s' piece given (Err f) h = stops h
 
 -- ---- each refusal is honest
 feeds_honestly : (s s' : SessionState) (items : List FilledItem) (bytes piece : List ℕ) (given : List GoItem)
@@ -462,8 +394,5 @@ pub always_feeds_honestly : (s s' : SessionState) (piece : List ℕ) {old new : 
     → FeedAnswers s s' items bytes piece given result)
     → Given old new (λ given. (items : List FilledItem) (bytes : List ℕ) → HasRead s items bytes
     → FeedsHonestly s items (types s'.types) (bytes ++ piece) given result)
-always_feeds_honestly s s' piece result g = record {
-  given = g.given;
-  appended = g.appended;
-  holds = λ items bytes a. feeds_honestly s s' items bytes piece g.given result (g.holds items bytes a);
-}
+always_feeds_honestly s s' piece result =
+    given_as (λ given h items bytes a. feeds_honestly s s' items bytes piece given result (h items bytes a))

@@ -1,4 +1,5 @@
 -- What a session answers at the end of its input.
+use Rattle.std.proofs.Common.{Bool}
 use Rattle.std.proofs.Common.{◌≡◌, ◌≢◌, ℕ, List, [], ◌∷◌, ◌++◌, length, arith, refl, sym, ap, ◌∙◌, subst, length-append}
 use Rattle.std.proofs.lemmas.List.{append-nil}
 use Rattle.gob_num.specs.Unsigned.{IsUnsigned}
@@ -13,7 +14,7 @@ use Rattle.gob_filled.specs.Outcome.{BeginsFilled, LongestFilled, FilledOutcome,
 use Rattle.gob_filled.specs.Outcome.{refused}
 use Rattle.gob_filled.specs.Stream.{FilledItem, FilledStream}
 use Rattle.gob_filled.proofs.Refused.{begins}
-use Rattle.gob_go.specs.Machine.HasRead.{StageHasRead, in_count, in_type_number, in_definition, in_put, HasRead}
+use Rattle.gob_go.specs.Machine.HasRead.{StageHasRead, in_count, in_type_number, in_definition, in_put, StandsAfter}
 use Rattle.gob_go.specs.Machine.SessionState.{SessionState}
 use Rattle.gob_go.specs.declared.count.ItemCount.{ItemCount}
 use Rattle.gob_go.specs.declared.stage.Stage.{Stage}
@@ -33,8 +34,8 @@ not_nothing : {m : ℕ} {c : List ℕ} {A : Type 0} (y : List ℕ) → IsUnsigne
 not_nothing {c = c} y u e =
     absurd (let l = (unsigned_length u).0 in omega (arith, ap length e, length-append c y))
 
-pub nothing_expects : {L : Bounds} {T U : Table} {offset : ℕ} {expects : Stage} {y : List ℕ}
-    → StageHasRead L T offset U expects y → y ≡ [] → ExpectsCount offset expects
+pub nothing_expects : {keep : Bool} {L : Bounds} {T U : Table} {offset : ℕ} {expects : Stage} {y : List ℕ}
+    → StageHasRead keep L T offset U expects y → y ≡ [] → ExpectsCount offset expects
 nothing_expects (in_count q g n) e = record { at = _; is = refl; begins_at = n.begins }
 nothing_expects (in_type_number a g k n) e = not_nothing a k.count e
 nothing_expects (in_definition a y g k d) e = not_nothing (a ++ y) k.count e
@@ -44,8 +45,8 @@ nothing_expects {y = y} (in_put p) e =
     not_nothing (b.number ++ b.rest) b.counts (sym b.whole ∙ e)
 
 -- what is expected is the count of an item that begins at the offset
-count_begins : {L : Bounds} {T U : Table} {offset : ℕ} {expects : Stage} {y : List ℕ} {at : ItemCount}
-    → StageHasRead L T offset U expects y → expects ≡ stage.Count at → at.number.rest.begin ≡ offset
+count_begins : {keep : Bool} {L : Bounds} {T U : Table} {offset : ℕ} {expects : Stage} {y : List ℕ} {at : ItemCount}
+    → StageHasRead keep L T offset U expects y → expects ≡ stage.Count at → at.number.rest.begin ≡ offset
 count_begins {at = at} (in_count {number = number} q g n) e =
     let same : record { number = number } ≡ at = cc in
     ap (λ (at : ItemCount). at.number.rest.begin) (sym same) ∙ n.begins
@@ -58,8 +59,8 @@ no_bytes [] e = refl
 no_bytes (x ∷ z) e = absurd (omega arith)
 
 -- no byte of it came
-pub count_begins_here : {s : SessionState} {items : List FilledItem} {bytes : List ℕ} {at : ItemCount}
-    (a : HasRead s items bytes) → s.stage ≡ stage.Count at → at.number.rest.begin ≡ s.taken → a.under_way ≡ []
+pub count_begins_here : {keep : Bool} {s : SessionState} {items : List FilledItem} {bytes : List ℕ} {at : ItemCount}
+    (a : StandsAfter keep s items bytes) → s.stage ≡ stage.Count at → at.number.rest.begin ≡ s.taken → a.under_way ≡ []
 count_begins_here a e f =
     let begin = count_begins a.stage e in let t = a.taken in
     no_bytes a.under_way (omega (arith, ap length a.whole, length-append a.prefix a.under_way))
@@ -71,7 +72,8 @@ one_begin {at = at} {others = others} e f =
     let same : at ≡ others = cc in ap (λ (at : ItemCount). at.number.rest.begin) same
 
 -- ---- what the bytes give
-behind_stream : {s : SessionState} {items : List FilledItem} {bytes : List ℕ} → HasRead s items bytes
+behind_stream : {keep : Bool} {s : SessionState} {items : List FilledItem} {bytes : List ℕ}
+    → StandsAfter keep s items bytes
     → BeginsFilled base_table (within_trees s.limits) bytes items
 behind_stream a = record {
   prefix = a.prefix;
@@ -82,7 +84,8 @@ behind_stream a = record {
 }
 
 -- and with no longer one
-pub given_longest : {s : SessionState} {items : List FilledItem} {bytes : List ℕ} → HasRead s items bytes
+pub given_longest : {keep : Bool} {s : SessionState} {items : List FilledItem} {bytes : List ℕ}
+    → StandsAfter keep s items bytes
     → LongestFilled base_table (within_trees s.limits) bytes items
 given_longest a = record {
   begins = behind_stream a;
@@ -90,7 +93,8 @@ given_longest a = record {
 }
 
 -- between two items they are the end of a stream
-pub after_none : {s : SessionState} {items : List FilledItem} {bytes : List ℕ} (a : HasRead s items bytes)
+pub after_none : {keep : Bool} {s : SessionState} {items : List FilledItem} {bytes : List ℕ}
+    (a : StandsAfter keep s items bytes)
     → a.under_way ≡ [] → FilledOutcome base_table (within_trees s.limits) bytes items the_end
 after_none {s = s} {items = items} a e =
     let all = a.whole ∙ ap (λ l. a.prefix ++ l) e ∙ append-nil a.prefix in
@@ -101,7 +105,8 @@ after_none {s = s} {items = items} a e =
     }
 
 -- within an item they end too early
-after_some : {s : SessionState} {items : List FilledItem} {bytes : List ℕ} (a : HasRead s items bytes)
+after_some : {keep : Bool} {s : SessionState} {items : List FilledItem} {bytes : List ℕ}
+    (a : StandsAfter keep s items bytes)
     → a.under_way ≢ []
     → FilledOutcome base_table (within_trees s.limits) bytes items
     (refused (refuses (length bytes) (length bytes) reason.Ended))
@@ -110,7 +115,8 @@ after_some a n = record {
   ends = within_an_item a.under_way a.stream a.whole n (λ R h. unrefused a.stage h);
 }
 
-pub ended_within : {s : SessionState} {items : List FilledItem} {bytes : List ℕ} {R : Refusal} → HasRead s items bytes
+pub ended_within : {keep : Bool} {s : SessionState} {items : List FilledItem} {bytes : List ℕ} {R : Refusal}
+    → StandsAfter keep s items bytes
     → ((at : ItemCount) → s.stage ≡ stage.Count at → at.number.rest.begin ≢ s.taken)
     → R ≡ refuses s.taken s.taken reason.Ended
     → FilledOutcome base_table (within_trees s.limits) bytes items (refused R) × (R.reason ≡ reason.Ended)

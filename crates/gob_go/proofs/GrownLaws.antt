@@ -70,15 +70,17 @@ nil_grown {l = l} e h = record {
   shallow = h.shallow;
 }
 
-outer_grown : {U V : Table} {outer : List declared.Level} {levels : List Level} {os : List Open} → Extends U V
-    → AreOuter U outer levels os → AreOuter V outer levels os
+outer_grown : {keep : Bool} {U V : Table} {outer : List declared.Level} {levels : List Level} {os : List Open}
+    → Extends U V
+    → AreOuter keep U outer levels os → AreOuter keep V outer levels os
 outer_grown e none_outer = none_outer
-outer_grown e (outer_then a h f k) = outer_then (outer_grown e a) (nil_grown e h) (fillings_grown e f) k
+outer_grown e (outer_then a h f k) = outer_then (outer_grown e a) (nil_grown e h) (λ on. fillings_grown e (f on)) k
 
-pub others_grown : {U V : Table} {levels : Levels} {around : List Level} {o : Open} {os : List Open} {left : ℕ}
-    → Extends U V → OthersAre U levels around o os left → OthersAre V levels around o os left
+pub others_grown : {keep : Bool} {U V : Table} {levels : Levels} {around : List Level} {o : Open} {os : List Open}
+    {left : ℕ}
+    → Extends U V → OthersAre keep U levels around o os left → OthersAre keep V levels around o os left
 others_grown e h = record {
-  fillings = fillings_grown e h.fillings;
+  fillings = λ on. fillings_grown e (h.fillings on);
   outer = outer_grown e h.outer;
   left_is = h.left_is;
 }

@@ -1,4 +1,5 @@
 -- What becomes of a definition behind a name.
+use Rattle.std.proofs.Common.{Bool}
 use Rattle.std.proofs.Common.{◌≡◌, ◌≢◌, ℕ, ◌+◌, ◌-◌, ◌<◌, ◌≤◌, ◌⊎◌, inl, inr, IfOk, List, [], ◌∷◌, ◌++◌, length}
 use Rattle.std.proofs.Common.{take, drop, Result, Ok, Err, arith, refl, sym, ap, ◌∙◌, subst, append_assoc}
 use Rattle.std.proofs.Common.{length-append}
@@ -79,9 +80,10 @@ nil_kept {U = U} {old = old} {new = new} {lv = lv} {d = d} k h =
       shallow = h.shallow;
     }
 
-others_kept : {U : Table} {old new : Levels} {around : List Level} {o p : Open} {os : List Open} {left : ℕ}
-    {kept : Definition} → AddsDefinition kept old new → p.fillings ≡ o.fillings → OthersAre U old around o os left
-    → OthersAre U new around p os left
+others_kept : {keep : Bool} {U : Table} {old new : Levels} {around : List Level} {o p : Open} {os : List Open}
+    {left : ℕ}
+    {kept : Definition} → AddsDefinition kept old new → p.fillings ≡ o.fillings → OthersAre keep U old around o os left
+    → OthersAre keep U new around p os left
 others_kept k f h = record {
   fillings = rw (k.fillings, f) h.fillings;
   outer = rw k.outer h.outer;
@@ -127,32 +129,36 @@ split_behind z a y piece used =
 numbered_from : {a b m n : ℕ} → a ≡ b → m ≡ n → numbered_as a m ≡ numbered_as b n
 numbered_from e f = cc
 
-pub held_description_goes : {L : Bounds} {d d' : Defined} {T : Table} {offset left depth : ℕ} {levels levels' : Levels}
+pub held_description_goes : {keep : Bool} {L : Bounds} {d d' : Defined} {T : Table} {offset left depth : ℕ}
+    {levels levels' : Levels}
     {z a y : List ℕ} {lv : Level} {around : List Level} {o : Open} {os : List Open} {id : TypeId} {rest : Extent}
     {part_taken : PartTaken} (taken : ℕ) (said : Described) (piece : List ℕ) → HasWireType (types d)
     → (p : Stands base_table L T offset z (types d) (lv ∷ around) (in_filling depth) left) → opens p ≡ o ∷ os
-    → LevelAtNil (types d) levels.innermost lv [] depth → OthersAre (types d) levels around o os left
+    → LevelAtNil (types d) levels.innermost lv [] depth → OthersAre keep (types d) levels around o os left
     → HeldIs levels.innermost.held o → Describing L (types d) id rest (offset + length z) lv.end a
     → EndsAt taken rest said → ReadsDescription d id L.depth rest y piece d' (Ok said)
     → HeldBehind levels levels' taken (length piece) said (Ok part_taken)
-    → PartSteps L T offset d (z ++ (a ++ y)) piece levels' d' (Ok part_taken)
-held_description_goes {L = L} {d = d} {d' = d'} {T = T} {offset = offset} {levels = levels} {levels' = levels'} {z = z}
+    → PartSteps keep L T offset d (z ++ (a ++ y)) piece levels' d' (Ok part_taken)
+held_description_goes {keep = keep} {L = L} {d = d} {d' = d'} {T = T} {offset = offset} {levels = levels}
+    {levels' = levels'} {z = z}
     {a = a} {y = y} {part_taken = part_taken} taken (described.More description) piece w p said nil others held h at
     (description_goes_on s b) k =
-    let now : PartHasRead L T offset (types d) levels (part.Description (record { description = description }))
+    let now : PartHasRead keep L T offset (types d) levels (part.Description (record { description = description }))
     (z ++ (a ++ (y ++ piece))) = in_held_description a (y ++ piece) p said nil others held (describes_on h b) in
     let there : z ++ (a ++ (y ++ piece)) ≡ (z ++ (a ++ y)) ++ take (length piece) piece =
     sym (ap (λ l. (z ++ (a ++ y)) ++ l) (take_whole piece (length piece) (omega arith)) ∙ spread z a y piece) in
     rw k.1 (part_goes_on {used = length piece} (ap (λ (d : Defined). d.most) s) (omega arith)
-    (subst (λ l. PartHasRead L T offset (types d') l (part.Description (record { description = description }))
+    (subst (λ l. PartHasRead keep L T offset (types d') l (part.Description (record { description = description }))
     ((z ++ (a ++ y)) ++ take (length piece) piece)) (sym k.0)
-    (subst (λ (d : Defined). PartHasRead L T offset (types d) levels
+    (subst (λ (d : Defined). PartHasRead keep L T offset (types d) levels
     (part.Description (record { description = description }))
     ((z ++ (a ++ y)) ++ take (length piece) piece)) (sym s)
-    (subst (λ z. PartHasRead L T offset (types d) levels (part.Description (record { description = description })) z)
+    (subst (λ z. PartHasRead keep L T offset (types d) levels
+    (part.Description (record { description = description })) z)
     there
     now))))
-held_description_goes {L = L} {d = d} {d' = d'} {T = T} {offset = offset} {levels = levels} {levels' = levels'} {z = z}
+held_description_goes {keep = keep} {L = L} {d = d} {d' = d'} {T = T} {offset = offset} {levels = levels}
+    {levels' = levels'} {z = z}
     {a = a} {y = y} {lv = lv} {around = around} {part_taken = part_taken} taken (described.Whole kept used) piece w p
     said nil others held h at (description_ends there given) k =
     let whole = whole_definition w h there given in
@@ -170,7 +176,7 @@ held_description_goes {L = L} {d = d} {d' = d'} {T = T} {offset = offset} {level
     let bytes : z ++ ((a ++ (y ++ take used piece)) ++ []) ≡ (z ++ (a ++ y)) ++ take used piece =
     ap (λ l. z ++ l) (append_nil (a ++ (y ++ take used piece))) ∙ sym (spread z a y (take used piece)) in
     rw comes.is (part_goes_on whole.most there.within
-    (subst (λ z. PartHasRead L T offset (types d') levels' (part.NextCount comes.stage) z) bytes
+    (subst (λ z. PartHasRead keep L T offset (types d') levels' (part.NextCount comes.stage) z) bytes
     (in_next_count [] p (said_more kept.id (view kept.described) said) whole.defined ends
     (nil_kept k.0 (nil_grown more nil))
     (others_kept k.0 refl (others_grown more others)) (held_kept kept k.0 held) number)))
@@ -187,16 +193,17 @@ nothing_left L left (k ∷ around) at q e l =
     rw none (rw (e) (outcome.RefusesInner.short (omega arith) (begins_prefix {bytes = []} tt)))
 
 -- no count can follow
-pub held_count_fails : {L : Bounds} {d d' : Defined} {T : Table} {offset left depth : ℕ} {levels levels' : Levels}
+pub held_count_fails : {keep : Bool} {L : Bounds} {d d' : Defined} {T : Table} {offset left depth : ℕ}
+    {levels levels' : Levels}
     {z a y : List ℕ} {lv : Level} {around : List Level} {o : Open} {os : List Open} {id : TypeId} {rest : Extent}
     (taken : ℕ) (said : Described) (piece : List ℕ) (f : Fault) → HasWireType (types d)
     → taken + used_of_described said < no_end
     → (p : Stands base_table L T offset z (types d) (lv ∷ around) (in_filling depth) left)
-    → OthersAre (types d) levels around o os left
+    → OthersAre keep (types d) levels around o os left
     → Describing L (types d) id rest (offset + length z) lv.end a
     → EndsAt taken rest said → ReadsDescription d id L.depth rest y piece d' (Ok said)
     → HeldBehind levels levels' taken (length piece) said (Err f)
-    → PartSteps L T offset d (z ++ (a ++ y)) piece levels' d' (Err f)
+    → PartSteps keep L T offset d (z ++ (a ++ y)) piece levels' d' (Err f)
 held_count_fails taken (described.More description) piece f w fits p others h at (description_goes_on s b) k = absurd k
 held_count_fails {L = L} {d = d} {d' = d'} {T = T} {offset = offset} {left = left} {levels' = levels'} {z = z} {a = a}
     {y = y}
@@ -224,22 +231,23 @@ held_count_fails taken (described.Whole kept used) piece fault.Failed w fits p o
 
 -- ---- where a reader stands in a description behind a name
 
-pub held_ready : {L : Bounds} {d : Defined} {at : ℕ} {levels : Levels} {description : DescriptionStage}
-    → IsInPut L d at levels (part.Description (record { description = description })) → ReadyToTake L d description
-held_ready w = ready w.known w.has_read
+pub held_ready : {keep : Bool} {L : Bounds} {d : Defined} {at : ℕ} {levels : Levels} {description : DescriptionStage}
+    → IsInPut keep L d at levels (part.Description (record { description = description })) → ReadyToTake L d description
+held_ready {keep = keep} w = ready w.known w.has_read
   where
     ready : {L : Bounds} {d : Defined} {T : Table} {offset : ℕ} {levels : Levels} {description : DescriptionStage}
         {z : List ℕ} → AreTypes L d
-        → PartHasRead L T offset (types d) levels (part.Description (record { description = description })) z
+        → PartHasRead keep L T offset (types d) levels (part.Description (record { description = description })) z
         → ReadyToTake L d description
     ready known (in_held_description a y p said nil others held h) =
         record { has_read = description_under_way h; admits = admitted known h.may }
 
 -- a description that fails is that of the segment behind the name
-pub held_stopped : {L : Bounds} {d d' : Defined} {T : Table} {offset left depth : ℕ} {lv : Level} {around : List Level}
+pub held_stopped : {keep : Bool} {L : Bounds} {d d' : Defined} {T : Table} {offset left depth : ℕ} {lv : Level}
+    {around : List Level}
     {z y piece : List ℕ} {f : Fault} (levels' : Levels) (w : List ℕ)
     → Stands base_table L T offset z (types d) (lv ∷ around) (in_filling depth) left → y ++ piece ≡ z ++ w
-    → DescriptionFault L d d' (offset + length z) lv.end w f → PartSteps L T offset d y piece levels' d' (Err f)
+    → DescriptionFault L d d' (offset + length z) lv.end w f → PartSteps keep L T offset d y piece levels' d' (Err f)
 held_stopped {L = L} {T = T} {offset = offset} {y = y} {piece = piece} levels' w p e
     (refused_there {R = R} s b n shown) =
     part_refused (subst (λ (d : Defined). RefusesWith L T offset (y ++ piece) R (types d)) (sym s)
@@ -248,28 +256,31 @@ held_stopped {L = L} {T = T} {offset = offset} {y = y} {piece = piece} levels' w
     no_memory_for_part (subst (λ (d : Defined). HasTypesWithin L T offset (y ++ piece) (types d)) (sym s)
     (within_value w p e))
 
-pub held_failed : {L : Bounds} {d d' : Defined} {T : Table} {offset : ℕ} {levels : Levels} {z : List ℕ} {f : Fault}
+pub held_failed : {keep : Bool} {L : Bounds} {d d' : Defined} {T : Table} {offset : ℕ} {levels : Levels}
+    {z : List ℕ} {f : Fault}
     (levels' : Levels) (description : DescriptionStage) (piece : List ℕ) → HasWireType (types d)
-    → PartHasRead L T offset (types d) levels (part.Description (record { description = description })) z
-    → ReadsSomewhere d description piece d' (Err f) → PartSteps L T offset d z piece levels' d' (Err f)
+    → PartHasRead keep L T offset (types d) levels (part.Description (record { description = description })) z
+    → ReadsSomewhere d description piece d' (Err f) → PartSteps keep L T offset d z piece levels' d' (Err f)
 held_failed {L = L} levels' description piece w (in_held_description {z = z} a y p said nil others held h) g =
     let room = h.read.viable.room in
     held_stopped levels' (a ++ (y ++ piece)) p (spread z a y piece)
     (description_fault piece w (describing h) (omega arith) (g L.depth y h.read.after))
 
-pub held_ends : {L : Bounds} {d d' : Defined} {T : Table} {offset : ℕ} {levels : Levels} {z : List ℕ} {said : Described}
+pub held_ends : {keep : Bool} {L : Bounds} {d d' : Defined} {T : Table} {offset : ℕ} {levels : Levels} {z : List ℕ}
+    {said : Described}
     (at : ℕ) (description : DescriptionStage) (piece : List ℕ) → at ≡ offset + length z
-    → PartHasRead L T offset (types d) levels (part.Description (record { description = description })) z
+    → PartHasRead keep L T offset (types d) levels (part.Description (record { description = description })) z
     → ReadsSomewhere d description piece d' (Ok said) → EndsAt at description.rest said
 held_ends {L = L} at description piece t (in_held_description {z = z} a y p said nil others held h) g =
     ends_at at piece (describing h) (omega (arith, length-append z (a ++ y))) (g L.depth y h.read.after)
 
-pub held_went : {L : Bounds} {d d' : Defined} {T : Table} {offset : ℕ} {levels : Levels} {z : List ℕ} {said : Described}
+pub held_went : {keep : Bool} {L : Bounds} {d d' : Defined} {T : Table} {offset : ℕ} {levels : Levels} {z : List ℕ}
+    {said : Described}
     (at : ℕ) (levels' : Levels) (description : DescriptionStage) (piece : List ℕ) (result : Result PartTaken Fault)
     → HasWireType (types d) → EndsAt at description.rest said → at + used_of_described said < no_end
-    → PartHasRead L T offset (types d) levels (part.Description (record { description = description })) z
+    → PartHasRead keep L T offset (types d) levels (part.Description (record { description = description })) z
     → ReadsSomewhere d description piece d' (Ok said) → HeldBehind levels levels' at (length piece) said result
-    → PartSteps L T offset d z piece levels' d' result
+    → PartSteps keep L T offset d z piece levels' d' result
 held_went {L = L} {said = said} at levels' description piece (Ok part_taken) w e fits
     (in_held_description a y p opened nil others held h) g k =
     held_description_goes at said piece w p opened nil others held (describing h) e (g L.depth y h.read.after) k
@@ -293,16 +304,16 @@ used_at : (at : ℕ) (rest : Extent) (said : Described) → EndsAt at rest said
 used_at at rest (described.More on) e = inl (omega arith)
 used_at at rest (described.Whole kept used) e = inr e
 
-pub held_fits : {L : Bounds} {d d' : Defined} {at : ℕ} {levels : Levels} (said : Described)
+pub held_fits : {keep : Bool} {L : Bounds} {d d' : Defined} {at : ℕ} {levels : Levels} (said : Described)
     (description : DescriptionStage)
     (piece : List ℕ) → L.stream ≤ greatest_stream
-    → IsInPut L d at levels (part.Description (record { description = description }))
+    → IsInPut keep L d at levels (part.Description (record { description = description }))
     → ReadsSomewhere d description piece d' (Ok said) → FitsAround levels (at + used_of_described said)
-held_fits {L = L} {d = d} {d' = d'} {at = at} {levels = levels} said description piece most w g =
+held_fits {keep = keep} {L = L} {d = d} {d' = d'} {at = at} {levels = levels} said description piece most w g =
     from w.has_read w.taken_is (held_ends at description piece w.taken_is w.has_read g)
   where
     from : {T : Table} {offset : ℕ} {z : List ℕ}
-        → PartHasRead L T offset (types d) levels (part.Description (record { description = description })) z
+        → PartHasRead keep L T offset (types d) levels (part.Description (record { description = description })) z
         → at ≡ offset + length z → EndsAt at description.rest said → FitsAround levels (at + used_of_described said)
     from (in_held_description {z = z} {around = around} a y p opened nil others held h) t e =
         let room = h.read.viable.room in let b = h.begins in let n = h.ends in let o = h.order in
@@ -313,10 +324,10 @@ held_fits {L = L} {d = d} {d' = d'} {at = at} {levels = levels} said description
           order = omega (arith, length-append z (a ++ y), length-append a y);
         }
 
-pub held_some : {L : Bounds} {d d' : Defined} {T : Table} {offset : ℕ} {levels : Levels} {z : List ℕ}
+pub held_some : {keep : Bool} {L : Bounds} {d d' : Defined} {T : Table} {offset : ℕ} {levels : Levels} {z : List ℕ}
     (levels' : Levels) (at : ℕ) (said : Described) (description : DescriptionStage) (piece : List ℕ)
     (result : Result PartTaken Fault)
-    → PartHasRead L T offset (types d) levels (part.Description (record { description = description })) z
+    → PartHasRead keep L T offset (types d) levels (part.Description (record { description = description })) z
     → ReadsSomewhere d description piece d' (Ok said) → HeldBehind levels levels' at (length piece) said result
     → 0 < length piece → IfOk result (λ taken. 0 < taken.used)
 held_some levels' at said description piece (Err f) h g k l = tt

@@ -1,4 +1,5 @@
 -- Taking the bytes of the count behind a concrete type, where the value that is held begins.
+use Rattle.std.proofs.Common.{Bool}
 use Rattle.std.proofs.Common.{◌≡◌, ◌≢◌, ℕ, pos, ◌+◌, ◌-◌, ◌≤◌, List, [], ◌∷◌, ◌++◌, length, take, drop, Some}
 use Rattle.std.proofs.Common.{Result, Ok, Err, arith, refl, sym, ap, ◌∙◌, subst, append_assoc, length-append}
 use Rattle.std.proofs.lemmas.List.{length-take}
@@ -50,24 +51,26 @@ use Rattle.gob_go.proofs.ValueSteps.{bytes_on}
 
 -- ---- where it stands
 
-pub inner_at_number : {L : Bounds} {d : Defined} {at : ℕ} {levels : Levels} {id : TypeId} {number : NumberStage}
-    → IsInPut L d at levels (part.InnerCount (record { id = id; number = number })) → AtNumber number at
-inner_at_number w = from w.has_read w.taken_is
+pub inner_at_number : {keep : Bool} {L : Bounds} {d : Defined} {at : ℕ} {levels : Levels} {id : TypeId}
+    {number : NumberStage}
+    → IsInPut keep L d at levels (part.InnerCount (record { id = id; number = number })) → AtNumber number at
+inner_at_number {keep = keep} w = from w.has_read w.taken_is
   where
     from : {L : Bounds} {T U : Table} {offset at : ℕ} {levels : Levels} {id : TypeId} {number : NumberStage}
         {z : List ℕ}
-        → PartHasRead L T offset U levels (part.InnerCount (record { id = id; number = number })) z
+        → PartHasRead keep L T offset U levels (part.InnerCount (record { id = id; number = number })) z
         → at ≡ offset + length z → AtNumber number at
     from (in_inner_count {z = z} {n = b} q p said may sg nil others held n) t =
         at_number n (omega (arith, length-append z (b ++ q), length-append z b, length-append b q))
 
 -- it ends where the stream may end, at the latest
-pub inner_bounded : {L : Bounds} {d : Defined} {at : ℕ} {levels : Levels} {id : TypeId} {number : NumberStage}
-    → IsInPut L d at levels (part.InnerCount (record { id = id; number = number })) → number.rest.end ≤ L.stream
-inner_bounded w = from w.has_read
+pub inner_bounded : {keep : Bool} {L : Bounds} {d : Defined} {at : ℕ} {levels : Levels} {id : TypeId}
+    {number : NumberStage}
+    → IsInPut keep L d at levels (part.InnerCount (record { id = id; number = number })) → number.rest.end ≤ L.stream
+inner_bounded {keep = keep} w = from w.has_read
   where
     from : {L : Bounds} {T U : Table} {offset : ℕ} {levels : Levels} {id : TypeId} {number : NumberStage} {z : List ℕ}
-        → PartHasRead L T offset U levels (part.InnerCount (record { id = id; number = number })) z
+        → PartHasRead keep L T offset U levels (part.InnerCount (record { id = id; number = number })) z
         → number.rest.end ≤ L.stream
     from {L = L} (in_inner_count {lv = lv} {around = around} q p said may sg nil others held n) =
         let most = within_stream L around lv _ (levels_nest p) in let ends = n.ends in omega arith
@@ -77,18 +80,19 @@ grouped z b q x = simp append_assoc
 
 -- ---- the count
 
-pub inner_more : {L : Bounds} {d : Defined} {T : Table} {offset : ℕ} {levels : Levels} {id : TypeId}
+pub inner_more : {keep : Bool} {L : Bounds} {d : Defined} {T : Table} {offset : ℕ} {levels : Levels} {id : TypeId}
     {old new : NumberStage} {z : List ℕ} (piece : List ℕ)
-    → PartHasRead L T offset (types d) levels (part.InnerCount (record { id = id; number = old })) z
+    → PartHasRead keep L T offset (types d) levels (part.InnerCount (record { id = id; number = old })) z
     → NumberAnswers old new piece (Ok taken.More) → new.rest ≡ old.rest
-    → PartSteps L T offset d z piece levels d
+    → PartSteps keep L T offset d z piece levels d
     (Ok (record { used = length piece; next = Some (part.InnerCount (record { id = id; number = new })) }))
-inner_more {L = L} {d = d} {T = T} {offset = offset} {levels = levels} {id = id} {new = new} piece
+inner_more {keep = keep} {L = L} {d = d} {T = T} {offset = offset} {levels = levels} {id = id} {new = new} piece
     (in_inner_count {z = z} {n = b} q p said may sg nil others held n) h r =
     let there : z ++ (b ++ (q ++ piece)) ≡ (z ++ (b ++ q)) ++ take (length piece) piece =
     sym (ap (λ p. (z ++ (b ++ q)) ++ p) (take_whole piece (length piece) (omega arith)) ∙ grouped z b q piece) in
     part_goes_on refl (omega arith)
-    (subst (λ z. PartHasRead L T offset (types d) levels (part.InnerCount (record { id = id; number = new })) z) there
+    (subst (λ z. PartHasRead keep L T offset (types d) levels (part.InnerCount (record { id = id; number = new }))
+    z) there
     (in_inner_count (q ++ piece) p said may sg nil others held (number_goes_on piece n h r)))
 
 -- what is there of the segment is the number of the type, and what is there of it behind that
@@ -110,35 +114,37 @@ counted_there {offset = offset} {z = z} {b = b} {lv = lv} {R = R} q p sg may l r
       shown = shown;
     }
 
-pub inner_stops : {L : Bounds} {d : Defined} {T : Table} {offset : ℕ} {levels : Levels} {id : TypeId}
+pub inner_stops : {keep : Bool} {L : Bounds} {d : Defined} {T : Table} {offset : ℕ} {levels : Levels} {id : TypeId}
     {old : NumberStage} {z : List ℕ} (levels' : Levels) (piece : List ℕ) (new : NumberStage) (f : Fault)
-    → PartHasRead L T offset (types d) levels (part.InnerCount (record { id = id; number = old })) z
-    → NumberAnswers old new piece (Err f) → PartSteps L T offset d z piece levels' d (Err f)
-inner_stops {L = L} {d = d} {T = T} {offset = offset} levels' piece new f
+    → PartHasRead keep L T offset (types d) levels (part.InnerCount (record { id = id; number = old })) z
+    → NumberAnswers old new piece (Err f) → PartSteps keep L T offset d z piece levels' d (Err f)
+inner_stops {keep = keep} {L = L} {d = d} {T = T} {offset = offset} levels' piece new f
     (in_inner_count {z = z} {n = b} {lv = lv} q p said may sg nil others held n) h =
     refused_by (fault_of_number piece new f n h)
   where
     refused_by : {f : Fault} → NumberFault (offset + length (z ++ b)) lv.end (q ++ piece) f
-        → PartSteps L T offset d (z ++ (b ++ q)) piece levels' d (Err f)
+        → PartSteps keep L T offset d (z ++ (b ++ q)) piece levels' d (Err f)
     refused_by (number_fault {R = R} r) =
         part_refused (subst (λ y. RefusesWith L T offset y R (types d)) (sym (grouped z b q piece))
         (counted_there (q ++ piece) p sg may (let room = n.room in omega arith) (inner_numbered r) (number_shown r)))
 
 -- the types stay those at hand
-pub inner_types : {L : Bounds} {T : Table} {offset : ℕ} {U : Table} {levels : Levels} {id : TypeId}
+pub inner_types : {keep : Bool} {L : Bounds} {T : Table} {offset : ℕ} {U : Table} {levels : Levels} {id : TypeId}
     {number : NumberStage} {z : List ℕ} (piece : List ℕ)
-    → PartHasRead L T offset U levels (part.InnerCount (record { id = id; number = number })) z
+    → PartHasRead keep L T offset U levels (part.InnerCount (record { id = id; number = number })) z
     → HasTypesWithin L T offset (z ++ piece) U
 inner_types piece (in_inner_count {z = z} {n = b} q p said may sg nil others held n) =
     within_value ((b ++ q) ++ piece) p (append_assoc z (b ++ q) piece)
 
 -- there is no room for the value
-pub inner_judged : {L : Bounds} {d : Defined} {T : Table} {offset at behind count used : ℕ} {levels : Levels}
+pub inner_judged : {keep : Bool} {L : Bounds} {d : Defined} {T : Table} {offset at behind count used : ℕ}
+    {levels : Levels}
     {id : TypeId} {old : NumberStage} {z : List ℕ} (levels' : Levels) (new : NumberStage) (piece : List ℕ) (f : Fault)
     → AtNumber old at
-    → PartHasRead L T offset (types d) levels (part.InnerCount (record { id = id; number = old })) z
+    → PartHasRead keep L T offset (types d) levels (part.InnerCount (record { id = id; number = old })) z
     → NumberIsWhole old piece count used → new.rest ≡ old.rest → behind ≡ at + used
-    → LiesWithin behind new.rest.end new.rest.begin count (Err f) → PartSteps L T offset d z piece levels' d (Err f)
+    → LiesWithin behind new.rest.end new.rest.begin count (Err f)
+    → PartSteps keep L T offset d z piece levels' d (Err f)
 inner_judged {L = L} {d = d} {T = T} {offset = offset} {behind = behind} {count = count} {used = used} levels' new piece
     (fault.Refused R) at (in_inner_count {z = z} {n = b} {lv = lv} q p said may sg nil others held n) h r bh lies =
     let w = number_is_whole n h in
@@ -183,24 +189,25 @@ nil_is_shallow {U = U} {lv = lv} {d = d} h = record {
   not_deep = let l = h.not_deep in let e = h.is.depth in omega arith;
 }
 
-pub inner_shallow : {L : Bounds} {d : Defined} {at : ℕ} {levels : Levels} {id : TypeId} {number : NumberStage}
-    → IsInPut L d at levels (part.InnerCount (record { id = id; number = number })) → NilIsShallow levels.innermost
-inner_shallow w = from w.has_read
+pub inner_shallow : {keep : Bool} {L : Bounds} {d : Defined} {at : ℕ} {levels : Levels} {id : TypeId}
+    {number : NumberStage}
+    → IsInPut keep L d at levels (part.InnerCount (record { id = id; number = number })) → NilIsShallow levels.innermost
+inner_shallow {keep = keep} w = from w.has_read
   where
     from : {L : Bounds} {T U : Table} {offset : ℕ} {levels : Levels} {id : TypeId} {number : NumberStage} {z : List ℕ}
-        → PartHasRead L T offset U levels (part.InnerCount (record { id = id; number = number })) z
+        → PartHasRead keep L T offset U levels (part.InnerCount (record { id = id; number = number })) z
         → NilIsShallow levels.innermost
     from (in_inner_count q p said may sg nil others held n) = nil_is_shallow nil
 
 -- what was the innermost value is the last of the outer ones
-opened : {U : Table} {old new : Levels} {lv : Level} {around : List Level} {o : Open} {os : List Open}
-    {left limit end announced d : ℕ} {id : TypeId} → OthersAre U old around o os left
+opened : {keep : Bool} {U : Table} {old new : Levels} {lv : Level} {around : List Level} {o : Open} {os : List Open}
+    {left limit end announced d : ℕ} {id : TypeId} → OthersAre keep U old around o os left
     → LevelAtNil U old.innermost lv [] d → HeldIs old.innermost.held o
     → new.outer.items ≡ old.outer.items ++ old.innermost ∷ [] → new.left ≡ old.left
-    → LevelIsNew id limit end announced new.innermost → OthersAre U new (lv ∷ around) nothing_said (o ∷ os) left
-opened {U = U} {lv = lv} {around = around} {o = o} {os = os} others nil held outer left new = record {
-  fillings = subst (λ fs. AreFillings U fs nothing_said.fillings) (sym new.fillings) no_fillings;
-  outer = subst (λ ls. AreOuter U ls (lv ∷ around) (o ∷ os)) (sym outer)
+    → LevelIsNew id limit end announced new.innermost → OthersAre keep U new (lv ∷ around) nothing_said (o ∷ os) left
+opened {keep = keep} {U = U} {lv = lv} {around = around} {o = o} {os = os} others nil held outer left new = record {
+  fillings = λ on. subst (λ fs. AreFillings U fs nothing_said.fillings) (sym new.fillings) no_fillings;
+  outer = subst (λ ls. AreOuter keep U ls (lv ∷ around) (o ∷ os)) (sym outer)
       (outer_then others.outer nil others.fillings held);
   left_is = left ∙ others.left_is;
 }
@@ -218,9 +225,9 @@ pub record HeldOpens (L : Bounds) (at behind used : ℕ) (old new : Levels) (id 
   pub fits : end ≤ number.rest.end
   pub opening : Opens old new id end (end - behind)
 
-pub held_opens : {L : Bounds} {d : Defined} {at behind count used : ℕ} {old new : Levels} {id : TypeId}
+pub held_opens : {keep : Bool} {L : Bounds} {d : Defined} {at behind count used : ℕ} {old new : Levels} {id : TypeId}
     {number : NumberStage} {piece : List ℕ} (after : NumberStage) → L.depth ≤ 65536
-    → IsInPut L d at old (part.InnerCount (record { id = id; number = number }))
+    → IsInPut keep L d at old (part.InnerCount (record { id = id; number = number }))
     → NumberIsWhole number piece count used → after.rest ≡ number.rest → behind ≡ at + used
     → behind + count ≤ after.rest.end → Opens old new id (behind + count) (behind + count - behind)
     → HeldOpens L at behind used old new id number piece
@@ -236,11 +243,12 @@ held_opens after deep w h r b fits opening = record {
   opening = opening;
 }
 
-pub value_held : {L : Bounds} {T : Table} {offset at behind used : ℕ} {old new : Levels} {id : TypeId}
+pub value_held : {keep : Bool} {L : Bounds} {T : Table} {offset at behind used : ℕ} {old new : Levels} {id : TypeId}
     {number : NumberStage} {z piece : List ℕ} (d : Defined) → HeldOpens L at behind used old new id number piece
-    → PartHasRead L T offset (types d) old (part.InnerCount (record { id = id; number = number })) z
-    → ValueHasRead L T offset (types d) new (z ++ take used piece)
-value_held {L = L} {T = T} {offset = offset} {behind = behind} {used = used} {old = old} {new = new} {id = id}
+    → PartHasRead keep L T offset (types d) old (part.InnerCount (record { id = id; number = number })) z
+    → ValueHasRead keep L T offset (types d) new (z ++ take used piece)
+value_held {keep = keep} {L = L} {T = T} {offset = offset} {behind = behind} {used = used} {old = old} {new = new}
+    {id = id}
     {piece = piece} d held (in_inner_count {z = z} {n = b} {lv = lv} {around = around} {left = left} {d = depth} q p
     said may sg nil others front n) =
     let w = number_is_whole n held.whole in
@@ -269,16 +277,16 @@ value_held {L = L} {T = T} {offset = offset} {behind = behind} {used = used} {ol
     at_inner p may sg w.spelled (omega arith) (omega arith) in
     let all : (z ++ (b ++ (q ++ x))) ++ [] ≡ (z ++ (b ++ q)) ++ x =
     append_nil (z ++ (b ++ (q ++ x))) ∙ sym (grouped z b q x) in
-    subst (λ y. ValueHasRead L T offset U new y) all
+    subst (λ y. ValueHasRead keep L T offset U new y) all
     (in_value_at [] now (ap (λ os. nothing_said ∷ os) said)
     (level_begins (omega arith) may (extends_itself d) inner
     (omega (arith, length-append (z ++ (b ++ (q ++ x))) [])))
     (opened others nil front opening.outer opening.left inner))
 
-pub held_in_value : {L : Bounds} {d : Defined} {at behind used : ℕ} {old new : Levels} {id : TypeId}
+pub held_in_value : {keep : Bool} {L : Bounds} {d : Defined} {at behind used : ℕ} {old new : Levels} {id : TypeId}
     {number : NumberStage} {piece : List ℕ} → HeldOpens L at behind used old new id number piece
-    → IsInPut L d at old (part.InnerCount (record { id = id; number = number })) → AreBytes piece
-    → IsInValue L d behind new
+    → IsInPut keep L d at old (part.InnerCount (record { id = id; number = number })) → AreBytes piece
+    → IsInValue keep L d behind new
 held_in_value {d = d} {used = used} {piece = piece} held w o =
     let within = held.whole.within in let taken = w.taken_is in let behind_is = held.behind_is in
     record {
@@ -294,38 +302,41 @@ held_in_value {d = d} {used = used} {piece = piece} held w o =
 
 -- ---- what that answers
 
-behind_count : {L : Bounds} {T : Table} {offset at behind used : ℕ} {d : Defined} {old new last : Levels} {id : TypeId}
+behind_count : {keep : Bool} {L : Bounds} {T : Table} {offset at behind used : ℕ} {d : Defined}
+    {old new last : Levels} {id : TypeId}
     {number : NumberStage} {z piece : List ℕ} {result : Result PartTaken Fault} (rest : List ℕ)
     → rest ≡ drop used piece → HeldOpens L at behind used old new id number piece
-    → ValueAnswers L d new last rest result
-    → PartHasRead L T offset (types d) old (part.InnerCount (record { id = id; number = number })) z
-    → AreBytes (z ++ piece) → PartSteps L T offset d (z ++ take used piece) (drop used piece) last d result
-behind_count {L = L} {T = T} {offset = offset} {used = used} {d = d} {last = last} {z = z} {piece = piece}
+    → ValueAnswers keep L d new last rest result
+    → PartHasRead keep L T offset (types d) old (part.InnerCount (record { id = id; number = number })) z
+    → AreBytes (z ++ piece) → PartSteps keep L T offset d (z ++ take used piece) (drop used piece) last d result
+behind_count {keep = keep} {L = L} {T = T} {offset = offset} {used = used} {d = d} {last = last} {z = z} {piece = piece}
     {result = result} rest e held v h o =
-    subst (λ rest. PartSteps L T offset d (z ++ take used piece) rest last d result) e
+    subst (λ rest. PartSteps keep L T offset d (z ++ take used piece) rest last d result) e
     (v.each T offset (z ++ take used piece) (value_held d held h) (bytes_on z piece used e o))
 
-pub held_goes : {L : Bounds} {T : Table} {offset at behind used : ℕ} {d : Defined} {old new last : Levels} {id : TypeId}
+pub held_goes : {keep : Bool} {L : Bounds} {T : Table} {offset at behind used : ℕ} {d : Defined}
+    {old new last : Levels} {id : TypeId}
     {number : NumberStage} {z piece : List ℕ} (taken : PartTaken) (rest : List ℕ) → rest ≡ drop used piece
-    → HeldOpens L at behind used old new id number piece → ValueAnswers L d new last rest (Ok taken)
-    → PartHasRead L T offset (types d) old (part.InnerCount (record { id = id; number = number })) z
+    → HeldOpens L at behind used old new id number piece → ValueAnswers keep L d new last rest (Ok taken)
+    → PartHasRead keep L T offset (types d) old (part.InnerCount (record { id = id; number = number })) z
     → AreBytes (z ++ piece)
-    → PartSteps L T offset d z piece last d (Ok (record { used = used + taken.used; next = taken.next }))
+    → PartSteps keep L T offset d z piece last d (Ok (record { used = used + taken.used; next = taken.next }))
 held_goes {used = used} taken rest e held v h o =
     part_behind used taken (behind_count rest e held v h o) held.whole.within
 
-pub held_fails : {L : Bounds} {T : Table} {offset at behind used : ℕ} {d : Defined} {old new last : Levels}
+pub held_fails : {keep : Bool} {L : Bounds} {T : Table} {offset at behind used : ℕ} {d : Defined}
+    {old new last : Levels}
     {id : TypeId} {number : NumberStage} {z piece : List ℕ} (f : Fault) (rest : List ℕ) → rest ≡ drop used piece
-    → HeldOpens L at behind used old new id number piece → ValueAnswers L d new last rest (Err f)
-    → PartHasRead L T offset (types d) old (part.InnerCount (record { id = id; number = number })) z
-    → AreBytes (z ++ piece) → PartSteps L T offset d z piece last d (Err f)
+    → HeldOpens L at behind used old new id number piece → ValueAnswers keep L d new last rest (Err f)
+    → PartHasRead keep L T offset (types d) old (part.InnerCount (record { id = id; number = number })) z
+    → AreBytes (z ++ piece) → PartSteps keep L T offset d z piece last d (Err f)
 held_fails {used = used} f rest e held v h o = part_stopped_behind used f (behind_count rest e held v h o)
 
 -- no more is taken than there is
-pub held_few : {L : Bounds} {at behind used : ℕ} {d : Defined} {old new last : Levels} {id : TypeId}
+pub held_few : {keep : Bool} {L : Bounds} {at behind used : ℕ} {d : Defined} {old new last : Levels} {id : TypeId}
     {number : NumberStage} {piece : List ℕ} (taken : PartTaken) (rest : List ℕ) → rest ≡ drop used piece
-    → HeldOpens L at behind used old new id number piece → ValueAnswers L d new last rest (Ok taken)
-    → IsInPut L d at old (part.InnerCount (record { id = id; number = number })) → AreBytes piece
+    → HeldOpens L at behind used old new id number piece → ValueAnswers keep L d new last rest (Ok taken)
+    → IsInPut keep L d at old (part.InnerCount (record { id = id; number = number })) → AreBytes piece
     → used + taken.used ≤ length piece
 held_few {piece = piece} taken rest e held v w o =
     part_few (held_goes taken rest e held v w.has_read (bytes-append w.bytes piece w.are_bytes o))

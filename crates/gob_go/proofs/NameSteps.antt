@@ -1,4 +1,5 @@
 -- The number of an interface, and the name behind it.
+use Rattle.std.proofs.Common.{Bool}
 use Rattle.std.proofs.Common.{◌≡◌, ℕ, ◌+◌, ◌-◌, ◌^◌, ◌<◌, ◌≤◌, min, inl, inr, List, [], ◌∷◌, ◌++◌, length, take}
 use Rattle.std.proofs.Common.{drop, Some, Ok, Err, arith, refl, sym, ap, ◌∙◌, subst, append_assoc, length-append}
 use Rattle.std.proofs.lemmas.Bool.{cases_lt}
@@ -52,15 +53,15 @@ use Rattle.gob_go.proofs.Refusals.{NoNumber, nothing_there}
 
 -- ---- where it stands
 
-pub length_at : {L : Bounds} {T : Table} {offset at : ℕ} {U : Table} {levels : Levels} {z : List ℕ}
-    {number : NumberStage} → PartHasRead L T offset U levels (part.NameLength (record { number = number })) z
+pub length_at : {keep : Bool} {L : Bounds} {T : Table} {offset at : ℕ} {U : Table} {levels : Levels} {z : List ℕ}
+    {number : NumberStage} → PartHasRead keep L T offset U levels (part.NameLength (record { number = number })) z
     → at ≡ offset + length z
     → AtNumber number at
 length_at (in_name_length {z = z} c a p said h k n place) e =
     at_number n (omega (arith, length-append z (c ++ a), length-append z c, length-append c a))
 
-pub length_ends : {L : Bounds} {T : Table} {offset : ℕ} {U : Table} {levels : Levels} {z : List ℕ}
-    {number : NumberStage} → PartHasRead L T offset U levels (part.NameLength (record { number = number })) z
+pub length_ends : {keep : Bool} {L : Bounds} {T : Table} {offset : ℕ} {U : Table} {levels : Levels} {z : List ℕ}
+    {number : NumberStage} → PartHasRead keep L T offset U levels (part.NameLength (record { number = number })) z
     → number.rest.end ≡ levels.innermost.end
 length_ends (in_name_length c a p said h k n place) = n.ends ∙ sym h.is.end
 
@@ -69,30 +70,31 @@ grouped z c a x = simp append_assoc
 
 -- ---- the number
 
-pub length_more : {L : Bounds} {T : Table} {offset : ℕ} {d : Defined} {levels : Levels} {z piece : List ℕ}
+pub length_more : {keep : Bool} {L : Bounds} {T : Table} {offset : ℕ} {d : Defined} {levels : Levels} {z piece : List ℕ}
     {number new : NumberStage}
-    → PartHasRead L T offset (types d) levels (part.NameLength (record { number = number })) z
+    → PartHasRead keep L T offset (types d) levels (part.NameLength (record { number = number })) z
     → NumberAnswers number new piece (Ok taken.More) → new.rest ≡ number.rest
-    → PartSteps L T offset d z piece levels d
+    → PartSteps keep L T offset d z piece levels d
     (Ok (record { used = length piece; next = Some (part.NameLength (record { number = new })) }))
-length_more {L = L} {T = T} {offset = offset} {d = d} {levels = levels} {piece = piece} {new = new}
+length_more {keep = keep} {L = L} {T = T} {offset = offset} {d = d} {levels = levels} {piece = piece} {new = new}
     (in_name_length {z = z} c a p said h k n place) r e =
     let all : take (length piece) piece ≡ piece = take_whole piece (length piece) (omega arith) in
     part_goes_on refl (omega arith)
-    (subst (λ y. PartHasRead L T offset (types d) levels (part.NameLength (record { number = new })) y)
+    (subst (λ y. PartHasRead keep L T offset (types d) levels (part.NameLength (record { number = new })) y)
     (grouped z c a piece ∙ ap (λ (x : List ℕ). (z ++ (c ++ a)) ++ x) (sym all))
     (in_name_length c (a ++ piece) p said h k (number_goes_on piece n r e) place))
 
 -- the interface is nil
-pub length_nil : {L : Bounds} {T : Table} {offset used : ℕ} {U : Table} {levels : Levels} {z piece : List ℕ}
-    {number : NumberStage} → PartHasRead L T offset U levels (part.NameLength (record { number = number })) z
-    → NumberIsWhole number piece 0 used → NilByteRead L T offset U levels (z ++ take used piece)
-length_nil {L = L} {T = T} {offset = offset} {used = used} {U = U} {levels = levels} {piece = piece}
+pub length_nil : {keep : Bool} {L : Bounds} {T : Table} {offset used : ℕ} {U : Table} {levels : Levels}
+    {z piece : List ℕ}
+    {number : NumberStage} → PartHasRead keep L T offset U levels (part.NameLength (record { number = number })) z
+    → NumberIsWhole number piece 0 used → NilByteRead keep L T offset U levels (z ++ take used piece)
+length_nil {keep = keep} {L = L} {T = T} {offset = offset} {used = used} {U = U} {levels = levels} {piece = piece}
     (in_name_length {z = z} c a p said h k n place) r =
     let w = number_is_whole n r in
     let zero : a ++ take used piece ≡ 0 ∷ [] = unsigned_unique w.spelled (unsigned.IsUnsigned.short (omega arith)) in
     let room = w.room in let within = w.within in
-    subst (λ y. NilByteRead L T offset U levels y)
+    subst (λ y. NilByteRead keep L T offset U levels y)
     (ap (λ (x : List ℕ). z ++ (c ++ x)) (sym zero) ∙ grouped z c a (take used piece))
     (nil_byte c p said h k (omega (
       arith,
@@ -154,27 +156,30 @@ at_nil_on e h = record {
   shallow = h.shallow;
 }
 
-others_stay : {U : Table} {levels levels' : Levels} {around : List Level} {o : Open} {os : List Open} {left : ℕ}
-    → HeldChanges levels levels' → OthersAre U levels around o os left → OthersAre U levels' around o os left
+others_stay : {keep : Bool} {U : Table} {levels levels' : Levels} {around : List Level} {o : Open} {os : List Open}
+    {left : ℕ}
+    → HeldChanges levels levels' → OthersAre keep U levels around o os left → OthersAre keep U levels' around o os left
 others_stay e k =
     record { fillings = rw e.fillings k.fillings; outer = rw e.outer k.outer; left_is = e.left ∙ k.left_is }
 
 -- or a name follows
-pub length_name : {L : Bounds} {T : Table} {offset at used left : ℕ} {d : Defined} {levels levels' : Levels}
+pub length_name : {keep : Bool} {L : Bounds} {T : Table} {offset at used left : ℕ} {d : Defined}
+    {levels levels' : Levels}
     {z piece : List ℕ} {number : NumberStage}
-    → PartHasRead L T offset (types d) levels (part.NameLength (record { number = number })) z
+    → PartHasRead keep L T offset (types d) levels (part.NameLength (record { number = number })) z
     → NumberIsWhole number piece left used → (left ≡ 0 → ⊥) → left < 2 ^ 64 → at ≡ offset + length z
     → at + used < levels.innermost.end → HeldChanges levels levels' → levels'.innermost.held.name.items ≡ []
     → levels'.innermost.held.definitions.items ≡ []
-    → PartSteps L T offset d z piece levels' d
+    → PartSteps keep L T offset d z piece levels' d
     (Ok (record { used = used; next = Some (part.Name (record { left = left })) }))
-length_name {L = L} {T = T} {offset = offset} {used = used} {left = left} {d = d} {levels' = levels'} {piece = piece}
+length_name {keep = keep} {L = L} {T = T} {offset = offset} {used = used} {left = left} {d = d} {levels' = levels'}
+    {piece = piece}
     (in_name_length {z = z} c a p said h k n place) r some fits e room change empty none =
     let w = number_is_whole n r in
     let x = take used piece in
     let within = w.within in let ends = h.is.end in
     part_goes_on refl w.within
-    (subst (λ y. PartHasRead L T offset (types d) levels' (part.Name (record { left = left })) y)
+    (subst (λ y. PartHasRead keep L T offset (types d) levels' (part.Name (record { left = left })) y)
     (ap (λ (y : List ℕ). z ++ (c ++ y)) (append_nil (a ++ x)) ∙ grouped z c a x)
     (in_name c (a ++ x) [] p said (at_nil_on change h) (others_stay change k) place w.spelled (omega arith)
     (omega arith) fits empty none
@@ -207,11 +212,12 @@ name_ends {offset = offset} {lv = lv} {z = z} {c = c} {a = a} r y p h u few e =
       shown = λ e. cc;
     }
 
-pub length_short : {L : Bounds} {T : Table} {offset at used left : ℕ} {d : Defined} {levels levels' : Levels}
+pub length_short : {keep : Bool} {L : Bounds} {T : Table} {offset at used left : ℕ} {d : Defined}
+    {levels levels' : Levels}
     {z piece : List ℕ} {number : NumberStage} (f : Fault)
-    → PartHasRead L T offset (types d) levels (part.NameLength (record { number = number })) z
+    → PartHasRead keep L T offset (types d) levels (part.NameLength (record { number = number })) z
     → NumberIsWhole number piece left used → (left ≡ 0 → ⊥) → at ≡ offset + length z
-    → GoesOn (at + used) levels.innermost.end (Err f) → PartSteps L T offset d z piece levels' d (Err f)
+    → GoesOn (at + used) levels.innermost.end (Err f) → PartSteps keep L T offset d z piece levels' d (Err f)
 length_short {L = L} {T = T} {offset = offset} {used = used} {left = left} {d = d} {piece = piece} (fault.Refused R)
     (in_name_length {z = z} {lv = lv} c a p said h k n place) r some e g =
     let w = number_is_whole n r in
@@ -265,11 +271,12 @@ number_refused {offset = offset} {lv = lv} {z = z} c w p h place l (short b q) =
 regroup : (z c a x : List ℕ) → (z ++ c) ++ (a ++ x) ≡ (z ++ (c ++ a)) ++ x
 regroup z c a x = simp append_assoc
 
-pub length_stops : {L : Bounds} {T : Table} {offset : ℕ} {d : Defined} {z piece : List ℕ} {number : NumberStage}
+pub length_stops : {keep : Bool} {L : Bounds} {T : Table} {offset : ℕ} {d : Defined} {z piece : List ℕ}
+    {number : NumberStage}
     (levels levels' : Levels) (new : NumberStage) (f : Fault)
-    → PartHasRead L T offset (types d) levels (part.NameLength (record { number = number })) z
-    → NumberAnswers number new piece (Err f) → PartSteps L T offset d z piece levels' d (Err f)
-length_stops {L = L} {T = T} {offset = offset} {d = d} {piece = piece} levels levels' new f
+    → PartHasRead keep L T offset (types d) levels (part.NameLength (record { number = number })) z
+    → NumberAnswers number new piece (Err f) → PartSteps keep L T offset d z piece levels' d (Err f)
+length_stops {keep = keep} {L = L} {T = T} {offset = offset} {d = d} {piece = piece} levels levels' new f
     (in_name_length {z = z} {lv = lv} c a p said h k n place) r =
     refused_there c a p h place (omega (arith, n.room)) (fault_of_number piece new f n r)
   where
@@ -278,13 +285,13 @@ length_stops {L = L} {T = T} {offset = offset} {d = d} {piece = piece} levels le
         → (h : LevelAtNil (types d) levels.innermost lv c e)
         → offset + length (z ++ c) + h.announced ≡ length (lv.done ++ c) + lv.end → offset + length (z ++ c) ≤ lv.end
         → NumberFault (offset + length (z ++ c)) lv.end (a ++ piece) f
-        → PartSteps L T offset d (z ++ (c ++ a)) piece levels' d (Err f)
+        → PartSteps keep L T offset d (z ++ (c ++ a)) piece levels' d (Err f)
     refused_there {z = z} c a p h place l (number_fault {R = R} q) =
         part_refused (subst (λ y. RefusesWith L T offset y R (types d)) (regroup z c a piece)
         (number_refused c (a ++ piece) p h place l q))
 
-pub length_bounded : {L : Bounds} {T : Table} {offset : ℕ} {U : Table} {levels : Levels} {z : List ℕ}
-    {number : NumberStage} → PartHasRead L T offset U levels (part.NameLength (record { number = number })) z
+pub length_bounded : {keep : Bool} {L : Bounds} {T : Table} {offset : ℕ} {U : Table} {levels : Levels} {z : List ℕ}
+    {number : NumberStage} → PartHasRead keep L T offset U levels (part.NameLength (record { number = number })) z
     → number.rest.end ≤ L.stream
 length_bounded {L = L} (in_name_length {lv = lv} {around = around} c a p said h k n place) =
     let w = within_stream L around lv _ (levels_nest p) in let e = n.ends in omega arith
@@ -294,16 +301,16 @@ pub whole_as : {number : NumberStage} {piece : List ℕ} {n m used : ℕ} → Nu
 whole_as {number = number} {piece = piece} {used = used} h e = subst (λ n. NumberIsWhole number piece n used) e h
 
 -- the types stay those at hand
-pub length_types : {L : Bounds} {T : Table} {offset : ℕ} {U : Table} {levels : Levels} {z : List ℕ}
+pub length_types : {keep : Bool} {L : Bounds} {T : Table} {offset : ℕ} {U : Table} {levels : Levels} {z : List ℕ}
     {number : NumberStage} (piece : List ℕ)
-    → PartHasRead L T offset U levels (part.NameLength (record { number = number })) z
+    → PartHasRead keep L T offset U levels (part.NameLength (record { number = number })) z
     → HasTypesWithin L T offset (z ++ piece) U
 length_types piece (in_name_length {z = z} c a p said h k n place) =
     within_value ((c ++ a) ++ piece) p (append_assoc z (c ++ a) piece)
 
-pub length_place : {L : Bounds} {T : Table} {offset at : ℕ} {U : Table} {levels : Levels} {z : List ℕ}
+pub length_place : {keep : Bool} {L : Bounds} {T : Table} {offset at : ℕ} {U : Table} {levels : Levels} {z : List ℕ}
     {number : NumberStage} → AtNumber number at
-    → PartHasRead L T offset U levels (part.NameLength (record { number = number })) z → at ≡ offset + length z
+    → PartHasRead keep L T offset U levels (part.NameLength (record { number = number })) z → at ≡ offset + length z
 length_place at (in_name_length {z = z} c a p said h k n place) =
     let t = at.taken_is in let b = n.begins in
     omega (arith, ap length n.bytes, length-append z (c ++ a), length-append z c, length-append c a)
@@ -324,21 +331,22 @@ pub record AtName (L : Bounds) (levels : Levels) (at left : ℕ) : Type 0 where
   pub room : at < levels.innermost.end
   pub ends : levels.innermost.end ≤ L.stream
 
-pub name_at : {L : Bounds} {d : Defined} {at left : ℕ} {levels : Levels}
-    → IsInPut L d at levels (part.Name (record { left = left })) → AtName L levels at left
-name_at {L = L} {d = d} {at = at} {left = left} {levels = levels} w = from w.has_read w.taken_is
+pub name_at : {keep : Bool} {L : Bounds} {d : Defined} {at left : ℕ} {levels : Levels}
+    → IsInPut keep L d at levels (part.Name (record { left = left })) → AtName L levels at left
+name_at {keep = keep} {L = L} {d = d} {at = at} {left = left} {levels = levels} w = from w.has_read w.taken_is
   where
     from : {T : Table} {offset : ℕ} {z : List ℕ}
-        → PartHasRead L T offset (types d) levels (part.Name (record { left = left })) z → at ≡ offset + length z
+        → PartHasRead keep L T offset (types d) levels (part.Name (record { left = left })) z → at ≡ offset + length z
         → AtName L levels at left
     from (in_name {lv = lv} {around = around} c a s p said h k place u size some fits name none room) e =
         let ends = h.is.end in let most = within_stream L around lv _ (levels_nest p) in
         record { some = some; room = omega arith; ends = omega arith }
 
 -- the bytes that were taken of the stream are those before
-pub name_place : {L : Bounds} {d : Defined} {T : Table} {offset at left : ℕ} {levels : Levels} {z : List ℕ}
-    → IsInPut L d at levels (part.Name (record { left = left }))
-    → PartHasRead L T offset (types d) levels (part.Name (record { left = left })) z → at ≡ offset + length z
+pub name_place : {keep : Bool} {L : Bounds} {d : Defined} {T : Table} {offset at left : ℕ} {levels : Levels}
+    {z : List ℕ}
+    → IsInPut keep L d at levels (part.Name (record { left = left }))
+    → PartHasRead keep L T offset (types d) levels (part.Name (record { left = left })) z → at ≡ offset + length z
 name_place w h = w.taken_is ∙ same_place w.has_read h
 
 -- of which so many bytes of the piece are
@@ -382,18 +390,19 @@ spread_length : (z c a s x : List ℕ)
 spread_length z c a s x = ap length (spread z c a s x) ∙ length-append (z ++ (c ++ (a ++ s))) x
 
 -- more of it is to come
-pub name_more : {L : Bounds} {T : Table} {offset at used left : ℕ} {d : Defined} {levels levels' : Levels}
-    {z piece : List ℕ} → PartHasRead L T offset (types d) levels (part.Name (record { left = left })) z
+pub name_more : {keep : Bool} {L : Bounds} {T : Table} {offset at used left : ℕ} {d : Defined} {levels levels' : Levels}
+    {z piece : List ℕ} → PartHasRead keep L T offset (types d) levels (part.Name (record { left = left })) z
     → NameTakes levels at left used piece → at ≡ offset + length z → NameChanges levels levels' (take used piece)
     → at + used < levels'.innermost.end → 0 < left - used
-    → PartSteps L T offset d z piece levels' d
+    → PartSteps keep L T offset d z piece levels' d
     (Ok (record { used = used; next = Some (part.Name (record { left = left - used })) }))
-name_more {L = L} {T = T} {offset = offset} {used = used} {left = left} {d = d} {levels' = levels'} {piece = piece}
+name_more {keep = keep} {L = L} {T = T} {offset = offset} {used = used} {left = left} {d = d} {levels' = levels'}
+    {piece = piece}
     (in_name {z = z} c a s p said h k place u size some fits name none room) t e change on to_come =
     let x = take used piece in let within = t.within in
     let ends = change.others.end in let end = h.is.end in
     part_goes_on refl t.within
-    (subst (λ y. PartHasRead L T offset (types d) levels' (part.Name (record { left = left - used })) y)
+    (subst (λ y. PartHasRead keep L T offset (types d) levels' (part.Name (record { left = left - used })) y)
     (spread z c a s x)
     (in_name c a (s ++ x) p said (at_nil_on change.others h) (others_stay change.others k) place u
     (omega (arith, length-append s x, length-take used piece)) to_come fits
@@ -401,7 +410,8 @@ name_more {L = L} {T = T} {offset = offset} {used = used} {left = left} {d = d} 
     (omega (arith, spread_length z c a s x, length-take used piece))))
 
 -- the name is whole
-record NameIsWhole (L : Bounds) (T : Table) (offset : ℕ) (U : Table) (levels : Levels) (z : List ℕ) : Type 0 where
+record NameIsWhole (keep : Bool) (L : Bounds) (T : Table) (offset : ℕ) (U : Table) (levels : Levels) (z : List ℕ) :
+    Type 0 where
   pub level : Level
   pub around : List Level
   pub left : ℕ
@@ -411,7 +421,7 @@ record NameIsWhole (L : Bounds) (T : Table) (offset : ℕ) (U : Table) (levels :
   pub stands : Stands base_table L T offset z U (level ∷ around) (in_filling nil_depth) left
   pub said : opens stands ≡ innermost ∷ outer
   pub at_nil : LevelAtNil U levels.innermost level [] nil_depth
-  pub others : OthersAre U levels around innermost outer left
+  pub others : OthersAre keep U levels around innermost outer left
   pub held : HeldIs levels.innermost.held innermost
   pub ends : levels.innermost.end ≡ level.end
 
@@ -438,17 +448,18 @@ up_to_nil {U = U} {l = l} {lv = lv} {c = c} {d = d} h =
       shallow = subst (λ y. IsShallow lv.table lv.type lv.limit y) same h.shallow;
     }
 
-name_is_whole : {L : Bounds} {T : Table} {offset at used left : ℕ} {U : Table} {levels levels' : Levels}
-    {z piece : List ℕ} → PartHasRead L T offset U levels (part.Name (record { left = left })) z
+name_is_whole : {keep : Bool} {L : Bounds} {T : Table} {offset at used left : ℕ} {U : Table} {levels levels' : Levels}
+    {z piece : List ℕ} → PartHasRead keep L T offset U levels (part.Name (record { left = left })) z
     → NameTakes levels at left used piece → at ≡ offset + length z → NameChanges levels levels' (take used piece)
-    → left - used ≡ 0 → NameIsWhole L T offset U levels' (z ++ take used piece)
-name_is_whole {L = L} {T = T} {offset = offset} {used = used} {left = left} {U = U} {levels' = levels'} {piece = piece}
+    → left - used ≡ 0 → NameIsWhole keep L T offset U levels' (z ++ take used piece)
+name_is_whole {keep = keep} {L = L} {T = T} {offset = offset} {used = used} {left = left} {U = U}
+    {levels' = levels'} {piece = piece}
     (in_name {z = z} {lv = lv} {n = n} c a s p said h k place u size some fits name none room) t e change whole =
     let x = take used piece in
     let within = t.within in let few = t.few in let fit = t.room in let end = h.is.end in
     let long : n ≡ length (s ++ x) = omega (arith, length-append s x, length-take used piece) in
     let stays = others_stay change.others k in
-    subst (λ y. NameIsWhole L T offset U levels' y) (spread z c a s x) (record {
+    subst (λ y. NameIsWhole keep L T offset U levels' y) (spread z c a s x) (record {
       level = record lv { done = lv.done ++ c };
       around = _;
       left = _;
@@ -475,22 +486,24 @@ numbered_from : {a b m n : ℕ} → a ≡ b → m ≡ n → numbered a m ≡ num
 numbered_from e f = cc
 
 -- and the number behind it comes next
-pub name_whole : {L : Bounds} {T : Table} {offset at behind used left : ℕ} {d : Defined} {levels levels' : Levels}
+pub name_whole : {keep : Bool} {L : Bounds} {T : Table} {offset at behind used left : ℕ} {d : Defined}
+    {levels levels' : Levels}
     {z piece : List ℕ} {number : NumberStage}
-    → PartHasRead L T offset (types d) levels (part.Name (record { left = left })) z
+    → PartHasRead keep L T offset (types d) levels (part.Name (record { left = left })) z
     → NameTakes levels at left used piece → at ≡ offset + length z → NameChanges levels levels' (take used piece)
     → left - used ≡ 0 → behind ≡ at + used → behind < levels'.innermost.end
     → number ≡ record { rest = record { begin = behind; end = levels'.innermost.end }; number = [] }
-    → PartSteps L T offset d z piece levels' d
+    → PartSteps keep L T offset d z piece levels' d
     (Ok (record { used = used; next = Some (part.TypeNumber (record { number = number })) }))
-name_whole {L = L} {T = T} {offset = offset} {behind = behind} {used = used} {d = d} {levels' = levels'} {z = z}
+name_whole {keep = keep} {L = L} {T = T} {offset = offset} {behind = behind} {used = used} {d = d}
+    {levels' = levels'} {z = z}
     {piece = piece} {number = number} h t e change whole b on n =
     let w = name_is_whole h t e change whole in
     let within = t.within in let ends = w.ends in
     let here : behind ≡ offset + length (z ++ take used piece) =
     omega (arith, length-append z (take used piece), length-take used piece) in
     part_goes_on refl t.within
-    (subst (λ y. PartHasRead L T offset (types d) levels' (part.TypeNumber (record { number = number })) y)
+    (subst (λ y. PartHasRead keep L T offset (types d) levels' (part.TypeNumber (record { number = number })) y)
     (append_nil (z ++ take used piece))
     (in_held_number [] w.stands w.said w.at_nil w.others w.held
     (number_begins (n ∙ numbered_from here w.ends) (omega arith))))
@@ -506,8 +519,8 @@ nothing_in {L = L} {T = T} at =
     (refusing.RefusesBody.short refl (begins_prefix {bytes = []} tt))
 
 -- the segment ends with the name
-whole_ends : {L : Bounds} {T : Table} {offset : ℕ} {U : Table} {levels : Levels} {z : List ℕ} (y : List ℕ)
-    → (w : NameIsWhole L T offset U levels z) → offset + length z ≡ levels.innermost.end
+whole_ends : {keep : Bool} {L : Bounds} {T : Table} {offset : ℕ} {U : Table} {levels : Levels} {z : List ℕ} (y : List ℕ)
+    → (w : NameIsWhole keep L T offset U levels z) → offset + length z ≡ levels.innermost.end
     → RefusesWith L T offset (z ++ y) (refuses levels.innermost.end levels.innermost.end reason.Short) U
 whole_ends {L = L} {T = T} {offset = offset} {U = U} {z = z} y w e =
     let ends = w.ends in
@@ -521,8 +534,8 @@ whole_ends {L = L} {T = T} {offset = offset} {U = U} {z = z} y w e =
     (held_refused y w.stands refl refused nothing (λ e. cc))
 
 -- or within it
-part_ends : {L : Bounds} {T : Table} {offset at used left : ℕ} {U : Table} {levels : Levels} {z : List ℕ}
-    (piece : List ℕ) → PartHasRead L T offset U levels (part.Name (record { left = left })) z
+part_ends : {keep : Bool} {L : Bounds} {T : Table} {offset at used left : ℕ} {U : Table} {levels : Levels} {z : List ℕ}
+    (piece : List ℕ) → PartHasRead keep L T offset U levels (part.Name (record { left = left })) z
     → NameTakes levels at left used piece → at ≡ offset + length z → at + used ≡ levels.innermost.end
     → 0 < left - used
     → RefusesWith L T offset ((z ++ take used piece) ++ drop used piece)
@@ -537,12 +550,13 @@ part_ends {L = L} {T = T} {offset = offset} {used = used} {U = U} {levels = leve
     (subst (λ y. RefusesWith L T offset (y ++ drop used piece) (refuses lv.end lv.end reason.Short) U)
     (spread z c a s x) short)
 
-pub name_short : {L : Bounds} {T : Table} {offset at behind used left : ℕ} {d : Defined} {levels levels' : Levels}
+pub name_short : {keep : Bool} {L : Bounds} {T : Table} {offset at behind used left : ℕ} {d : Defined}
+    {levels levels' : Levels}
     {z piece : List ℕ} (f : Fault)
-    → PartHasRead L T offset (types d) levels (part.Name (record { left = left })) z
+    → PartHasRead keep L T offset (types d) levels (part.Name (record { left = left })) z
     → NameTakes levels at left used piece → at ≡ offset + length z → NameChanges levels levels' (take used piece)
     → behind ≡ at + used → GoesOn behind levels'.innermost.end (Err f)
-    → PartSteps L T offset d z piece levels' d (Err f)
+    → PartSteps keep L T offset d z piece levels' d (Err f)
 name_short {L = L} {T = T} {offset = offset} {behind = behind} {used = used} {left = left} {d = d} {levels = levels}
     {levels' = levels'} {z = z} {piece = piece} (fault.Refused R) h t e change b g =
     let ends = change.others.end in let stops = g.0 in let within = t.within in
@@ -562,7 +576,9 @@ name_short fault.Memory h t e change b g = absurd g
 name_short fault.Failed h t e change b g = absurd g
 
 -- the types stay those at hand
-pub name_types : {L : Bounds} {T : Table} {offset left : ℕ} {U : Table} {levels : Levels} {z : List ℕ} (piece : List ℕ)
-    → PartHasRead L T offset U levels (part.Name (record { left = left })) z → HasTypesWithin L T offset (z ++ piece) U
+pub name_types : {keep : Bool} {L : Bounds} {T : Table} {offset left : ℕ} {U : Table} {levels : Levels} {z : List ℕ}
+    (piece : List ℕ)
+    → PartHasRead keep L T offset U levels (part.Name (record { left = left })) z
+    → HasTypesWithin L T offset (z ++ piece) U
 name_types piece (in_name {z = z} c a s p said h k place u size some fits name none room) =
     within_value ((c ++ (a ++ s)) ++ piece) p (append_assoc z (c ++ (a ++ s)) piece)

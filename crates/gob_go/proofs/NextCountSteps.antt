@@ -1,4 +1,5 @@
 -- Taking the bytes of the count of the segment behind a definition.
+use Rattle.std.proofs.Common.{Bool}
 use Rattle.std.proofs.Common.{◌≡◌, ◌≢◌, ℕ, suc, ◌+◌, ◌-◌, ◌<◌, ◌≤◌, List, [], ◌∷◌, ◌++◌, length}
 use Rattle.std.proofs.Common.{take, drop, Some, None, Ok, Err, arith, refl, sym, ap, ◌∙◌, subst, append_assoc}
 use Rattle.std.proofs.Common.{length-append}
@@ -57,8 +58,8 @@ last_of [] l = refl
 last_of (k ∷ []) l = refl
 last_of (k ∷ (m ∷ outer)) l = last_of (m ∷ outer) l
 
-pub same_end : {U : Table} {outer : List declared.Level} {around : List Level} {os : List Open}
-    → AreOuter U outer around os → last_end outer ≡ end_around around
+pub same_end : {keep : Bool} {U : Table} {outer : List declared.Level} {around : List Level} {os : List Open}
+    → AreOuter keep U outer around os → last_end outer ≡ end_around around
 same_end none_outer = refl
 same_end (outer_then {l = l} {outer = outer} a h f k) = last_of outer l ∙ h.is.end
 
@@ -70,43 +71,44 @@ not_empty : (outer : List declared.Level) (l : declared.Level) → outer ++ l �
 not_empty [] l e = cc
 not_empty (k ∷ outer) l e = cc
 
-is_alone : {U : Table} {outer : List declared.Level} {around : List Level} {os : List Open}
-    → AreOuter U outer around os → outer ≡ [] → IsAlone around
+is_alone : {keep : Bool} {U : Table} {outer : List declared.Level} {around : List Level} {os : List Open}
+    → AreOuter keep U outer around os → outer ≡ [] → IsAlone around
 is_alone none_outer e = alone
 is_alone (outer_then {l = l} {outer = outer} a h f k) e = absurd (not_empty outer l e)
 
 data HasAround : List Level → Type 0 where
   has_around : {lv : Level} {around : List Level} → HasAround (lv ∷ around)
 
-is_within : {U : Table} {outer : List declared.Level} {around : List Level} {os : List Open}
-    → AreOuter U outer around os → outer ≢ [] → HasAround around
+is_within : {keep : Bool} {U : Table} {outer : List declared.Level} {around : List Level} {os : List Open}
+    → AreOuter keep U outer around os → outer ≢ [] → HasAround around
 is_within none_outer n = absurd (n refl)
 is_within (outer_then a h f k) n = has_around
 
 -- ---- the count
 
-pub next_at_number : {L : Bounds} {d : Defined} {at : ℕ} {levels : Levels} {number : NumberStage}
-    → IsInPut L d at levels (part.NextCount (record { number = number })) → AtNumber number at
-next_at_number w = from w.has_read w.taken_is
+pub next_at_number : {keep : Bool} {L : Bounds} {d : Defined} {at : ℕ} {levels : Levels} {number : NumberStage}
+    → IsInPut keep L d at levels (part.NextCount (record { number = number })) → AtNumber number at
+next_at_number {keep = keep} w = from w.has_read w.taken_is
   where
     from : {L : Bounds} {T U : Table} {offset at : ℕ} {levels : Levels} {number : NumberStage} {z : List ℕ}
-        → PartHasRead L T offset U levels (part.NextCount (record { number = number })) z → at ≡ offset + length z
+        → PartHasRead keep L T offset U levels (part.NextCount (record { number = number })) z → at ≡ offset + length z
         → AtNumber number at
     from (in_next_count {z = z} {b = b} q p said def_ e nil others held n) t =
         at_number n (omega (arith, length-append z (b ++ q), length-append z b, length-append b q))
 
-pub next_more : {L : Bounds} {d : Defined} {T : Table} {offset : ℕ} {levels : Levels} {old new : NumberStage}
+pub next_more : {keep : Bool} {L : Bounds} {d : Defined} {T : Table} {offset : ℕ} {levels : Levels}
+    {old new : NumberStage}
     {z : List ℕ}
-    (piece : List ℕ) → PartHasRead L T offset (types d) levels (part.NextCount (record { number = old })) z
+    (piece : List ℕ) → PartHasRead keep L T offset (types d) levels (part.NextCount (record { number = old })) z
     → NumberAnswers old new piece (Ok taken.More) → new.rest ≡ old.rest
-    → PartSteps L T offset d z piece levels d
+    → PartSteps keep L T offset d z piece levels d
     (Ok (record { used = length piece; next = Some (part.NextCount (record { number = new })) }))
-next_more {L = L} {d = d} {T = T} {offset = offset} {levels = levels} {new = new} piece
+next_more {keep = keep} {L = L} {d = d} {T = T} {offset = offset} {levels = levels} {new = new} piece
     (in_next_count {z = z} {b = b} q p said def_ e nil others held n) h r =
     let there : z ++ (b ++ (q ++ piece)) ≡ (z ++ (b ++ q)) ++ take (length piece) piece =
     sym (ap (λ p. (z ++ (b ++ q)) ++ p) (take_whole piece (length piece) (omega arith)) ∙ grouped z b q piece) in
     part_goes_on refl (omega arith)
-    (subst (λ z. PartHasRead L T offset (types d) levels (part.NextCount (record { number = new })) z) there
+    (subst (λ z. PartHasRead keep L T offset (types d) levels (part.NextCount (record { number = new })) z) there
     (in_next_count (q ++ piece) p said def_ e nil others held (number_goes_on piece n h r)))
   where
     grouped : (z b q x : List ℕ) → (z ++ (b ++ q)) ++ x ≡ z ++ (b ++ (q ++ x))
@@ -145,16 +147,17 @@ pub open_ends : {L : Bounds} {T U : Table} {offset left depth : ℕ} {z : List �
     → Stands base_table L T offset z U (lv ∷ around) (in_filling depth) left → lv.end ≤ L.stream
 open_ends {offset = offset} {z = z} {around = around} p = nested_within around (offset + length z) (levels_nest p)
 
-pub next_stops : {L : Bounds} {d : Defined} {T : Table} {offset : ℕ} {levels levels' : Levels} {old : NumberStage}
+pub next_stops : {keep : Bool} {L : Bounds} {d : Defined} {T : Table} {offset : ℕ} {levels levels' : Levels}
+    {old : NumberStage}
     {z : List ℕ} (piece : List ℕ) (new : NumberStage) (f : Fault) → L.stream ≤ greatest_stream
-    → PartHasRead L T offset (types d) levels (part.NextCount (record { number = old })) z
-    → NumberAnswers old new piece (Err f) → PartSteps L T offset d z piece levels' d (Err f)
-next_stops {L = L} {d = d} {T = T} {offset = offset} {levels' = levels'} piece new f most
+    → PartHasRead keep L T offset (types d) levels (part.NextCount (record { number = old })) z
+    → NumberAnswers old new piece (Err f) → PartSteps keep L T offset d z piece levels' d (Err f)
+next_stops {keep = keep} {L = L} {d = d} {T = T} {offset = offset} {levels' = levels'} piece new f most
     (in_next_count {z = z} {b = b} {lv = lv} {around = around} {left = left} q p said def_ e nil others held n) h =
     refused_by (fault_of_number piece new f n h)
   where
     refused_by : {f : Fault} → NumberFault lv.end (end_around around) (q ++ piece) f
-        → PartSteps L T offset d (z ++ (b ++ q)) piece levels' d (Err f)
+        → PartSteps keep L T offset d (z ++ (b ++ q)) piece levels' d (Err f)
     refused_by (number_fault r) = part_refused (next_refused (q ++ piece) p def_ e (spread z b q piece)
         (numbered L left around (q ++ piece) (let l = open_ends p in omega arith) r) (number_shown r))
 
@@ -204,19 +207,21 @@ count_is {used = used} {q = q} new piece n t h r b =
     }
 
 -- what a segment that begins is for the levels
-record SegmentBegins (L : Bounds) (U : Table) (old new : Levels) (lv : Level) (around : List Level) (left : ℕ)
+record SegmentBegins (keep : Bool) (L : Bounds) (U : Table) (old new : Levels) (lv : Level) (around : List Level)
+    (left : ℕ)
     (c : List ℕ) (behind : ℕ) (o : Open) (os : List Open) : Type 0 where
   pub end : ℕ
   pub left_then : ℕ
   pub counted : IsNextCount L lv.end left around c end left_then
-  pub others : OthersAre U new around o os left_then
+  pub others : OthersAre keep U new around o os left_then
   pub innermost : new.innermost ≡ ending_at old.innermost end
   pub order : behind ≤ end
 
-of_item_begins : {L : Bounds} {U : Table} {old : Levels} {lv : Level} {around : List Level} {left count behind : ℕ}
+of_item_begins : {keep : Bool} {L : Bounds} {U : Table} {old : Levels} {lv : Level} {around : List Level}
+    {left count behind : ℕ}
     {c : List ℕ} {o : Open} {os : List Open} → IsAlone around → IsUnsigned count c → behind ≡ lv.end + length c
-    → OthersAre U old around o os left → count ≤ old.left → behind + count ≤ L.stream
-    → SegmentBegins L U old (with_segment old (behind + count) (old.left - count)) lv around left c behind o os
+    → OthersAre keep U old around o os left → count ≤ old.left → behind + count ≤ L.stream
+    → SegmentBegins keep L U old (with_segment old (behind + count) (old.left - count)) lv around left c behind o os
 of_item_begins {old = old} {count = count} {behind = behind} alone u b others l s =
     let k = others.left_is in
     record {
@@ -228,10 +233,11 @@ of_item_begins {old = old} {count = count} {behind = behind} alone u b others l 
       order = omega arith;
     }
 
-of_outer_begins : {L : Bounds} {U : Table} {old : Levels} {lv : Level} {around : List Level} {left count behind : ℕ}
+of_outer_begins : {keep : Bool} {L : Bounds} {U : Table} {old : Levels} {lv : Level} {around : List Level}
+    {left count behind : ℕ}
     {c : List ℕ} {o : Open} {os : List Open} → HasAround around → IsUnsigned count c → behind ≡ lv.end + length c
-    → OthersAre U old around o os left → behind + count ≤ last_end old.outer.items
-    → SegmentBegins L U old (with_segment old (behind + count) old.left) lv around left c behind o os
+    → OthersAre keep U old around o os left → behind + count ≤ last_end old.outer.items
+    → SegmentBegins keep L U old (with_segment old (behind + count) old.left) lv around left c behind o os
 of_outer_begins {old = old} {left = left} {count = count} {behind = behind} has_around u b others l =
     let e = same_end others.outer in
     record {
@@ -243,12 +249,12 @@ of_outer_begins {old = old} {left = left} {count = count} {behind = behind} has_
       order = omega arith;
     }
 
-segment_begins : {K L : Bounds} {U : Table} {old : Levels} {lv : Level} {around : List Level}
+segment_begins : {keep : Bool} {K L : Bounds} {U : Table} {old : Levels} {lv : Level} {around : List Level}
     {left count place behind : ℕ} {new : Levels} {c : List ℕ} {o : Open} {os : List Open} {done : Unit {0}}
     → K.stream ≡ L.stream
-    → IsUnsigned count c → behind ≡ lv.end + length c → OthersAre U old around o os left
+    → IsUnsigned count c → behind ≡ lv.end + length c → OthersAre keep U old around o os left
     → BeginsSegment K behind place count old new (Ok done)
-    → SegmentBegins L U old new lv around left c behind o os
+    → SegmentBegins keep L U old new lv around left c behind o os
 segment_begins k u b others (of_item e l s) = of_item_begins (is_alone others.outer e) u b others l (omega arith)
 segment_begins k u b others (of_outer n l) = of_outer_begins (is_within others.outer n) u b others l
 
@@ -288,16 +294,18 @@ long_shown : reason.ItemTooLong ≢ reason.Ended
 long_shown e = cc
 
 -- behind a whole count comes a type number
-pub next_whole : {K L : Bounds} {d : Defined} {T : Table} {offset at behind count used : ℕ} {levels levels' : Levels}
+pub next_whole : {keep : Bool} {K L : Bounds} {d : Defined} {T : Table} {offset at behind count used : ℕ}
+    {levels levels' : Levels}
     {old first : NumberStage} {z : List ℕ} {done : Unit {0}} (new : NumberStage) (piece : List ℕ)
     → K.stream ≡ L.stream → AtNumber old at
-    → PartHasRead L T offset (types d) levels (part.NextCount (record { number = old })) z
+    → PartHasRead keep L T offset (types d) levels (part.NextCount (record { number = old })) z
     → NumberIsWhole old piece count used → new.rest ≡ old.rest → behind ≡ at + used
     → BeginsSegment K behind new.rest.begin count levels levels' (Ok done) → behind < levels'.innermost.end
     → first ≡ record { rest = record { begin = behind; end = levels'.innermost.end }; number = [] }
-    → PartSteps L T offset d z piece levels' d
+    → PartSteps keep L T offset d z piece levels' d
     (Ok (record { used = used; next = Some (part.TypeNumber (record { number = first })) }))
-next_whole {L = L} {d = d} {T = T} {offset = offset} {behind = behind} {used = used} {levels' = levels'} {first = first}
+next_whole {keep = keep} {L = L} {d = d} {T = T} {offset = offset} {behind = behind} {used = used}
+    {levels' = levels'} {first = first}
     new piece same t
     (in_next_count {z = z} {b = b} {lv = lv} {around = around} {d = depth} {o = o} q p said def_ e nil others held n) h
     r bh s on f =
@@ -318,20 +326,21 @@ next_whole {L = L} {d = d} {T = T} {offset = offset} {behind = behind} {used = u
     let number : NumberIs first (offset + length (z ++ (b ++ (q ++ take used piece)))) g.end [] =
     number_begins (f ∙ numbered_from at ends) (omega arith) in
     part_goes_on refl w.within
-    (subst (λ z. PartHasRead L T offset (types d) levels' (part.TypeNumber (record { number = first })) z)
+    (subst (λ z. PartHasRead keep L T offset (types d) levels' (part.TypeNumber (record { number = first })) z)
     (behind_count z b q (take used piece))
     (in_held_number [] now said
     (subst (λ l. LevelAtNil (types d) l (record lv { end = g.end }) [] depth) (sym g.innermost) (ending g.end nil))
     g.others (subst (λ (l : declared.Level). HeldIs l.held o) (sym g.innermost) held) number))
 
 -- or none, where the segment is empty
-pub next_empty : {K L : Bounds} {d : Defined} {T : Table} {offset at behind count used : ℕ} {levels levels' : Levels}
+pub next_empty : {keep : Bool} {K L : Bounds} {d : Defined} {T : Table} {offset at behind count used : ℕ}
+    {levels levels' : Levels}
     {old : NumberStage} {z : List ℕ} {done : Unit {0}} (new : NumberStage) (piece : List ℕ) (f : Fault)
     → K.stream ≡ L.stream → AtNumber old at
-    → PartHasRead L T offset (types d) levels (part.NextCount (record { number = old })) z
+    → PartHasRead keep L T offset (types d) levels (part.NextCount (record { number = old })) z
     → NumberIsWhole old piece count used → new.rest ≡ old.rest → behind ≡ at + used
     → BeginsSegment K behind new.rest.begin count levels levels' (Ok done)
-    → GoesOn behind levels'.innermost.end (Err f) → PartSteps L T offset d z piece levels' d (Err f)
+    → GoesOn behind levels'.innermost.end (Err f) → PartSteps keep L T offset d z piece levels' d (Err f)
 next_empty {L = L} {d = d} {T = T} {offset = offset} {behind = behind} {used = used} {levels' = levels'} new piece
     (fault.Refused R) same t
     (in_next_count {z = z} {b = b} {lv = lv} {around = around} q p said def_ e nil others held n) h r bh s on =
@@ -388,13 +397,14 @@ around_refused {at = at} {c = c} L left r (has_around {lv = lv}) pl be k u e l =
     rw (pl, be) (outcome.too_long (take (lv.end - at - length c) r)
     (ap (λ y. take (lv.end - at) y) e ∙ take_over c r (lv.end - at) k) u (omega arith))
 
-pub next_judged : {K L : Bounds} {d : Defined} {T : Table} {offset at behind count used : ℕ} {levels levels' : Levels}
+pub next_judged : {keep : Bool} {K L : Bounds} {d : Defined} {T : Table} {offset at behind count used : ℕ}
+    {levels levels' : Levels}
     {old : NumberStage} {z : List ℕ} {f : Fault} (levels'' : Levels) (new : NumberStage) (piece : List ℕ)
     → K.stream ≡ L.stream → AtNumber old at
-    → PartHasRead L T offset (types d) levels (part.NextCount (record { number = old })) z
+    → PartHasRead keep L T offset (types d) levels (part.NextCount (record { number = old })) z
     → NumberIsWhole old piece count used → new.rest ≡ old.rest → behind ≡ at + used
     → BeginsSegment K behind new.rest.begin count levels levels' (Err f)
-    → PartSteps L T offset d z piece levels'' d (Err f)
+    → PartSteps keep L T offset d z piece levels'' d (Err f)
 next_judged {L = L} {used = used} {levels = levels} levels'' new piece same t
     (in_next_count {z = z} {b = b} {lv = lv} {around = around} q p said def_ e nil others held n) h r bh
     (item_refused f s) =
@@ -413,15 +423,16 @@ next_judged {L = L} {used = used} {levels = levels} levels'' new piece same t
     (omega arith)) long_shown)
 
 -- what the segments around leave room for
-pub next_order : {L : Bounds} {d : Defined} {at behind count used : ℕ} {levels : Levels} {old : NumberStage}
-    (piece : List ℕ) → IsInPut L d at levels (part.NextCount (record { number = old }))
+pub next_order : {keep : Bool} {L : Bounds} {d : Defined} {at behind count used : ℕ} {levels : Levels}
+    {old : NumberStage}
+    (piece : List ℕ) → IsInPut keep L d at levels (part.NextCount (record { number = old }))
     → NumberIsWhole old piece count used
     → behind ≡ at + used → behind ≤ last_end levels.outer.items
-next_order {L = L} {d = d} {at = at} {behind = behind} {levels = levels} {old = old} piece w h b =
+next_order {keep = keep} {L = L} {d = d} {at = at} {behind = behind} {levels = levels} {old = old} piece w h b =
     from w.has_read w.taken_is
   where
     from : {T : Table} {offset : ℕ} {z : List ℕ}
-        → PartHasRead L T offset (types d) levels (part.NextCount (record { number = old })) z
+        → PartHasRead keep L T offset (types d) levels (part.NextCount (record { number = old })) z
         → at ≡ offset + length z → behind ≤ last_end levels.outer.items
     from (in_next_count {z = z} {b = c} q p said def_ e nil others held n) t =
         let ends = same_end others.outer in let room = (number_is_whole n h).room in
@@ -475,13 +486,13 @@ around_ends [] p most = omega arith
 around_ends {offset = offset} {z = z} (k ∷ around) p most =
     let e = nested_within around (offset + length z - 1) (levels_nest p).1 in omega arith
 
-pub next_bounded : {L : Bounds} {d : Defined} {at : ℕ} {levels : Levels} {number : NumberStage}
-    → IsInPut L d at levels (part.NextCount (record { number = number })) → L.stream ≤ greatest_stream
+pub next_bounded : {keep : Bool} {L : Bounds} {d : Defined} {at : ℕ} {levels : Levels} {number : NumberStage}
+    → IsInPut keep L d at levels (part.NextCount (record { number = number })) → L.stream ≤ greatest_stream
     → number.rest.end ≤ no_end
-next_bounded {L = L} {d = d} {levels = levels} {number = number} w most = from w.has_read
+next_bounded {keep = keep} {L = L} {d = d} {levels = levels} {number = number} w most = from w.has_read
   where
     from : {T : Table} {offset : ℕ} {z : List ℕ}
-        → PartHasRead L T offset (types d) levels (part.NextCount (record { number = number })) z
+        → PartHasRead keep L T offset (types d) levels (part.NextCount (record { number = number })) z
         → number.rest.end ≤ no_end
     from (in_next_count {around = around} q p said def_ e nil others held n) =
         let l = around_ends around p most in let ends = n.ends in omega arith

@@ -83,7 +83,7 @@ refuses_in_skeleton {offset = offset} {lv = lv} {announced = announced} {before 
 -- ---- the nil is read
 
 -- the bytes end with the nil of the program's level, or with what fills it
-pub record FillsNil (L : Bounds) (T : Table) (offset : ℕ) (U : Table) (l : declared.Level)
+pub record FillsNil (keep : Bool) (L : Bounds) (T : Table) (offset : ℕ) (U : Table) (l : declared.Level)
     (outer : List declared.Level) (kept : ℕ) (z : List ℕ) : Type 0 where
   pub before : List ℕ
   pub c : List ℕ
@@ -111,13 +111,13 @@ pub record FillsNil (L : Bounds) (T : Table) (offset : ℕ) (U : Table) (l : dec
   pub expects : ExpectsTop lv.table lv.type spelled (a_number nil) nil_depth
   pub not_deep : nil_depth ≤ lv.limit
   pub shallow : IsShallow lv.table lv.type lv.limit spelled
-  pub fillings : FillingsAre U l o
-  pub outer_are : AreOuter U outer around os
+  pub fillings : FillingsAre keep U l o
+  pub outer_are : AreOuter keep U outer around os
   pub left_is : kept ≡ left
   pub within : offset + length z ≤ lv.end
 
-pub nil_order : {L : Bounds} {T : Table} {offset kept : ℕ} {U : Table} {l : declared.Level}
-    {outer : List declared.Level} {z : List ℕ} → FillsNil L T offset U l outer kept z
+pub nil_order : {keep : Bool} {L : Bounds} {T : Table} {offset kept : ℕ} {U : Table} {l : declared.Level}
+    {outer : List declared.Level} {z : List ℕ} → FillsNil keep L T offset U l outer kept z
     → length l.skeleton.items < offset + length z
 nil_order h =
     let n = (levels_nest h.stands).0.done in
@@ -131,14 +131,14 @@ nil_order h =
       ap length h.skeleton,
     )
 
-pub nil_fits : {L : Bounds} {T : Table} {offset kept : ℕ} {U : Table} {l : declared.Level}
-    {outer : List declared.Level} {z : List ℕ} → FillsNil L T offset U l outer kept z
+pub nil_fits : {keep : Bool} {L : Bounds} {T : Table} {offset kept : ℕ} {U : Table} {l : declared.Level}
+    {outer : List declared.Level} {z : List ℕ} → FillsNil keep L T offset U l outer kept z
     → FitsTable skip_building U l.reader
 nil_fits {U = U} {l = l} h =
     fits U h.lv.type h.lv.limit h.announced h.spelled skip_building.received (under_way l.reader) h.reads
 
-pub nil_read : {L : Bounds} {T : Table} {offset kept : ℕ} {U : Table} {l : declared.Level}
-    {outer : List declared.Level} {z : List ℕ} → FillsNil L T offset U l outer kept z
+pub nil_read : {keep : Bool} {L : Bounds} {T : Table} {offset kept : ℕ} {U : Table} {l : declared.Level}
+    {outer : List declared.Level} {z : List ℕ} → FillsNil keep L T offset U l outer kept z
     → (t : TypeId) (limit announced : ℕ) (y : List ℕ) → HasReadBody skip_building U t limit announced l.reader y
     → length y ≡ length l.skeleton.items
 nil_read {U = U} {l = l} h t limit announced y k =
@@ -146,10 +146,10 @@ nil_read {U = U} {l = l} h t limit announced y k =
     (under_way l.reader) k h.reads
     ∙ sym (ap length h.skeleton)
 
-others : {L : Bounds} {T : Table} {offset kept : ℕ} {U : Table} {l : declared.Level}
-    {outer : List declared.Level} {z : List ℕ} (levels : Levels) (h : FillsNil L T offset U l outer kept z)
+others : {keep : Bool} {L : Bounds} {T : Table} {offset kept : ℕ} {U : Table} {l : declared.Level}
+    {outer : List declared.Level} {z : List ℕ} (levels : Levels) (h : FillsNil keep L T offset U l outer kept z)
     → levels.innermost.fillings ≡ l.fillings → levels.outer.items ≡ outer → levels.left ≡ kept
-    → OthersAre U levels h.around h.o h.os h.left
+    → OthersAre keep U levels h.around h.o h.os h.left
 others levels h k e f = record {
   fillings = rw k h.fillings;
   outer = rw e h.outer_are;
@@ -157,15 +157,15 @@ others levels h k e f = record {
 }
 
 -- the value goes on
-pub nil_goes_on : {L : Bounds} {T : Table} {offset kept at : ℕ} {U : Table} {l : declared.Level}
-    {outer : List declared.Level} {z : List ℕ} (levels : Levels) → FillsNil L T offset U l outer kept z
+pub nil_goes_on : {keep : Bool} {L : Bounds} {T : Table} {offset kept at : ℕ} {U : Table} {l : declared.Level}
+    {outer : List declared.Level} {z : List ℕ} (levels : Levels) → FillsNil keep L T offset U l outer kept z
     → at ≡ offset + length z → FillAnswers U at l levels.innermost (Ok false) → levels.outer.items ≡ outer
-    → levels.left ≡ kept → PartHasRead L T offset U levels part.Value z
-nil_goes_on {L = L} {T = T} {offset = offset} {at = at} {U = U} {l = l} levels h a r e f =
+    → levels.left ≡ kept → PartHasRead keep L T offset U levels part.Value z
+nil_goes_on {keep = keep} {L = L} {T = T} {offset = offset} {at = at} {U = U} {l = l} levels h a r e f =
     let g = r.3 h.lv.type h.lv.limit h.announced h.spelled h.reads in
     let n : ℕ = length h.spelled + (l.end - at + 1) in
     let w = h.within in let d = h.end in
-    subst (λ z. PartHasRead L T offset U levels part.Value z) (sym h.whole)
+    subst (λ z. PartHasRead keep L T offset U levels part.Value z) (sym h.whole)
     (in_skeleton h.c h.stands h.said (record {
       announced = n;
       is = record {
@@ -185,16 +185,16 @@ nil_goes_on {L = L} {T = T} {offset = offset} {at = at} {U = U} {l = l} levels h
     }) (others levels h r.0.fillings e f))
 
 -- or is whole
-pub nil_is_whole : {L : Bounds} {T : Table} {offset kept at : ℕ} {U : Table} {l : declared.Level}
-    {outer : List declared.Level} {z : List ℕ} (levels : Levels) → FillsNil L T offset U l outer kept z
+pub nil_is_whole : {keep : Bool} {L : Bounds} {T : Table} {offset kept at : ℕ} {U : Table} {l : declared.Level}
+    {outer : List declared.Level} {z : List ℕ} (levels : Levels) → FillsNil keep L T offset U l outer kept z
     → at ≡ offset + length z → FillAnswers U at l levels.innermost (Ok true) → levels.outer.items ≡ outer
-    → levels.left ≡ kept → ValueIsWhole L T offset U levels z
-nil_is_whole {L = L} {T = T} {offset = offset} {at = at} {U = U} {l = l} levels h a r e f =
+    → levels.left ≡ kept → ValueIsWhole keep L T offset U levels z
+nil_is_whole {keep = keep} {L = L} {T = T} {offset = offset} {at = at} {U = U} {l = l} levels h a r e f =
     let g = r.3 h.lv.type h.lv.limit h.announced h.spelled h.reads in
     let w = h.within in let d = h.end in
     let v = g.made.value in
     let all = g.made.all in
-    subst (λ z. ValueIsWhole L T offset U levels z) (sym h.whole)
+    subst (λ z. ValueIsWhole keep L T offset U levels z) (sym h.whole)
     (value_whole h.c h.stands h.said
     (top_back (extends_keeps h.grown) h.ready (subst (λ y. SpellsTop U h.lv.type v y) (sym h.ends) g.made.spelled))
     g.made.not_deep
@@ -202,8 +202,8 @@ nil_is_whole {L = L} {T = T} {offset = offset} {at = at} {U = U} {l = l} levels 
     (r.2 ∙ ap (λ (s : List ℕ). s ++ 0 ∷ []) h.skeleton ∙ sym h.ends) (others levels h r.0.fillings e f))
 
 -- or refused
-pub nil_refused : {L : Bounds} {T : Table} {offset kept at : ℕ} {U : Table} {l : declared.Level}
-    {outer : List declared.Level} {z : List ℕ} {R : Refusal} → FillsNil L T offset U l outer kept z
+pub nil_refused : {keep : Bool} {L : Bounds} {T : Table} {offset kept at : ℕ} {U : Table} {l : declared.Level}
+    {outer : List declared.Level} {z : List ℕ} {R : Refusal} → FillsNil keep L T offset U l outer kept z
     → at ≡ offset + length z → FillAnswers U at l l (Err (fault.Refused R)) → (w : List ℕ)
     → RefusesWith L T offset (z ++ w) R U
 nil_refused {L = L} {T = T} {offset = offset} {at = at} {U = U} {l = l} {R = R} h a r w =
@@ -229,9 +229,9 @@ nil_refused {L = L} {T = T} {offset = offset} {at = at} {U = U} {l = l} {R = R} 
 -- ---- where it comes from
 
 -- the byte of a nil
-pub of_nil_byte : {L : Bounds} {T : Table} {offset : ℕ} {U : Table} {levels : Levels} {z : List ℕ}
-    → NilByteRead L T offset U levels z
-    → FillsNil L T offset U levels.innermost levels.outer.items levels.left z
+pub of_nil_byte : {keep : Bool} {L : Bounds} {T : Table} {offset : ℕ} {U : Table} {levels : Levels} {z : List ℕ}
+    → NilByteRead keep L T offset U levels z
+    → FillsNil keep L T offset U levels.innermost levels.outer.items levels.left z
 of_nil_byte (nil_byte {z = z} {lv = lv} {around = around} {left = left} {d = d} {o = o} {os = os} c p said h k l) =
     record {
       before = z;
@@ -266,22 +266,22 @@ of_nil_byte (nil_byte {z = z} {lv = lv} {around = around} {left = left} {d = d} 
       within = l;
     }
 
-pub nil_before : {L : Bounds} {T : Table} {offset kept at : ℕ} {U : Table} {l : declared.Level}
-    {outer : List declared.Level} {z : List ℕ} → FillsNil L T offset U l outer kept z → at ≡ offset + length z
+pub nil_before : {keep : Bool} {L : Bounds} {T : Table} {offset kept at : ℕ} {U : Table} {l : declared.Level}
+    {outer : List declared.Level} {z : List ℕ} → FillsNil keep L T offset U l outer kept z → at ≡ offset + length z
     → length l.skeleton.items < at
 nil_before h e = let n = nil_order h in omega arith
 
-pub nil_ends : {L : Bounds} {T : Table} {offset kept at : ℕ} {U : Table} {l : declared.Level}
-    {outer : List declared.Level} {z : List ℕ} → FillsNil L T offset U l outer kept z → at ≡ offset + length z
+pub nil_ends : {keep : Bool} {L : Bounds} {T : Table} {offset kept at : ℕ} {U : Table} {l : declared.Level}
+    {outer : List declared.Level} {z : List ℕ} → FillsNil keep L T offset U l outer kept z → at ≡ offset + length z
     → at ≤ l.end
 nil_ends h e = let w = h.within in let d = h.end in omega arith
 
 -- what filling it answers
-pub filling_steps : {L : Bounds} {T : Table} {offset kept at : ℕ} {d : Defined} {l : declared.Level}
+pub filling_steps : {keep : Bool} {L : Bounds} {T : Table} {offset kept at : ℕ} {d : Defined} {l : declared.Level}
     {outer : List declared.Level} {z : List ℕ} (levels : Levels) (result : Result Bool Fault)
-    → FillsNil L T offset (types d) l outer kept z → at ≡ offset + length z
+    → FillsNil keep L T offset (types d) l outer kept z → at ≡ offset + length z
     → FillAnswers (types d) at l levels.innermost result → levels.outer.items ≡ outer → levels.left ≡ kept
-    → FillingSteps L T offset d z levels result
+    → FillingSteps keep L T offset d z levels result
 filling_steps levels (Ok false) h a r e f = filling_goes_on (nil_goes_on levels h a r e f)
 filling_steps levels (Ok true) h a r e f = filling_ends (nil_is_whole levels h a r e f)
 filling_steps levels (Err (fault.Refused R)) h a r e f = filling_refused (nil_refused h a r)

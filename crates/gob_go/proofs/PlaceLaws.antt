@@ -1,4 +1,5 @@
 -- By what it expects, a reader of the item of a value stands at one place of the stream.
+use Rattle.std.proofs.Common.{Bool}
 use Rattle.std.proofs.Common.{◌≡◌, ℕ, ◌+◌, List, ◌++◌, length, arith, ap, subst, length-append}
 use Rattle.gob_num.specs.Unsigned.{IsUnsigned}
 use Rattle.gob_num.proofs.PublicLaws.{unsigned_unique}
@@ -106,8 +107,8 @@ description_at {L = L} {U = U} {stage = stage} {y = y} h e = record {
   place = let b = h.begins in omega arith;
 }
 
-part_at : {L : Bounds} {T U : Table} {offset : ℕ} {levels : Levels} {next : PutPart} {z : List ℕ}
-    → PartHasRead L T offset U levels next z → IsPartAt levels next (offset + length z)
+part_at : {keep : Bool} {L : Bounds} {T U : Table} {offset : ℕ} {levels : Levels} {next : PutPart} {z : List ℕ}
+    → PartHasRead keep L T offset U levels next z → IsPartAt levels next (offset + length z)
 part_at {U = U} (in_skeleton {z = z} {lv = lv} c p said w o) = record {
   table = U;
   type = lv.type;
@@ -150,7 +151,8 @@ part_at (in_next_count {z = z} {b = b} q p said def ends h o held number) =
 part_at (in_inner_count {z = z} {n = n} q p said may sg h o held number) =
     number_at number (omega (arith, length-append z (n ++ q), length-append z n, length-append n q))
 
-pub same_place : {L M : Bounds} {S T U V : Table} {offset begin : ℕ} {levels : Levels} {next : PutPart} {y z : List ℕ}
-    → PartHasRead L S offset U levels next y → PartHasRead M T begin V levels next z
+pub same_place : {keep : Bool} {L M : Bounds} {S T U V : Table} {offset begin : ℕ} {levels : Levels}
+    {next : PutPart} {y z : List ℕ}
+    → PartHasRead keep L S offset U levels next y → PartHasRead keep M T begin V levels next z
     → offset + length y ≡ begin + length z
 same_place {levels = levels} {next = next} h k = one_in_part levels next (part_at h) (part_at k)

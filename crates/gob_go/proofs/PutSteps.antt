@@ -1,4 +1,5 @@
 -- What follows behind the bytes that were taken of the item of a value.
+use Rattle.std.proofs.Common.{Bool}
 use Rattle.std.proofs.Common.{◌≡◌, ℕ, ◌+◌, ◌≤◌, List, ◌++◌, length, take, drop, Option, Some, None, Ok}
 use Rattle.std.proofs.Common.{Err, arith, refl, sym, ap, ◌∙◌, subst, append_assoc, length-append, length-drop}
 use Rattle.std.proofs.lemmas.List.{length-take, drop-take, take-append-drop}
@@ -60,43 +61,50 @@ all_taken z piece used = append_assoc z (take used piece) (drop used piece)
     ∙ ap (λ (l : List ℕ). z ++ l) (take-append-drop used piece)
 
 -- the step of a part is one of its item
-pub part_stepped : {L : Bounds} {T : Table} {offset at : ℕ} {d d' : Defined} {z piece : List ℕ} {levels : Levels}
-    {taken : PartTaken} (stepped : Stepped) → PartSteps L T offset d z piece levels d' (Ok taken)
+pub part_stepped : {keep : Bool} {L : Bounds} {T : Table} {offset at : ℕ} {d d' : Defined} {z piece : List ℕ}
+    {levels : Levels}
+    {taken : PartTaken} (stepped : Stepped) → PartSteps keep L T offset d z piece levels d' (Ok taken)
     → at ≡ offset + length z → StageBehind levels at taken.used taken.next stepped
-    → StepsOn L T offset d z piece d' (Ok stepped)
-part_stepped {L = L} {T = T} {offset = offset} {d = d} {d' = d'} {z = z} {piece = piece} stepped
+    → StepsOn keep L T offset d z piece d' (Ok stepped)
+part_stepped {keep = keep} {L = L} {T = T} {offset = offset} {d = d} {d' = d'} {z = z} {piece = piece} stepped
     (part_goes_on m w h) a b =
-    subst (λ s. StepsOn L T offset d z piece d' (Ok s)) (sym b) (goes_on m w (in_put h))
-part_stepped {L = L} {T = T} {offset = offset} {at = at} {d = d} {d' = d'} {z = z} {piece = piece} {levels = levels}
+    subst (λ s. StepsOn keep L T offset d z piece d' (Ok s)) (sym b) (goes_on m w (in_put h))
+part_stepped {keep = keep} {L = L} {T = T} {offset = offset} {at = at} {d = d} {d' = d'} {z = z} {piece = piece}
+    {levels = levels}
     stepped (item_ends {used = used} m w h) a b =
     let kept = b.0 in
-    subst (λ s. StepsOn L T offset d z piece d' (Ok s)) (sym b.3)
-    (gives m w h.item (means_value (subst (λ v. IsFilled (types d') levels.innermost.id kept v) (sym h.value_is)
-    (is_filled (rw b.1 h.spelled) (rw b.2 h.filled))))
+    subst (λ s. StepsOn keep L T offset d z piece d' (Ok s)) (sym b.3)
+    (gives m w h.item (λ on. means_value (subst (λ v. IsFilled (types d') levels.innermost.id kept v) (sym h.value_is)
+    (is_filled (rw b.1 h.spelled) (rw b.2 (h.filled on)))))
     (omega (arith, length-append z (take used piece), length-take used piece)))
 
-pub part_stopped : {L : Bounds} {T : Table} {offset : ℕ} {d d' : Defined} {z piece : List ℕ} {levels : Levels}
-    (f : Fault) → PartSteps L T offset d z piece levels d' (Err f) → StepsOn L T offset d z piece d' (Err f)
+pub part_stopped : {keep : Bool} {L : Bounds} {T : Table} {offset : ℕ} {d d' : Defined} {z piece : List ℕ}
+    {levels : Levels}
+    (f : Fault) → PartSteps keep L T offset d z piece levels d' (Err f) → StepsOn keep L T offset d z piece d' (Err f)
 part_stopped f (part_refused r) = refuses_it r
 part_stopped f (no_memory_for_part t) = no_memory t
 
 -- behind bytes that were taken before
-pub part_behind : {L : Bounds} {T : Table} {offset : ℕ} {d d' : Defined} {z piece : List ℕ} {levels : Levels} (used : ℕ)
-    (taken : PartTaken) → PartSteps L T offset d (z ++ take used piece) (drop used piece) levels d' (Ok taken)
+pub part_behind : {keep : Bool} {L : Bounds} {T : Table} {offset : ℕ} {d d' : Defined} {z piece : List ℕ}
+    {levels : Levels} (used : ℕ)
+    (taken : PartTaken) → PartSteps keep L T offset d (z ++ take used piece) (drop used piece) levels d' (Ok taken)
     → used ≤ length piece
-    → PartSteps L T offset d z piece levels d' (Ok (record { used = used + taken.used; next = taken.next }))
-part_behind {L = L} {T = T} {offset = offset} {d' = d'} {z = z} {piece = piece} {levels = levels} used taken
+    → PartSteps keep L T offset d z piece levels d' (Ok (record { used = used + taken.used; next = taken.next }))
+part_behind {keep = keep} {L = L} {T = T} {offset = offset} {d' = d'} {z = z} {piece = piece} {levels = levels} used
+    taken
     (part_goes_on {next = next} {used = more} m w h) l =
     part_goes_on m (omega (arith, length-drop used piece))
-    (subst (λ y. PartHasRead L T offset (types d') levels next y) (both_taken z piece used more) h)
-part_behind {L = L} {T = T} {offset = offset} {d' = d'} {z = z} {piece = piece} {levels = levels} used taken
+    (subst (λ y. PartHasRead keep L T offset (types d') levels next y) (both_taken z piece used more) h)
+part_behind {keep = keep} {L = L} {T = T} {offset = offset} {d' = d'} {z = z} {piece = piece} {levels = levels} used
+    taken
     (item_ends {used = more} m w h) l =
     item_ends m (omega (arith, length-drop used piece))
-    (subst (λ y. PutIsWhole L T offset (types d') levels y) (both_taken z piece used more) h)
+    (subst (λ y. PutIsWhole keep L T offset (types d') levels y) (both_taken z piece used more) h)
 
-pub part_stopped_behind : {L : Bounds} {T : Table} {offset : ℕ} {d d' : Defined} {z piece : List ℕ} {levels : Levels}
-    (used : ℕ) (f : Fault) → PartSteps L T offset d (z ++ take used piece) (drop used piece) levels d' (Err f)
-    → PartSteps L T offset d z piece levels d' (Err f)
+pub part_stopped_behind : {keep : Bool} {L : Bounds} {T : Table} {offset : ℕ} {d d' : Defined} {z piece : List ℕ}
+    {levels : Levels}
+    (used : ℕ) (f : Fault) → PartSteps keep L T offset d (z ++ take used piece) (drop used piece) levels d' (Err f)
+    → PartSteps keep L T offset d z piece levels d' (Err f)
 part_stopped_behind {L = L} {T = T} {offset = offset} {d' = d'} {z = z} {piece = piece} used f
     (part_refused {R = R} r) =
     part_refused (subst (λ y. RefusesWith L T offset y R (types d')) (all_taken z piece used) r)
@@ -104,25 +112,28 @@ part_stopped_behind {L = L} {T = T} {offset = offset} {d' = d'} {z = z} {piece =
     no_memory_for_part (subst (λ y. HasTypesWithin L T offset y (types d')) (all_taken z piece used) t)
 
 -- what ended values go on with
-pub goes_behind : {L : Bounds} {T : Table} {offset used : ℕ} {d : Defined} {z piece : List ℕ} {levels : Levels}
-    (goes : Goes) → GoesSteps L T offset d (z ++ take used piece) levels (Ok goes) → used ≤ length piece
-    → PartSteps L T offset d z piece levels d (Ok (record { used = used; next = behind_value goes }))
+pub goes_behind : {keep : Bool} {L : Bounds} {T : Table} {offset used : ℕ} {d : Defined} {z piece : List ℕ}
+    {levels : Levels}
+    (goes : Goes) → GoesSteps keep L T offset d (z ++ take used piece) levels (Ok goes) → used ≤ length piece
+    → PartSteps keep L T offset d z piece levels d (Ok (record { used = used; next = behind_value goes }))
 goes_behind goes (value_goes_on h) l = part_goes_on refl l h
 goes_behind goes (goes_to_end h) l = item_ends refl l h
 
-pub goes_stopped : {L : Bounds} {T : Table} {offset : ℕ} {d : Defined} {z piece : List ℕ} {levels : Levels}
-    (used : ℕ) (f : Fault) → GoesSteps L T offset d (z ++ take used piece) levels (Err f)
-    → HasTypesWithin L T offset (z ++ piece) (types d) → PartSteps L T offset d z piece levels d (Err f)
+pub goes_stopped : {keep : Bool} {L : Bounds} {T : Table} {offset : ℕ} {d : Defined} {z piece : List ℕ}
+    {levels : Levels}
+    (used : ℕ) (f : Fault) → GoesSteps keep L T offset d (z ++ take used piece) levels (Err f)
+    → HasTypesWithin L T offset (z ++ piece) (types d) → PartSteps keep L T offset d z piece levels d (Err f)
 goes_stopped {L = L} {T = T} {offset = offset} {d = d} {z = z} {piece = piece} used f (goes_refused {R = R} r) t =
     part_refused (subst (λ y. RefusesWith L T offset y R (types d)) (all_taken z piece used) (r (drop used piece)))
 goes_stopped used f no_memory_there t = no_memory_for_part t
 
-pub in_put_of : {L : Bounds} {T : Table} {offset : ℕ} {U : Table} {put : PutStage} {z : List ℕ}
-    → StageHasRead L T offset U (stage.Put put) z → PartHasRead L T offset U put.levels put.part z
+pub in_put_of : {keep : Bool} {L : Bounds} {T : Table} {offset : ℕ} {U : Table} {put : PutStage} {z : List ℕ}
+    → StageHasRead keep L T offset U (stage.Put put) z → PartHasRead keep L T offset U put.levels put.part z
 in_put_of (in_put h) = h
 
-pub is_in_put : {L : Bounds} {d : Defined} {taken : ℕ} {put : PutStage} → IsWithinItem L d taken (stage.Put put)
-    → IsInPut L d taken put.levels put.part
+pub is_in_put : {keep : Bool} {L : Bounds} {d : Defined} {taken : ℕ} {put : PutStage}
+    → IsWithinItem keep L d taken (stage.Put put)
+    → IsInPut keep L d taken put.levels put.part
 is_in_put w = record {
   table = w.table;
   offset = w.offset;

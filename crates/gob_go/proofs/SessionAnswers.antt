@@ -27,9 +27,9 @@ use Rattle.gob_filled.specs.Stream.{last_counted, next_counted, of_definition, o
 use Rattle.gob_stream.proofs.PublicLaws.{gives_nothing, items_few}
 use Rattle.gob_filled.proofs.Outcomes.{no_item}
 use Rattle.gob_filled.proofs.Shown.{filled_shown, filled_there}
-use Rattle.gob_go.specs.Calls.Session.{FinishAnswers, HasBegunNext, HasFailed, HasRead, IsBetweenItems}
-use Rattle.gob_go.specs.Calls.Session.{ReadsItems, StepAnswers, limits_of, types_of}
-use Rattle.gob_go.specs.GoStepping.{go_stepping}
+use Rattle.gob_go.specs.Calls.Session.{FinishAnswers, HasBegunNext, HasFailed, StandsAfter, IsBetweenItems}
+use Rattle.gob_go.specs.Calls.Session.{ReadsItemsSo, StepAnswersSo, limits_of, types_of}
+use Rattle.gob_go.specs.GoStepping.{stepping_of}
 use Rattle.gob_go.specs.Machine.SessionState.{SessionState}
 use Rattle.gob_go.specs.Machine.Stages.{AdvancesOver, over_some, over_item}
 use Rattle.gob_go.specs.Meaning.{ItemMeans}
@@ -45,22 +45,28 @@ use Rattle.gob_go.proofs.WholeSteps.{begun_no_next, types_between}
 
 -- ---- the types behind the items
 -- no byte of an item is under way, so they are the session's
-pub table_between : {s : SessionState} {items : List FilledItem} {bytes : List ℕ} (a : HasRead s items bytes)
+pub table_between : {keep : Bool} {s : SessionState} {items : List FilledItem} {bytes : List ℕ}
+    (a : StandsAfter keep s items bytes)
     → IsBetweenItems s → a.table ≡ types_of s
 table_between a between = sym (between_table a.stage between)
 
 -- they are behind the items of all bytes that begin so
-table_is : {s : SessionState} {items : List FilledItem} {taken bytes : List ℕ} (more : List ℕ) → bytes ≡ taken ++ more
-    → (a : HasRead s items taken)
+table_is : {keep : Bool} {s : SessionState} {items : List FilledItem} {taken bytes : List ℕ} (more : List ℕ) → bytes
+    ≡ taken ++ more
+    → (a : StandsAfter keep s items taken)
     → (b : BeginsFilled base_table (within_trees (limits_of s)) bytes items) → b.table ≡ a.table
 table_is more e a b =
     (one_reading b.rest (a.under_way ++ more) b.stream a.stream
     (sym b.whole ∙ e ∙ ap (λ (l : List ℕ). l ++ more) a.whole ∙ append_assoc a.prefix a.under_way more)).table
 
+-- what is handed out stands for an item so
+abbrev pub Means : Type 1
+Means = Table → GoItem → FilledItem → Type 0
+
 -- ---- what was read
 -- what it has given is all that the bytes give
-pub gives_all : (s : SessionState) → GivesAllBy go_stepping s
-gives_all s = λ items bytes h. record {
+pub gives_all : (keep : Bool) (means : Means) (s : SessionState) → GivesAllBy (stepping_of keep means) s
+gives_all keep means s = λ items bytes h. record {
   gives = record {
     begins = record { prefix = h.prefix; rest = h.under_way; table = h.table; stream = h.stream; whole = h.whole };
     longest = (given_longest h).longest;
@@ -87,7 +93,8 @@ pub few_items : {L : Bounds} {T U : Table} {offset : ℕ} {items : List FilledIt
 few_items a = items_few (λ T U offset i b q. item_some q) a
 
 -- no more bytes than the limit for the stream, and a count
-pub read_within : {s : SessionState} {items : List FilledItem} {bytes : List ℕ} → HasRead s items bytes
+pub read_within : {keep : Bool} {s : SessionState} {items : List FilledItem} {bytes : List ℕ}
+    → StandsAfter keep s items bytes
     → length bytes ≤ (limits_of s).stream + 9
 read_within a =
     let end = items_end a.stream (omega arith) in
@@ -95,8 +102,8 @@ read_within a =
     omega (arith, ap length a.whole, length-append a.prefix a.under_way)
 
 -- wherever it stands
-pub stands : (s : SessionState) → StandsBy go_stepping s
-stands s = record {
+pub stands : (keep : Bool) (means : Means) (s : SessionState) → StandsBy (stepping_of keep means) s
+stands keep means s = record {
   few = λ items bytes a.
       let few = few_items a.stream in
       let bound = read_within a in
@@ -104,15 +111,17 @@ stands s = record {
         omega (arith, few, taken, ap length a.whole, length-append a.prefix a.under_way),
         omega (arith, bound, taken),
       );
-  gives = gives_all s;
+  gives = gives_all keep means s;
   settled = λ items bytes a between. table_between a between;
 }
 
 -- and the first bytes of an item that isn't whole give none
-pub gives_no_more : (s : SessionState) (piece : List ℕ) (o : Option Awaited) → IfSome o (λ a. IsBetweenItems s)
-    → IfSome o (λ a. HasBegunNext s a.id a.head a.size piece) → IfSome o (λ a. GivesNoMoreBy go_stepping s piece)
-gives_no_more s piece None between begun = tt
-gives_no_more s piece (Some w) between begun = λ items bytes h.
+pub gives_no_more : (keep : Bool) (means : Means) (s : SessionState) (piece : List ℕ) (o : Option Awaited)
+    → IfSome o (λ a. IsBetweenItems s)
+    → IfSome o (λ a. HasBegunNext s a.id a.head a.size piece)
+    → IfSome o (λ a. GivesNoMoreBy (stepping_of keep means) s piece)
+gives_no_more keep means s piece None between begun = tt
+gives_no_more keep means s piece (Some w) between begun = λ items bytes h.
     let none : h.under_way ≡ [] = count_begins_here h between refl in
     let whole : bytes ++ piece ≡ h.prefix ++ piece =
     ap (λ l. l ++ piece) (h.whole ∙ ap (λ y. h.prefix ++ y) none ∙ append-nil h.prefix) in
@@ -125,8 +134,8 @@ gives_no_more s piece (Some w) between begun = λ items bytes h.
     }
 
 -- a session that has failed has read nothing
-pub failed_unread : (s : SessionState) (failed : Bool) → MatchBool failed (HasFailed s) (¬ HasFailed s)
-    → IsTrue failed → (items : List FilledItem) (bytes : List ℕ) → ¬ HasRead s items bytes
+pub failed_unread : {keep : Bool} (s : SessionState) (failed : Bool) → MatchBool failed (HasFailed s) (¬ HasFailed s)
+    → IsTrue failed → (items : List FilledItem) (bytes : List ℕ) → ¬ StandsAfter keep s items bytes
 failed_unread s true f u items bytes h = not_read h f
 failed_unread s false f u items bytes h = let no : false ≡ true = u in cc
 
@@ -163,57 +172,67 @@ refused_behind {L = L} r = record {
       (refused_lead r.refuses.refuses);
 }
 
-advances : {s s' : SessionState} {items : List FilledItem} {bytes piece : List ℕ} (step : Step GoItem)
-    {item : Option GoItem} → HasRead s items bytes → step.item ≡ item → AdvancesOver s' items bytes piece step.used item
-    → AdvancesBy go_stepping s s' items bytes piece step
-advances {s' = s'} {items = items} {bytes = bytes} {piece = piece} step h e (over_some some within a) = record {
-  more = [];
-  gives = subst (λ o. GivesItemsOf (λ g i. ItemMeans (types_of s') g i) o []) (sym e) gives_none;
-  after = subst (λ l. HasRead s' l (bytes ++ take step.used piece)) (sym (append-nil items)) a;
-  onward = omega (
-    arith,
-    h.taken,
-    a.taken,
-    length-append bytes (take step.used piece),
-    length-take-le step.used piece within,
-  );
-}
-advances {s' = s'} {bytes = bytes} {piece = piece} step h e (over_item {i = i} some within means a) = record {
-  more = i ∷ [];
-  gives = subst (λ o. GivesItemsOf (λ g i. ItemMeans (types_of s') g i) o (i ∷ [])) (sym e) (gives_one means);
-  after = a;
-  onward = omega (
-    arith,
-    h.taken,
-    a.taken,
-    length-append bytes (take step.used piece),
-    length-take-le step.used piece within,
-  );
-}
+-- what is handed out stands so for what it means
+abbrev pub Tells : Bool → Means → Type 0
+Tells keep means = (T : Table) (g : GoItem) (i : FilledItem) → (IsTrue keep → ItemMeans T g i) → means T g i
 
-pub steps : (s s' : SessionState) (items : List FilledItem) (bytes piece : List ℕ) (result : Result (Step GoItem) Fault)
-    → (h : HasRead s items bytes) → StepAnswers s s' items bytes piece result
-    → StepAnswersBy go_stepping h.table s s' items bytes piece result
-steps s s' items bytes piece (Ok step) h a = advances step h refl a
-steps s s' items bytes piece (Err (fault.Refused R)) h f = (
+advances : {keep : Bool} {means : Means} {s s' : SessionState} {items : List FilledItem} {bytes piece : List ℕ}
+    (step : Step GoItem)
+    {item : Option GoItem} → StandsAfter keep s items bytes → step.item ≡ item
+    → AdvancesOver keep s' items bytes piece step.used item
+    → Tells keep means → AdvancesBy (stepping_of keep means) s s' items bytes piece step
+advances {keep = keep} {means = means} {s' = s'} {items = items} {bytes = bytes} {piece = piece} step h e
+    (over_some some within a) tells = record {
+      more = [];
+      gives = subst (λ o. GivesItemsOf (λ g i. means (types_of s') g i) o []) (sym e) gives_none;
+      after = subst (λ l. StandsAfter keep s' l (bytes ++ take step.used piece)) (sym (append-nil items)) a;
+      onward = omega (
+        arith,
+        h.taken,
+        a.taken,
+        length-append bytes (take step.used piece),
+        length-take-le step.used piece within,
+      );
+    }
+advances {means = means} {s' = s'} {bytes = bytes} {piece = piece} step h e
+    (over_item {given = given} {i = i} some within m a) tells = record {
+      more = i ∷ [];
+      gives = subst (λ o. GivesItemsOf (λ g i. means (types_of s') g i) o (i ∷ [])) (sym e)
+          (gives_one (tells (types_of s') given i m));
+      after = a;
+      onward = omega (
+        arith,
+        h.taken,
+        a.taken,
+        length-append bytes (take step.used piece),
+        length-take-le step.used piece within,
+      );
+    }
+
+pub steps : {keep : Bool} (means : Means) (s s' : SessionState) (items : List FilledItem) (bytes piece : List ℕ)
+    (result : Result (Step GoItem) Fault)
+    → (h : StandsAfter keep s items bytes) → StepAnswersSo keep s s' items bytes piece result
+    → Tells keep means → StepAnswersBy (stepping_of keep means) h.table s s' items bytes piece result
+steps means s s' items bytes piece (Ok step) h a tells = advances step h refl a tells
+steps means s s' items bytes piece (Err (fault.Refused R)) h f tells = (
   λ rest.
       let o = refused_still rest f.0.outcome.ends f.0.shown in
       record { outcome = o; table = table_is (piece ++ rest) (append_assoc bytes piece rest) h o.gives.begins },
   refused_behind f.1,
 )
-steps s s' items bytes piece (Err fault.Read) h f = absurd f
-steps s s' items bytes piece (Err fault.Memory) h f = gives_all s items bytes h
-steps s s' items bytes piece (Err fault.Failed) h f = absurd f
+steps means s s' items bytes piece (Err fault.Read) h f tells = absurd f
+steps {keep = keep} means s s' items bytes piece (Err fault.Memory) h f tells = gives_all keep means s items bytes h
+steps means s s' items bytes piece (Err fault.Failed) h f tells = absurd f
 
 -- what it refuses is shown by bytes of the piece
-pub step_shows : (s s' : SessionState) (items : List FilledItem) (bytes piece : List ℕ)
-    (result : Result (Step GoItem) Fault) → StepAnswers s s' items bytes piece result
+pub step_shows : (keep : Bool) (s s' : SessionState) (items : List FilledItem) (bytes piece : List ℕ)
+    (result : Result (Step GoItem) Fault) → StepAnswersSo keep s s' items bytes piece result
     → OfRefusal (λ R. length bytes < R.seen) result
-step_shows s s' items bytes piece (Ok step) a = tt
-step_shows s s' items bytes piece (Err (fault.Refused R)) a = a.2
-step_shows s s' items bytes piece (Err fault.Read) a = tt
-step_shows s s' items bytes piece (Err fault.Memory) a = tt
-step_shows s s' items bytes piece (Err fault.Failed) a = tt
+step_shows keep s s' items bytes piece (Ok step) a = tt
+step_shows keep s s' items bytes piece (Err (fault.Refused R)) a = a.2
+step_shows keep s s' items bytes piece (Err fault.Read) a = tt
+step_shows keep s s' items bytes piece (Err fault.Memory) a = tt
+step_shows keep s s' items bytes piece (Err fault.Failed) a = tt
 
 -- ---- the end
 pub end_stays : (s s' : SessionState) (items : List FilledItem) (bytes : List ℕ) (r : Result (Unit {0}) Fault)
@@ -230,7 +249,8 @@ end_reason s s' items bytes (Err fault.Memory) a = tt
 end_reason s s' items bytes (Err fault.Failed) a = tt
 
 -- the types where all that was taken leads
-taken_lead : {s : SessionState} {items : List FilledItem} {taken : List ℕ} → HasRead s items taken
+taken_lead : {keep : Bool} {s : SessionState} {items : List FilledItem} {taken : List ℕ}
+    → StandsAfter keep s items taken
     → LeadsBehind (within_trees (limits_of s)) taken items (types_of s)
 taken_lead a = record {
   prefix = a.prefix;
@@ -241,10 +261,11 @@ taken_lead a = record {
   types = under_way_lead a.stage;
 }
 
-pub finishes : (s s' : SessionState) (items : List FilledItem) (bytes : List ℕ) (r : Result (Unit {0}) Fault)
-    → types_of s' ≡ types_of s → (h : HasRead s items bytes) → FinishAnswers s s' items bytes r
-    → FinishAnswersBy go_stepping h.table s s' items bytes r
-finishes s s' items bytes (Ok u) same h f = (whole f.0.ends, h.taken)
+pub finishes : {keep : Bool} (means : Means) (s s' : SessionState) (items : List FilledItem) (bytes : List ℕ)
+    (r : Result (Unit {0}) Fault)
+    → types_of s' ≡ types_of s → (h : StandsAfter keep s items bytes) → FinishAnswers s s' items bytes r
+    → FinishAnswersBy (stepping_of keep means) h.table s s' items bytes r
+finishes means s s' items bytes (Ok u) same h f = (whole f.0.ends, h.taken)
   where
     whole : EndsFilled base_table (within_trees (limits_of s)) bytes items the_end
         → FilledStream base_table (within_trees (limits_of s)) items bytes (types_of s)
@@ -252,15 +273,16 @@ finishes s s' items bytes (Ok u) same h f = (whole f.0.ends, h.taken)
         let one = one_reading h.under_way [] h.stream p (sym h.whole ∙ sym (append-nil bytes)) in
         subst (λ T. FilledStream base_table (within_trees (limits_of s)) items bytes T)
         (sym (types_between h.stage one.rest ∙ one.table)) p
-finishes s s' items bytes (Err (fault.Refused R)) same h f = (
+finishes means s s' items bytes (Err (fault.Refused R)) same h f = (
   record { outcome = f.0; table = table_is [] (sym (append-nil bytes)) h f.0.gives.begins },
   subst (λ U. LeadsBehind (within_trees (limits_of s)) bytes items U) (sym same) (taken_lead h),
 )
-finishes s s' items bytes (Err fault.Read) same h f = f
-finishes s s' items bytes (Err fault.Memory) same h f = f
-finishes s s' items bytes (Err fault.Failed) same h f = f
+finishes means s s' items bytes (Err fault.Read) same h f = f
+finishes means s s' items bytes (Err fault.Memory) same h f = f
+finishes means s s' items bytes (Err fault.Failed) same h f = f
 
 -- ---- past items of values that stand whole
-pub passes : {s s' : SessionState} {count used : ℕ} {piece : List ℕ} → ReadsItems s s' count used piece
-    → ReadsItemsBy go_stepping s s' count used piece
-passes p = record { given = p.given; counted = p.counted; none = p.none; within = p.within; passed = p.passed }
+pub passes : {keep : Bool} (means : Means) {s s' : SessionState} {count used : ℕ} {piece : List ℕ}
+    → ReadsItemsSo keep s s' count used piece
+    → ReadsItemsBy (stepping_of keep means) s s' count used piece
+passes means p = record { given = p.given; counted = p.counted; none = p.none; within = p.within; passed = p.passed }

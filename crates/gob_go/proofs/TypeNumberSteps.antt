@@ -1,4 +1,5 @@
 -- Taking the bytes of a type number, and those of what follows it.
+use Rattle.std.proofs.Common.{Bool}
 use Rattle.std.proofs.Common.{◌≡◌, ℕ, pos, negsuc, ◌+◌, ◌-◌, ◌≤◌, List, [], ◌++◌, length}
 use Rattle.std.proofs.Common.{take, drop, None, Result, Ok, Err, arith, refl, sym, ap, ◌∙◌, subst, append_assoc}
 use Rattle.std.proofs.Common.{length-append, length-drop, ℤ, ◌<ℤ◌, ◌≤ℤ◌, unsigned_abs}
@@ -52,74 +53,81 @@ use Rattle.gob_go.proofs.DefinitionSteps.{ReadsSomewhere}
 
 -- ---- a step further behind the first bytes of a piece
 
-pub steps_further : {L : Bounds} {d d' : Defined} {T : Table} {offset : ℕ} {stepped : Stepped} (z piece : List ℕ)
+pub steps_further : {keep : Bool} {L : Bounds} {d d' : Defined} {T : Table} {offset : ℕ} {stepped : Stepped}
+    (z piece : List ℕ)
     (used : ℕ) → used ≤ length piece
-    → StepsOn L T offset d (z ++ take used piece) (drop used piece) d' (Ok stepped)
-    → StepsOn L T offset d z piece d'
+    → StepsOn keep L T offset d (z ++ take used piece) (drop used piece) d' (Ok stepped)
+    → StepsOn keep L T offset d z piece d'
     (Ok (record { used = used + stepped.used; stage = stepped.stage; item = stepped.item }))
-steps_further {L = L} {T = T} {offset = offset} z piece used l (goes_on {expects = st} {d' = d'} {used = more} e k s) =
+steps_further {keep = keep} {L = L} {T = T} {offset = offset} z piece used l
+    (goes_on {expects = st} {d' = d'} {used = more} e k s) =
     goes_on e (omega (arith, length-drop used piece))
-    (subst (λ z. StageHasRead L T offset (types d') st z) (sym (further_on z piece used more)) s)
+    (subst (λ z. StageHasRead keep L T offset (types d') st z) (sym (further_on z piece used more)) s)
 steps_further {L = L} {T = T} {offset = offset} z piece used l (gives {i = i} {d' = d'} {used = more} e k q w n) =
     let same = ap length (further_on z piece used more) in
     gives e (omega (arith, length-drop used piece))
     (subst (λ z. IsFilledItem base_table L T offset i z (types d')) (sym (further_on z piece used more)) q) w
     (omega arith)
 
-pub steps_stop : {L : Bounds} {d d' : Defined} {T : Table} {offset : ℕ} {f : Fault} (z piece : List ℕ) (used : ℕ)
-    → StepsOn L T offset d (z ++ take used piece) (drop used piece) d' (Err f) → StepsOn L T offset d z piece d' (Err f)
+pub steps_stop : {keep : Bool} {L : Bounds} {d d' : Defined} {T : Table} {offset : ℕ} {f : Fault} (z piece : List ℕ)
+    (used : ℕ)
+    → StepsOn keep L T offset d (z ++ take used piece) (drop used piece) d' (Err f)
+    → StepsOn keep L T offset d z piece d' (Err f)
 steps_stop {L = L} {T = T} {offset = offset} z piece used (refuses_it {R = R} {d' = d'} r) =
     refuses_it (subst (λ l. RefusesWith L T offset l R (types d')) (sym (all_there z piece used)) r)
 steps_stop {L = L} {T = T} {offset = offset} z piece used (no_memory {d' = d'} h) =
     no_memory (subst (λ l. HasTypesWithin L T offset l (types d')) (sym (all_there z piece used)) h)
 
-pub steps_few : {L : Bounds} {d d' : Defined} {T : Table} {offset : ℕ} {z piece : List ℕ} {stepped : Stepped}
-    → StepsOn L T offset d z piece d' (Ok stepped) → stepped.used ≤ length piece
+pub steps_few : {keep : Bool} {L : Bounds} {d d' : Defined} {T : Table} {offset : ℕ} {z piece : List ℕ}
+    {stepped : Stepped}
+    → StepsOn keep L T offset d z piece d' (Ok stepped) → stepped.used ≤ length piece
 steps_few (goes_on e k s) = k
 steps_few (gives e k q w n) = k
 
 -- ---- the type number of a body
 
-pub type_at_number : {L : Bounds} {d : Defined} {at : ℕ} {number : NumberStage}
-    → IsWithinItem L d at (stage.TypeNumber (record { number = number })) → AtNumber number at
-type_at_number w = from w.in_item w.taken_is
+pub type_at_number : {keep : Bool} {L : Bounds} {d : Defined} {at : ℕ} {number : NumberStage}
+    → IsWithinItem keep L d at (stage.TypeNumber (record { number = number })) → AtNumber number at
+type_at_number {keep = keep} w = from w.in_item w.taken_is
   where
     from : {L : Bounds} {T U : Table} {offset at : ℕ} {number : NumberStage} {z : List ℕ}
-        → StageHasRead L T offset U (stage.TypeNumber (record { number = number })) z → at ≡ offset + length z
+        → StageHasRead keep L T offset U (stage.TypeNumber (record { number = number })) z → at ≡ offset + length z
         → AtNumber number at
     from (in_type_number {c = c} a same k n) t = let b = k.begin in at_number n (omega (arith, length-append c a))
 
 -- it ends where the stream may end, at the latest
-pub type_bounded : {L : Bounds} {d : Defined} {at : ℕ} {number : NumberStage}
-    → IsWithinItem L d at (stage.TypeNumber (record { number = number })) → number.rest.end ≤ L.stream
-type_bounded w = end_of w.in_item
+pub type_bounded : {keep : Bool} {L : Bounds} {d : Defined} {at : ℕ} {number : NumberStage}
+    → IsWithinItem keep L d at (stage.TypeNumber (record { number = number })) → number.rest.end ≤ L.stream
+type_bounded {keep = keep} w = end_of w.in_item
   where
     end_of : {L : Bounds} {T U : Table} {offset : ℕ} {number : NumberStage} {z : List ℕ}
-        → StageHasRead L T offset U (stage.TypeNumber (record { number = number })) z → number.rest.end ≤ L.stream
+        → StageHasRead keep L T offset U (stage.TypeNumber (record { number = number })) z → number.rest.end ≤ L.stream
     end_of (in_type_number a same k n) =
         let b = k.begin in let e = k.end in let s = k.stream in let ends = n.ends in omega arith
 
-pub type_more : {L : Bounds} {d : Defined} {T : Table} {offset : ℕ} {old new : NumberStage} {z : List ℕ}
-    (piece : List ℕ) → StageHasRead L T offset (types d) (stage.TypeNumber (record { number = old })) z
+pub type_more : {keep : Bool} {L : Bounds} {d : Defined} {T : Table} {offset : ℕ} {old new : NumberStage} {z : List ℕ}
+    (piece : List ℕ) → StageHasRead keep L T offset (types d) (stage.TypeNumber (record { number = old })) z
     → NumberAnswers old new piece (Ok taken.More) → new.rest ≡ old.rest
-    → StepsOn L T offset d z piece d
+    → StepsOn keep L T offset d z piece d
     (Ok (record { used = length piece; stage = stage.TypeNumber (record { number = new }); item = None }))
-type_more {L = L} {d = d} {T = T} {offset = offset} {new = new} piece (in_type_number {c = c} a same k n) h r =
+type_more {keep = keep} {L = L} {d = d} {T = T} {offset = offset} {new = new} piece
+    (in_type_number {c = c} a same k n) h r =
     let there : c ++ (a ++ piece) ≡ (c ++ a) ++ take (length piece) piece =
     sym (ap (λ p. (c ++ a) ++ p) (take_whole piece (length piece) (omega arith)) ∙ append_assoc c a piece) in
     goes_on refl (omega arith)
-    (subst (λ z. StageHasRead L T offset (types d) (stage.TypeNumber (record { number = new })) z) there
+    (subst (λ z. StageHasRead keep L T offset (types d) (stage.TypeNumber (record { number = new })) z) there
     (in_type_number (a ++ piece) same k (number_goes_on piece n h r)))
 
-pub type_stops : {L : Bounds} {d : Defined} {T : Table} {offset : ℕ} {old : NumberStage} {z : List ℕ}
+pub type_stops : {keep : Bool} {L : Bounds} {d : Defined} {T : Table} {offset : ℕ} {old : NumberStage} {z : List ℕ}
     (piece : List ℕ) (new : NumberStage) (f : Fault)
-    → StageHasRead L T offset (types d) (stage.TypeNumber (record { number = old })) z
-    → NumberAnswers old new piece (Err f) → StepsOn L T offset d z piece d (Err f)
-type_stops {L = L} {d = d} {T = T} {offset = offset} piece new f (in_type_number {c = c} {body = body} a same k n) h =
+    → StageHasRead keep L T offset (types d) (stage.TypeNumber (record { number = old })) z
+    → NumberAnswers old new piece (Err f) → StepsOn keep L T offset d z piece d (Err f)
+type_stops {keep = keep} {L = L} {d = d} {T = T} {offset = offset} piece new f
+    (in_type_number {c = c} {body = body} a same k n) h =
     refused_by (fault_of_number piece new f n h)
   where
     refused_by : {f : Fault} → NumberFault body.begin body.end (a ++ piece) f
-        → StepsOn L T offset d (c ++ a) piece d (Err f)
+        → StepsOn keep L T offset d (c ++ a) piece d (Err f)
     refused_by (number_fault r) = refuses_it (body_refused (a ++ piece) k same (append_assoc c a piece)
         (body_numbered r)
         (nothing_numbered r) (number_shown r))
@@ -131,15 +139,15 @@ counted_in k b e =
     let kb = k.begin in let ke = k.end in
     record { count = k.count; item = k.item; stream = k.stream; begin = omega arith; end = omega arith }
 
-pub type_whole : {L : Bounds} {d : Defined} {at behind whole used : ℕ} {old : NumberStage}
-    (new : NumberStage) (piece : List ℕ) → IsWithinItem L d at (stage.TypeNumber (record { number = old }))
+pub type_whole : {keep : Bool} {L : Bounds} {d : Defined} {at behind whole used : ℕ} {old : NumberStage}
+    (new : NumberStage) (piece : List ℕ) → IsWithinItem keep L d at (stage.TypeNumber (record { number = old }))
     → NumberIsWhole old piece whole used → new.rest ≡ old.rest → behind ≡ at + used
     → IsAtBody L d behind new.rest (IsUnsigned whole)
-type_whole {L = L} {d = d} {at = at} {behind = behind} {whole = whole} {used = used} {old = old} new
+type_whole {keep = keep} {L = L} {d = d} {at = at} {behind = behind} {whole = whole} {used = used} {old = old} new
     piece w h r b = from w.in_item w.taken_is
   where
     from : {T : Table} {offset : ℕ} {z : List ℕ}
-        → StageHasRead L T offset (types d) (stage.TypeNumber (record { number = old })) z → at ≡ offset + length z
+        → StageHasRead keep L T offset (types d) (stage.TypeNumber (record { number = old })) z → at ≡ offset + length z
         → IsAtBody L d behind new.rest (IsUnsigned whole)
     from {offset = offset} (in_type_number {m = m} {c = c} {body = body} a same k n) t =
         let w' = number_is_whole n h in let l = w'.within in let room = w'.room in let kb = k.begin in
@@ -165,13 +173,15 @@ type_whole {L = L} {d = d} {at = at} {behind = behind} {whole = whole} {used = u
 bytes_as : {z y : List ℕ} → z ≡ y → AreBytes z → AreBytes y
 bytes_as e o = subst AreBytes e o
 
-type_behind : {L : Bounds} {d d' : Defined} {T : Table} {offset at behind whole used : ℕ} {old : NumberStage}
+type_behind : {keep : Bool} {L : Bounds} {d d' : Defined} {T : Table} {offset at behind whole used : ℕ}
+    {old : NumberStage}
     {z : List ℕ} {result : Result Stepped Fault} (new : NumberStage) (piece rest : List ℕ)
-    → rest ≡ drop used piece → StageHasRead L T offset (types d) (stage.TypeNumber (record { number = old })) z
+    → rest ≡ drop used piece → StageHasRead keep L T offset (types d) (stage.TypeNumber (record { number = old })) z
     → AreBytes (z ++ piece) → NumberIsWhole old piece whole used → new.rest ≡ old.rest → AtNumber old at
-    → behind ≡ at + used → BodySteps L d d' behind new.rest (IsUnsigned whole) rest result
-    → StepsOn L T offset d (z ++ take used piece) (drop used piece) d' result
-type_behind {L = L} {d = d} {d' = d'} {T = T} {offset = offset} {used = used} {result = result} new piece rest e
+    → behind ≡ at + used → BodySteps keep L d d' behind new.rest (IsUnsigned whole) rest result
+    → StepsOn keep L T offset d (z ++ take used piece) (drop used piece) d' result
+type_behind {keep = keep} {L = L} {d = d} {d' = d'} {T = T} {offset = offset} {used = used} {result = result} new
+    piece rest e
     (in_type_number {m = m} {c = c} {body = body} a same k n) o h r t b steps =
     let w = number_is_whole n h in let l = w.within in let room = w.room in
     let rb = ap (λ (x : Extent). x.begin) r in let re = ap (λ (x : Extent). x.end) r in
@@ -183,26 +193,28 @@ type_behind {L = L} {d = d} {d' = d'} {T = T} {offset = offset} {used = used} {r
     let on = steps.each offset m c (a ++ take used piece) (counted_in k (rb ∙ nb) (re ∙ ne)) w.spelled
     (omega (arith, length-append a (take used piece), length-take used piece))
     (omega arith) (bytes_as all o) in
-    subst (λ p. StepsOn L T offset d ((c ++ a) ++ take used piece) p d' result) e
-    (subst (λ y. StepsOn L T offset d y rest d' result) there
-    (subst (λ T. StepsOn L T offset d (c ++ (a ++ take used piece)) rest d' result) same on))
+    subst (λ p. StepsOn keep L T offset d ((c ++ a) ++ take used piece) p d' result) e
+    (subst (λ y. StepsOn keep L T offset d y rest d' result) there
+    (subst (λ T. StepsOn keep L T offset d (c ++ (a ++ take used piece)) rest d' result) same on))
 
-pub type_further : {L : Bounds} {d d' : Defined} {T : Table} {offset at behind whole used : ℕ} {old : NumberStage}
+pub type_further : {keep : Bool} {L : Bounds} {d d' : Defined} {T : Table} {offset at behind whole used : ℕ}
+    {old : NumberStage}
     {z : List ℕ} {stepped : Stepped} (new : NumberStage) (piece rest : List ℕ)
-    → rest ≡ drop used piece → StageHasRead L T offset (types d) (stage.TypeNumber (record { number = old })) z
+    → rest ≡ drop used piece → StageHasRead keep L T offset (types d) (stage.TypeNumber (record { number = old })) z
     → AreBytes (z ++ piece) → NumberIsWhole old piece whole used → new.rest ≡ old.rest → AtNumber old at
-    → behind ≡ at + used → BodySteps L d d' behind new.rest (IsUnsigned whole) rest (Ok stepped)
-    → StepsOn L T offset d z piece d'
+    → behind ≡ at + used → BodySteps keep L d d' behind new.rest (IsUnsigned whole) rest (Ok stepped)
+    → StepsOn keep L T offset d z piece d'
     (Ok (record { used = used + stepped.used; stage = stepped.stage; item = stepped.item }))
 type_further {used = used} {z = z} new piece rest e s o h r t b steps =
     steps_further z piece used h.within (type_behind new piece rest e s o h r t b steps)
 
-pub type_ends : {L : Bounds} {d d' : Defined} {T : Table} {offset at behind whole used : ℕ} {old : NumberStage}
+pub type_ends : {keep : Bool} {L : Bounds} {d d' : Defined} {T : Table} {offset at behind whole used : ℕ}
+    {old : NumberStage}
     {z : List ℕ} {f : Fault} (new : NumberStage) (piece rest : List ℕ)
-    → rest ≡ drop used piece → StageHasRead L T offset (types d) (stage.TypeNumber (record { number = old })) z
+    → rest ≡ drop used piece → StageHasRead keep L T offset (types d) (stage.TypeNumber (record { number = old })) z
     → AreBytes (z ++ piece) → NumberIsWhole old piece whole used → new.rest ≡ old.rest → AtNumber old at
-    → behind ≡ at + used → BodySteps L d d' behind new.rest (IsUnsigned whole) rest (Err f)
-    → StepsOn L T offset d z piece d' (Err f)
+    → behind ≡ at + used → BodySteps keep L d d' behind new.rest (IsUnsigned whole) rest (Err f)
+    → StepsOn keep L T offset d z piece d' (Err f)
 type_ends {used = used} {z = z} new piece rest e s o h r t b steps =
     steps_stop z piece used (type_behind new piece rest e s o h r t b steps)
 
@@ -212,10 +224,11 @@ within_body : {L : Bounds} {offset m taken : ℕ} {c : List ℕ} {body : Extent}
     → taken ≡ body.begin + length a → taken ≤ body.end → length a ≤ body.end - body.begin
 within_body a k t l = let e = k.end in omega arith
 
-pub definition_denied : {L : Bounds} {d : Defined} {offset m begin : ℕ} {c a : List ℕ} {body : Extent} {id : TypeId}
+pub definition_denied : {keep : Bool} {L : Bounds} {d : Defined} {offset m begin : ℕ} {c a : List ℕ} {body : Extent}
+    {id : TypeId}
     (piece : List ℕ) (f : Fault) → IsCount L offset m c body → IsNumberOf negative id a
     → begin ≡ body.begin + length a → begin ≤ body.end → BeginsDescription L d body.begin begin body.end id (Err f)
-    → StepsOn L (types d) offset d (c ++ a) piece d (Err f)
+    → StepsOn keep L (types d) offset d (c ++ a) piece d (Err f)
 definition_denied {L = L} {d = d} {begin = begin} {c = c} {a = a} {body = body} piece (fault.Refused R) k
     (of_definition {id = id} i s) t l q =
     let there = take_over a piece (body.end - body.begin) (within_body a k t l) in
@@ -274,30 +287,34 @@ begun_describing {L = L} {d = d} (of_definition {id = id} {n = n} i s) t l b = r
   may = subst (λ id. MayDefine base_table L (types d) id) (sym b.id_is) b.may;
 }
 
-pub definition_begins : {L : Bounds} {d d' : Defined} {offset m : ℕ} {c a : List ℕ} {body : Extent} {id : TypeId}
+pub definition_begins : {keep : Bool} {L : Bounds} {d d' : Defined} {offset m : ℕ} {c a : List ℕ} {body : Extent}
+    {id : TypeId}
     {said : Described} (at : ℕ) (stage : DescriptionStage) (piece : List ℕ) → IsCount L offset m c body
     → IsNumberOf negative id a → at ≡ body.begin + length a → at ≤ body.end → HasWireType (types d)
     → Begun L d at body.end id stage → ReadsSomewhere d stage piece d' (Ok said)
-    → StepsOn L (types d) offset d (c ++ a) piece d' (Ok (behind_described at (length piece) said))
-definition_begins {L = L} {d = d} {d' = d'} {offset = offset} {c = c} {a = a} {body = body} {id = id} {said = said} at
+    → StepsOn keep L (types d) offset d (c ++ a) piece d' (Ok (behind_described at (length piece) said))
+definition_begins {keep = keep} {L = L} {d = d} {d' = d'} {offset = offset} {c = c} {a = a} {body = body} {id = id}
+    {said = said} at
     stage piece k n t l w b g =
     let h = begun_describing n t l b in
     let reads = g L.depth [] (begun_read b) in
-    subst (λ l. StepsOn L (types d) offset d (c ++ l) piece d' (Ok (behind_described at (length piece) said)))
+    subst (λ l. StepsOn keep L (types d) offset d (c ++ l) piece d' (Ok (behind_described at (length piece) said)))
     (append_nil a)
     (definition_steps at piece k refl w h (ends_at at piece h (omega (arith, length-append a [])) reads) reads)
 
-pub definition_begins_wrong : {L : Bounds} {d d' : Defined} {offset m at : ℕ} {c a : List ℕ} {body : Extent}
+pub definition_begins_wrong : {keep : Bool} {L : Bounds} {d d' : Defined} {offset m at : ℕ} {c a : List ℕ}
+    {body : Extent}
     {id : TypeId} {f : Fault} (stage : DescriptionStage) (piece : List ℕ) → IsCount L offset m c body
     → IsNumberOf negative id a → at ≡ body.begin + length a → at ≤ body.end → HasWireType (types d)
     → Begun L d at body.end id stage → ReadsSomewhere d stage piece d' (Err f)
-    → StepsOn L (types d) offset d (c ++ a) piece d' (Err f)
-definition_begins_wrong {L = L} {d = d} {d' = d'} {offset = offset} {c = c} {a = a} {id = id} {f = f} stage piece k n t
+    → StepsOn keep L (types d) offset d (c ++ a) piece d' (Err f)
+definition_begins_wrong {keep = keep} {L = L} {d = d} {d' = d'} {offset = offset} {c = c} {a = a} {id = id} {f = f}
+    stage piece k n t
     l
     w b g =
     let h = begun_describing n t l b in
     let reads = g L.depth [] (begun_read b) in
-    subst (λ l. StepsOn L (types d) offset d (c ++ l) piece d' (Err f)) (append_nil a)
+    subst (λ l. StepsOn keep L (types d) offset d (c ++ l) piece d' (Err f)) (append_nil a)
     (definition_fails piece k refl w h (omega arith) reads)
 
 pub begun_fits : {L : Bounds} {d d' : Defined} {at end : ℕ} {a : List ℕ} {id : TypeId} {stage : DescriptionStage}
@@ -314,10 +331,11 @@ begun_fits {L = L} {at = at} {a = a} {stage = stage} begin (described.Whole defi
 
 -- ---- a type whose values may not come
 
-pub type_denied : {L : Bounds} {d : Defined} {offset m at : ℕ} {c a : List ℕ} {body : Extent} {id : TypeId}
+pub type_denied : {keep : Bool} {L : Bounds} {d : Defined} {offset m at : ℕ} {c a : List ℕ} {body : Extent}
+    {id : TypeId}
     (piece : List ℕ) (why : Denial) → IsCount L offset m c body → IsNumberOf positive id a
     → at ≡ body.begin + length a → at ≤ body.end → IsDenial (RefusesType (types d) id) why
-    → StepsOn L (types d) offset d (c ++ a) piece d (Err (fault_at body.begin at why))
+    → StepsOn keep L (types d) offset d (c ++ a) piece d (Err (fault_at body.begin at why))
 type_denied {L = L} {d = d} {c = c} {a = a} {body = body} piece (denial.Refused r) k (of_value s) t l q =
     let there = take_over a piece (body.end - body.begin) (within_body a k t l) in
     rw t (refuses_it (body_refused (a ++ piece) k refl (append_assoc c a piece)
@@ -337,10 +355,11 @@ pub positive_number : {number : ℕ} {i : ℤ} {id : TypeId} → ((a : List ℕ)
 positive_number {i = i} {id = id} s l e a u =
     of_value (signed_as {j = pos id.0} (not_negative_of i id.0 l e) (s a u))
 
-pub body_named : {L : Bounds} {d d' : Defined} {taken : ℕ} {body : Extent} {id : TypeId} {number : ℕ} {sign : Sign}
+pub body_named : {keep : Bool} {L : Bounds} {d d' : Defined} {taken : ℕ} {body : Extent} {id : TypeId} {number : ℕ}
+    {sign : Sign}
     {piece : List ℕ} {result : Result Stepped Fault} → ((x : List ℕ) → IsUnsigned number x → IsNumberOf sign id x)
-    → BodySteps L d d' taken body (IsNumberOf sign id) piece result
-    → BodySteps L d d' taken body (IsUnsigned number) piece result
+    → BodySteps keep L d d' taken body (IsNumberOf sign id) piece result
+    → BodySteps keep L d d' taken body (IsUnsigned number) piece result
 body_named named steps =
     record { each = λ offset size c a k u t l o. steps.each offset size c a k (named a u) t l o }
 
@@ -370,9 +389,10 @@ pub rest_bytes : (piece : List ℕ) (used : ℕ) → AreBytes piece → AreBytes
 rest_bytes piece used o = bytes_rest (take used piece) (drop used piece)
     (bytes_as (sym (take_and_drop piece used)) o)
 
-pub body_few : {L : Bounds} {d d' : Defined} {at number : ℕ} {body : Extent} {rest : List ℕ} {stepped : Stepped}
+pub body_few : {keep : Bool} {L : Bounds} {d d' : Defined} {at number : ℕ} {body : Extent} {rest : List ℕ}
+    {stepped : Stepped}
     (piece : List ℕ) (used : ℕ) → rest ≡ drop used piece → used ≤ length piece → AreBytes piece
-    → IsAtBody L d at body (IsUnsigned number) → BodySteps L d d' at body (IsUnsigned number) rest (Ok stepped)
+    → IsAtBody L d at body (IsUnsigned number) → BodySteps keep L d d' at body (IsUnsigned number) rest (Ok stepped)
     → used + stepped.used ≤ length piece
 body_few {rest = rest} piece used e l o h steps =
     let few = steps_few (steps.each h.offset h.size h.count h.number h.counted h.numbered h.taken_is h.within

@@ -1,4 +1,5 @@
 -- Where a reader stands within an item: no item is whole, and nothing is refused that the bytes so far show.
+use Rattle.std.proofs.Common.{Bool}
 use Rattle.std.proofs.Common.{◌≡◌, ℕ, ◌+◌, ◌-◌, ◌<◌, ◌≤◌, inl, inr, List, [], ◌∷◌, ◌++◌, length, take, arith, refl, sym}
 use Rattle.std.proofs.Common.{ap, ◌∙◌, subst, append_assoc, length-append}
 use Rattle.std.proofs.lemmas.List.{take_all}
@@ -100,8 +101,8 @@ rests_at {S = S} {z = z} {levels = levels} {next = next} {left = left} behind p 
   leads = leads;
 }
 
-pub part_at_rest : {L : Bounds} {T U : Table} {offset : ℕ} {levels : Levels} {next : PutPart} {y : List ℕ}
-    → PartHasRead L T offset U levels next y → AtRest L T offset U y
+pub part_at_rest : {keep : Bool} {L : Bounds} {T U : Table} {offset : ℕ} {levels : Levels} {next : PutPart} {y : List ℕ}
+    → PartHasRead keep L T offset U levels next y → AtRest L T offset U y
 part_at_rest {offset = offset} (in_skeleton {z = z} {lv = lv} c p said w o) =
     let r = w.rest in let short = w.viable.room in
     let room : offset + length (z ++ c) < lv.end = omega arith in
@@ -269,8 +270,9 @@ description_short : {L : Bounds} {offset m : ℕ} {c : List ℕ} {U : Table} {bo
 description_short {a = a} {y = y} k d =
     let short = (description_viable d).room in let e = k.end in omega (arith, length-append a y)
 
-pub no_item_yet : {L : Bounds} {T U V : Table} {offset : ℕ} {expects : Stage} {y b : List ℕ} {i : FilledItem}
-    (x : List ℕ) → StageHasRead L T offset U expects y → IsFilledItem base_table L T offset i b V → y ≡ b ++ x → ⊥
+pub no_item_yet : {keep : Bool} {L : Bounds} {T U V : Table} {offset : ℕ} {expects : Stage} {y b : List ℕ}
+    {i : FilledItem}
+    (x : List ℕ) → StageHasRead keep L T offset U expects y → IsFilledItem base_table L T offset i b V → y ≡ b ++ x → ⊥
 no_item_yet x (in_count q g n) h e =
     let k = item_counts h in
     prefix_not_number (k.rest ++ x) n.prefix k.counted (e ∙ ap (λ (l : List ℕ). l ++ x) k.whole
@@ -292,8 +294,8 @@ body_there {L = L} {T = T} offset {m = m} {n = n} {c = c} {d = d} {y = y} {R = R
     (subst (λ m. RefusesBody base_table L T (offset + length d) m (take m r) R) (sym same.value) h)) in
     subst (λ y. RefusesBody base_table L T (offset + length c) m y R) (take_all m y (omega arith)) there
 
-pub unrefused : {L : Bounds} {T U : Table} {offset : ℕ} {expects : Stage} {y : List ℕ} {R : Refusal}
-    → StageHasRead L T offset U expects y → RefusesFilled base_table L T offset y R → ⊥
+pub unrefused : {keep : Bool} {L : Bounds} {T U : Table} {offset : ℕ} {expects : Stage} {y : List ℕ} {R : Refusal}
+    → StageHasRead keep L T offset U expects y → RefusesFilled base_table L T offset y R → ⊥
 unrefused (in_count q g n) (refused_count h) = count_begun n.prefix h
 unrefused (in_count q g n) (refused_body r e u l s h ns) = prefix_not_number r n.prefix u e
 unrefused (in_count q g n) (refused_value {w = w} e p h) =
@@ -321,8 +323,8 @@ unrefused (in_definition {c = c} a y g k d) (refused_value {w = w} e p h) =
 unrefused {y = y} (in_put p) h = let a = part_at_rest p in rest_unrefused a (begins a.behind y a.stands a.whole) h
 
 -- the types are all where the bytes so far lead
-pub under_way_lead : {L : Bounds} {T U : Table} {offset : ℕ} {expects : Stage} {y : List ℕ}
-    → StageHasRead L T offset U expects y → LeadsAtMostTo L T offset y U
+pub under_way_lead : {keep : Bool} {L : Bounds} {T U : Table} {offset : ℕ} {expects : Stage} {y : List ℕ}
+    → StageHasRead keep L T offset U expects y → LeadsAtMostTo L T offset y U
 under_way_lead (in_count q g n) =
     leads_nowhere g (λ b. prefix_not_number (b.number ++ b.rest) n.prefix b.counts b.whole)
 under_way_lead (in_type_number a g k n) = leads_nowhere g (λ b.
@@ -334,8 +336,8 @@ under_way_lead (in_definition a y g k d) = leads_nowhere g (λ b.
 under_way_lead (in_put p) = let a = part_at_rest p in leads_at_most a.behind a.stands a.whole a.no_step a.types a.leads
 
 -- ---- types
-part_grown : {L : Bounds} {T U : Table} {offset : ℕ} {levels : Levels} {next : PutPart} {y : List ℕ}
-    → PartHasRead L T offset U levels next y → Grown T U
+part_grown : {keep : Bool} {L : Bounds} {T U : Table} {offset : ℕ} {levels : Levels} {next : PutPart} {y : List ℕ}
+    → PartHasRead keep L T offset U levels next y → Grown T U
 part_grown (in_skeleton c p said w o) = stands_grown p
 part_grown (in_name_length c a p said n o num rest) = stands_grown p
 part_grown (in_name c a s p said n o rest u size some fits name defs room) = stands_grown p
@@ -345,16 +347,16 @@ part_grown (in_next_count q p said def_ ends n o held num) = grown_on (stands_gr
 part_grown (in_inner_count q p said may sg nil o held num) = stands_grown p
 
 -- the table says of each type what the one before the item said
-pub stage_grown : {L : Bounds} {T U : Table} {offset : ℕ} {expects : Stage} {y : List ℕ}
-    → StageHasRead L T offset U expects y → Grown T U
+pub stage_grown : {keep : Bool} {L : Bounds} {T U : Table} {offset : ℕ} {expects : Stage} {y : List ℕ}
+    → StageHasRead keep L T offset U expects y → Grown T U
 stage_grown (in_count q g n) = same_grown g
 stage_grown (in_type_number a g k n) = same_grown g
 stage_grown (in_definition a y g k d) = same_grown g
 stage_grown (in_put p) = part_grown p
 
 -- ---- how far bytes come
-part_bound : {L : Bounds} {T U : Table} {offset : ℕ} {levels : Levels} {next : PutPart} {y : List ℕ}
-    → PartHasRead L T offset U levels next y → offset + length y ≤ L.stream + 9
+part_bound : {keep : Bool} {L : Bounds} {T U : Table} {offset : ℕ} {levels : Levels} {next : PutPart} {y : List ℕ}
+    → PartHasRead keep L T offset U levels next y → offset + length y ≤ L.stream + 9
 part_bound {L = L} {offset = offset} (in_skeleton {z = z} {lv = lv} {around = around} c p said w o) =
     let s = within_stream L around lv _ (levels_nest p) in let r = w.rest in let short = w.viable.room in omega arith
 part_bound {L = L} (in_name_length {z = z} {lv = lv} {around = around} c a p said n o num rest) =
@@ -375,8 +377,9 @@ part_bound {L = L} (in_inner_count {z = z} {n = n} {lv = lv} {around = around} q
     omega (arith, length-append z (n ++ q), length-append z n, length-append n q)
 
 -- all but those of a count end within the stream's limit
-pub stage_bound : {L : Bounds} {T U : Table} {offset : ℕ} {expects : Stage} {y : List ℕ} → offset ≤ L.stream
-    → StageHasRead L T offset U expects y → offset + length y ≤ L.stream + 9
+pub stage_bound : {keep : Bool} {L : Bounds} {T U : Table} {offset : ℕ} {expects : Stage} {y : List ℕ}
+    → offset ≤ L.stream
+    → StageHasRead keep L T offset U expects y → offset + length y ≤ L.stream + 9
 stage_bound l (in_count q g n) = let few = prefix_few n.prefix in omega arith
 stage_bound l (in_type_number {c = c} a g k n) =
     let s = k.stream in let b = k.begin in let e = k.end in let r = n.room in omega (arith, length-append c a)

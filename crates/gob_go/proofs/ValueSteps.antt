@@ -1,4 +1,5 @@
 -- Taking bytes of the innermost skeleton, up to a nil or to the end of the value.
+use Rattle.std.proofs.Common.{Bool}
 use Rattle.std.proofs.Common.{◌≡◌, ℕ, zero, suc, ◌+◌, ◌<◌, ◌≤◌, ◌⊎◌, inl, inr, List, []}
 use Rattle.std.proofs.Common.{◌++◌, length, take, drop, Some, Result, Ok, Err, arith, refl, sym, ap, ◌∙◌, subst}
 use Rattle.std.proofs.Common.{append_assoc, length-append, length-drop}
@@ -53,32 +54,32 @@ use Rattle.gob_go.proofs.ReaderLaws.{fits, reads_on, read_within, announced_once
 
 -- ---- what taking asks
 
-pub value_fits : {L : Bounds} {T : Table} {offset : ℕ} {U : Table} {levels : Levels} {z : List ℕ}
-    → ValueHasRead L T offset U levels z → FitsTable skip_building U levels.innermost.reader
+pub value_fits : {keep : Bool} {L : Bounds} {T : Table} {offset : ℕ} {U : Table} {levels : Levels} {z : List ℕ}
+    → ValueHasRead keep L T offset U levels z → FitsTable skip_building U levels.innermost.reader
 value_fits {U = U} {levels = levels} (in_value_at {lv = lv} c p said l k) =
     fits U lv.type lv.limit l.announced (lv.done ++ c) skip_building.received (under_way levels.innermost.reader)
     l.is.reads
 
-pub value_clear : {L : Bounds} {T : Table} {offset : ℕ} {U : Table} {levels : Levels} {z : List ℕ}
-    → ValueHasRead L T offset U levels z → NoNilBegun U levels.innermost.reader
+pub value_clear : {keep : Bool} {L : Bounds} {T : Table} {offset : ℕ} {U : Table} {levels : Levels} {z : List ℕ}
+    → ValueHasRead keep L T offset U levels z → NoNilBegun U levels.innermost.reader
 value_clear (in_value_at c p said l k) = l.is.clear
 
-pub value_order : {L : Bounds} {T : Table} {offset at : ℕ} {U : Table} {levels : Levels} {z : List ℕ}
-    → ValueHasRead L T offset U levels z → at ≡ offset + length z
+pub value_order : {keep : Bool} {L : Bounds} {T : Table} {offset at : ℕ} {U : Table} {levels : Levels} {z : List ℕ}
+    → ValueHasRead keep L T offset U levels z → at ≡ offset + length z
     → length levels.innermost.skeleton.items ≤ at
 value_order (in_value_at {z = z} {lv = lv} c p said l k) e =
     let n = (levels_nest p).0.done in
     omega (arith, ap length l.is.skeleton, length-append lv.done c, length-append z c)
 
-pub value_end : {L : Bounds} {T : Table} {offset at : ℕ} {U : Table} {levels : Levels} {z : List ℕ}
-    → ValueHasRead L T offset U levels z → at ≡ offset + length z → at ≤ levels.innermost.end
+pub value_end : {keep : Bool} {L : Bounds} {T : Table} {offset at : ℕ} {U : Table} {levels : Levels} {z : List ℕ}
+    → ValueHasRead keep L T offset U levels z → at ≡ offset + length z → at ≤ levels.innermost.end
 value_end {U = U} {levels = levels} (in_value_at {lv = lv} c p said l k) e =
     let w = read_within U lv.type lv.limit l.announced (lv.done ++ c) skip_building.received
     (under_way levels.innermost.reader) l.is.reads in
     let r = l.rest in let d = l.is.end in omega arith
 
-pub value_room : {L : Bounds} {T : Table} {offset at : ℕ} {U : Table} {levels : Levels} {z : List ℕ}
-    → ValueHasRead L T offset U levels z → at ≡ offset + length z
+pub value_room : {keep : Bool} {L : Bounds} {T : Table} {offset at : ℕ} {U : Table} {levels : Levels} {z : List ℕ}
+    → ValueHasRead keep L T offset U levels z → at ≡ offset + length z
     → (t : TypeId) (limit announced : ℕ) (y : List ℕ)
     → HasReadBody skip_building U t limit announced levels.innermost.reader y
     → at + announced ≡ length levels.innermost.skeleton.items + levels.innermost.end
@@ -107,8 +108,9 @@ has_come U at levels l piece came e h = record {
 
 -- ---- how much was taken
 
-pub came_within : {L : Bounds} {T : Table} {offset at : ℕ} {U : Table} {levels levels' : Levels} {z piece : List ℕ}
-    (came : Came) → ValueHasRead L T offset U levels z → HasCome U at levels levels' piece came
+pub came_within : {keep : Bool} {L : Bounds} {T : Table} {offset at : ℕ} {U : Table} {levels levels' : Levels}
+    {z piece : List ℕ}
+    (came : Came) → ValueHasRead keep L T offset U levels z → HasCome U at levels levels' piece came
     → used_of piece came ≤ length piece
 came_within came.ToEnd h r = omega arith
 came_within (came.ToNil used) (in_value_at {lv = lv} c p said l k) r =
@@ -117,12 +119,13 @@ came_within (came.PastValue used) (in_value_at {lv = lv} c p said l k) r =
     (r.answers.3 lv.type lv.limit l.announced (lv.done ++ c) l.is.reads).within
 
 -- up to a nil, no further than the stream may go
-pub nil_bound : {L : Bounds} {d : Defined} {at used : ℕ} {levels levels' : Levels} {piece : List ℕ}
-    → IsInValue L d at levels → HasCome (types d) at levels levels' piece (came.ToNil used) → at + used ≤ L.stream
-nil_bound {L = L} {d = d} {at = at} {used = used} {levels = levels} {levels' = levels'} {piece = piece} w r =
+pub nil_bound : {keep : Bool} {L : Bounds} {d : Defined} {at used : ℕ} {levels levels' : Levels} {piece : List ℕ}
+    → IsInValue keep L d at levels → HasCome (types d) at levels levels' piece (came.ToNil used) → at + used ≤ L.stream
+nil_bound {keep = keep} {L = L} {d = d} {at = at} {used = used} {levels = levels} {levels' = levels'}
+    {piece = piece} w r =
     from w.has_read w.taken_is
   where
-    from : {T : Table} {offset : ℕ} {z : List ℕ} → ValueHasRead L T offset (types d) levels z
+    from : {T : Table} {offset : ℕ} {z : List ℕ} → ValueHasRead keep L T offset (types d) levels z
         → at ≡ offset + length z → at + used ≤ L.stream
     from (in_value_at {z = z} {lv = lv} {around = around} c p said l k) e =
         let g = (r.answers.3 lv.type lv.limit l.announced (lv.done ++ c) l.is.reads).0 in
@@ -132,11 +135,13 @@ nil_bound {L = L} {d = d} {at = at} {used = used} {levels = levels} {levels' = l
         omega (arith, length-append (lv.done ++ c) (take used piece), length-take used piece)
 
 -- and up to its end
-pub past_bound : {L : Bounds} {d : Defined} {at used : ℕ} {levels levels' : Levels} {piece : List ℕ}
-    → IsInValue L d at levels → HasCome (types d) at levels levels' piece (came.PastValue used) → at + used ≤ L.stream
-past_bound {L = L} {d = d} {at = at} {used = used} {levels = levels} {piece = piece} w r = from w.has_read w.taken_is
+pub past_bound : {keep : Bool} {L : Bounds} {d : Defined} {at used : ℕ} {levels levels' : Levels} {piece : List ℕ}
+    → IsInValue keep L d at levels → HasCome (types d) at levels levels' piece (came.PastValue used)
+    → at + used ≤ L.stream
+past_bound {keep = keep} {L = L} {d = d} {at = at} {used = used} {levels = levels} {piece = piece} w r = from
+    w.has_read w.taken_is
   where
-    from : {T : Table} {offset : ℕ} {z : List ℕ} → ValueHasRead L T offset (types d) levels z
+    from : {T : Table} {offset : ℕ} {z : List ℕ} → ValueHasRead keep L T offset (types d) levels z
         → at ≡ offset + length z → at + used ≤ L.stream
     from (in_value_at {z = z} {lv = lv} {around = around} c p said l k) e =
         let g = r.answers.3 lv.type lv.limit l.announced (lv.done ++ c) l.is.reads in
@@ -159,8 +164,9 @@ stood_room : {T : Table} {t : TypeId} {limit announced : ℕ} {z : List ℕ} →
 stood_room begins = inl refl
 stood_room (stands v) = inr v.room
 
-pub past_some : {L : Bounds} {T : Table} {offset at used : ℕ} {U : Table} {levels levels' : Levels} {z piece : List ℕ}
-    → ValueHasRead L T offset U levels z → HasCome U at levels levels' piece (came.PastValue used) → 0 < used
+pub past_some : {keep : Bool} {L : Bounds} {T : Table} {offset at used : ℕ} {U : Table} {levels levels' : Levels}
+    {z piece : List ℕ}
+    → ValueHasRead keep L T offset U levels z → HasCome U at levels levels' piece (came.PastValue used) → 0 < used
 past_some {used = used} {piece = piece} (in_value_at {lv = lv} c p said l k) r =
     let g = r.answers.3 lv.type lv.limit l.announced (lv.done ++ c) l.is.reads in
     let some = top_some g.made.spelled in let all = g.made.all in
@@ -182,15 +188,16 @@ some_behind (suc used) more piece rest e f l = omega arith
 -- ---- where it stands then
 
 -- the bytes that were taken of the stream are those before
-pub value_place : {L : Bounds} {d : Defined} {T : Table} {offset at : ℕ} {levels : Levels} {z : List ℕ}
-    → IsInValue L d at levels → ValueHasRead L T offset (types d) levels z → at ≡ offset + length z
+pub value_place : {keep : Bool} {L : Bounds} {d : Defined} {T : Table} {offset at : ℕ} {levels : Levels} {z : List ℕ}
+    → IsInValue keep L d at levels → ValueHasRead keep L T offset (types d) levels z → at ≡ offset + length z
 value_place w (in_value_at {z = z} {lv = lv} c p said l k) =
     let there = value_room w.has_read w.taken_is lv.type lv.limit l.announced (lv.done ++ c) l.is.reads in
     let rest = l.rest in let ends = l.is.end in omega (arith, ap length l.is.skeleton)
 
-others_on : {U : Table} {around : List Level} {o : Open} {os : List Open} {left : ℕ} (levels levels' : Levels)
-    → OthersAre U levels around o os left → levels'.innermost.fillings ≡ levels.innermost.fillings
-    → levels'.outer ≡ levels.outer → levels'.left ≡ levels.left → OthersAre U levels' around o os left
+others_on : {keep : Bool} {U : Table} {around : List Level} {o : Open} {os : List Open} {left : ℕ}
+    (levels levels' : Levels)
+    → OthersAre keep U levels around o os left → levels'.innermost.fillings ≡ levels.innermost.fillings
+    → levels'.outer ≡ levels.outer → levels'.left ≡ levels.left → OthersAre keep U levels' around o os left
 others_on levels levels' k f e l =
     record { fillings = rw f k.fillings; outer = rw e k.outer; left_is = l ∙ k.left_is }
 
@@ -209,18 +216,19 @@ level_on {U = U} {lv = lv} {c = c} {n = n} x l l' h k s clear reads = record {
 }
 
 -- the whole piece was taken
-pub value_more : {L : Bounds} {T : Table} {offset at : ℕ} {d : Defined} {z piece : List ℕ} {levels levels' : Levels}
-    → ValueHasRead L T offset (types d) levels z → HasCome (types d) at levels levels' piece came.ToEnd
-    → PartSteps L T offset d z piece levels' d (Ok (record { used = length piece; next = Some part.Value }))
-value_more {L = L} {T = T} {offset = offset} {d = d} {piece = piece} {levels = levels} {levels' = levels'}
+pub value_more : {keep : Bool} {L : Bounds} {T : Table} {offset at : ℕ} {d : Defined} {z piece : List ℕ}
+    {levels levels' : Levels}
+    → ValueHasRead keep L T offset (types d) levels z → HasCome (types d) at levels levels' piece came.ToEnd
+    → PartSteps keep L T offset d z piece levels' d (Ok (record { used = length piece; next = Some part.Value }))
+value_more {keep = keep} {L = L} {T = T} {offset = offset} {d = d} {piece = piece} {levels = levels} {levels' = levels'}
     (in_value_at {z = z} {lv = lv} c p said l k) r =
     let U = types d in
     let keeps = r.answers.0 in
     let g = r.answers.3 lv.type lv.limit l.announced (lv.done ++ c) l.is.reads in
     let all : take (length piece) piece ≡ piece = take_whole piece (length piece) (omega arith) in
     part_goes_on refl (omega arith)
-    (subst (λ y. PartHasRead L T offset U levels' part.Value ((z ++ c) ++ y)) (sym all)
-    (subst (λ y. PartHasRead L T offset U levels' part.Value y) (sym (append_assoc z c piece))
+    (subst (λ y. PartHasRead keep L T offset U levels' part.Value ((z ++ c) ++ y)) (sym all)
+    (subst (λ y. PartHasRead keep L T offset U levels' part.Value y) (sym (append_assoc z c piece))
     (in_skeleton (c ++ piece) p said (record {
       announced = l.announced;
       is = level_on piece levels.innermost levels'.innermost l.is keeps
@@ -249,12 +257,13 @@ numbered_from s e f l = number_begins (s ∙ at e f) l
     at e f = cc
 
 -- up to a nil, whose number comes next
-pub value_nil : {L : Bounds} {T : Table} {offset at behind used : ℕ} {U : Table} {z piece : List ℕ}
-    {number : NumberStage} {levels levels' : Levels} → ValueHasRead L T offset U levels z
+pub value_nil : {keep : Bool} {L : Bounds} {T : Table} {offset at behind used : ℕ} {U : Table} {z piece : List ℕ}
+    {number : NumberStage} {levels levels' : Levels} → ValueHasRead keep L T offset U levels z
     → HasCome U at levels levels' piece (came.ToNil used) → behind ≡ offset + length z + used
     → number ≡ record { rest = record { begin = behind; end = levels'.innermost.end }; number = [] }
-    → PartHasRead L T offset U levels' (part.NameLength (record { number = number })) (z ++ take used piece)
-value_nil {L = L} {T = T} {offset = offset} {behind = behind} {used = used} {U = U} {piece = piece} {number = number}
+    → PartHasRead keep L T offset U levels' (part.NameLength (record { number = number })) (z ++ take used piece)
+value_nil {keep = keep} {L = L} {T = T} {offset = offset} {behind = behind} {used = used} {U = U} {piece = piece}
+    {number = number}
     {levels = levels} {levels' = levels'} (in_value_at {z = z} {lv = lv} c p said l k) r b n =
     let keeps = r.answers.0 in
     let came = r.answers.3 lv.type lv.limit l.announced (lv.done ++ c) l.is.reads in
@@ -278,7 +287,7 @@ value_nil {L = L} {T = T} {offset = offset} {behind = behind} {used = used} {U =
     ) in
     let here : behind ≡ offset + length (z ++ (c ++ x)) =
     omega (arith, length-append z (c ++ x), length-append z c, length-append c x) in
-    subst (λ y. PartHasRead L T offset U levels' (part.NameLength (record { number = number })) y)
+    subst (λ y. PartHasRead keep L T offset U levels' (part.NameLength (record { number = number })) y)
     (ap (λ (y : List ℕ). z ++ y) (append_nil (c ++ x)) ∙ sym (append_assoc z c x))
     (in_name_length (c ++ x) [] p said (record {
       announced = l.announced;
@@ -291,17 +300,19 @@ value_nil {L = L} {T = T} {offset = offset} {behind = behind} {used = used} {U =
     (numbered_from n here (keeps.end ∙ ends) (omega arith)) place)
 
 -- or to its end
-pub value_past : {L : Bounds} {T : Table} {offset at used : ℕ} {U : Table} {z piece : List ℕ} {levels levels' : Levels}
-    → ValueHasRead L T offset U levels z → HasCome U at levels levels' piece (came.PastValue used)
-    → ValueIsWhole L T offset U levels' (z ++ take used piece)
-value_past {L = L} {T = T} {offset = offset} {used = used} {U = U} {piece = piece} {levels = levels} {levels' = levels'}
+pub value_past : {keep : Bool} {L : Bounds} {T : Table} {offset at used : ℕ} {U : Table} {z piece : List ℕ}
+    {levels levels' : Levels}
+    → ValueHasRead keep L T offset U levels z → HasCome U at levels levels' piece (came.PastValue used)
+    → ValueIsWhole keep L T offset U levels' (z ++ take used piece)
+value_past {keep = keep} {L = L} {T = T} {offset = offset} {used = used} {U = U} {piece = piece} {levels = levels}
+    {levels' = levels'}
     (in_value_at {z = z} {lv = lv} c p said l k) r =
     let keeps = r.answers.0 in
     let g = r.answers.3 lv.type lv.limit l.announced (lv.done ++ c) l.is.reads in
     let x = take used piece in
     let there = append_assoc lv.done c x in
     let all = g.made.all in let rest = l.rest in
-    subst (λ y. ValueIsWhole L T offset U levels' y) (sym (append_assoc z c x))
+    subst (λ y. ValueIsWhole keep L T offset U levels' y) (sym (append_assoc z c x))
     (value_whole (c ++ x) p said
     (top_back (extends_keeps l.is.grown) l.is.ready (subst (λ y. SpellsTop U lv.type g.made.value y) there
     g.made.spelled)) g.made.not_deep
@@ -318,11 +329,11 @@ value_past {L = L} {T = T} {offset = offset} {used = used} {U = U} {piece = piec
 
 -- ---- what taking what comes next asks
 
-pub nil_comes : {L : Bounds} {d : Defined} {at behind used : ℕ} {levels levels' : Levels} {piece : List ℕ}
-    {number : NumberStage} → IsInValue L d at levels → HasCome (types d) at levels levels' piece (came.ToNil used)
+pub nil_comes : {keep : Bool} {L : Bounds} {d : Defined} {at behind used : ℕ} {levels levels' : Levels} {piece : List ℕ}
+    {number : NumberStage} → IsInValue keep L d at levels → HasCome (types d) at levels levels' piece (came.ToNil used)
     → AreBytes piece → behind ≡ at + used
     → number ≡ record { rest = record { begin = behind; end = levels'.innermost.end }; number = [] }
-    → IsInPut L d behind levels' (part.NameLength (record { number = number }))
+    → IsInPut keep L d behind levels' (part.NameLength (record { number = number }))
 nil_comes {used = used} {piece = piece} w r o b n =
     let within = came_within (came.ToNil used) w.has_read r in let taken = w.taken_is in
     record {
@@ -336,9 +347,11 @@ nil_comes {used = used} {piece = piece} w r o b n =
       known = w.known;
     }
 
-pub value_behind : {L : Bounds} {d : Defined} {at behind used : ℕ} {levels levels' : Levels} {piece : List ℕ}
-    → IsInValue L d at levels → HasCome (types d) at levels levels' piece (came.PastValue used) → behind ≡ at + used
-    → IsBehindValue L d behind levels'
+pub value_behind : {keep : Bool} {L : Bounds} {d : Defined} {at behind used : ℕ} {levels levels' : Levels}
+    {piece : List ℕ}
+    → IsInValue keep L d at levels → HasCome (types d) at levels levels' piece (came.PastValue used) → behind
+    ≡ at + used
+    → IsBehindValue keep L d behind levels'
 value_behind {used = used} {piece = piece} w r b =
     let within = came_within (came.PastValue used) w.has_read r in let taken = w.taken_is in
     record {
@@ -358,91 +371,102 @@ pub bytes_on : (z piece : List ℕ) (used : ℕ) {rest : List ℕ} → rest ≡ 
 bytes_on z piece used e o =
     subst (λ r. AreBytes ((z ++ take used piece) ++ r)) (sym e) (subst AreBytes (sym (all_taken z piece used)) o)
 
-behind_nil : {L : Bounds} {T : Table} {offset at behind used : ℕ} {d : Defined} {z piece : List ℕ}
+behind_nil : {keep : Bool} {L : Bounds} {T : Table} {offset at behind used : ℕ} {d : Defined} {z piece : List ℕ}
     {number : NumberStage} {levels levels' levels'' : Levels} {result : Result PartTaken Fault} (rest : List ℕ)
-    → rest ≡ drop used piece → IsInValue L d at levels → HasCome (types d) at levels levels' piece (came.ToNil used)
+    → rest ≡ drop used piece → IsInValue keep L d at levels
+    → HasCome (types d) at levels levels' piece (came.ToNil used)
     → behind ≡ at + used
     → number ≡ record { rest = record { begin = behind; end = levels'.innermost.end }; number = [] }
-    → PartAnswers L d d levels' levels'' (part.NameLength (record { number = number })) rest result
-    → ValueHasRead L T offset (types d) levels z → AreBytes (z ++ piece)
-    → PartSteps L T offset d (z ++ take used piece) (drop used piece) levels'' d result
-behind_nil {L = L} {T = T} {offset = offset} {used = used} {d = d} {z = z} {piece = piece} {levels'' = levels''}
+    → PartAnswers keep L d d levels' levels'' (part.NameLength (record { number = number })) rest result
+    → ValueHasRead keep L T offset (types d) levels z → AreBytes (z ++ piece)
+    → PartSteps keep L T offset d (z ++ take used piece) (drop used piece) levels'' d result
+behind_nil {keep = keep} {L = L} {T = T} {offset = offset} {used = used} {d = d} {z = z} {piece = piece}
+    {levels'' = levels''}
     {result = result} rest e w r b n answers h o =
     let place = value_place w h in
-    subst (λ rest. PartSteps L T offset d (z ++ take used piece) rest levels'' d result) e
+    subst (λ rest. PartSteps keep L T offset d (z ++ take used piece) rest levels'' d result) e
     (answers.each T offset (z ++ take used piece) (value_nil h r (omega arith) n) (bytes_on z piece used e o))
 
-pub nil_further : {L : Bounds} {T : Table} {offset at behind used : ℕ} {d : Defined} {z piece : List ℕ}
+pub nil_further : {keep : Bool} {L : Bounds} {T : Table} {offset at behind used : ℕ} {d : Defined} {z piece : List ℕ}
     {number : NumberStage} {levels levels' levels'' : Levels} (taken : PartTaken) (rest : List ℕ)
-    → rest ≡ drop used piece → IsInValue L d at levels → HasCome (types d) at levels levels' piece (came.ToNil used)
+    → rest ≡ drop used piece → IsInValue keep L d at levels
+    → HasCome (types d) at levels levels' piece (came.ToNil used)
     → behind ≡ at + used
     → number ≡ record { rest = record { begin = behind; end = levels'.innermost.end }; number = [] }
-    → PartAnswers L d d levels' levels'' (part.NameLength (record { number = number })) rest (Ok taken)
-    → ValueHasRead L T offset (types d) levels z → AreBytes (z ++ piece)
-    → PartSteps L T offset d z piece levels'' d (Ok (record { used = used + taken.used; next = taken.next }))
+    → PartAnswers keep L d d levels' levels'' (part.NameLength (record { number = number })) rest (Ok taken)
+    → ValueHasRead keep L T offset (types d) levels z → AreBytes (z ++ piece)
+    → PartSteps keep L T offset d z piece levels'' d (Ok (record { used = used + taken.used; next = taken.next }))
 nil_further {used = used} taken rest e w r b n answers h o =
     part_behind used taken (behind_nil rest e w r b n answers h o) (came_within (came.ToNil used) h r)
 
-pub nil_stops : {L : Bounds} {T : Table} {offset at behind used : ℕ} {d : Defined} {z piece : List ℕ}
+pub nil_stops : {keep : Bool} {L : Bounds} {T : Table} {offset at behind used : ℕ} {d : Defined} {z piece : List ℕ}
     {number : NumberStage} {levels levels' levels'' : Levels} (f : Fault) (rest : List ℕ)
-    → rest ≡ drop used piece → IsInValue L d at levels → HasCome (types d) at levels levels' piece (came.ToNil used)
+    → rest ≡ drop used piece → IsInValue keep L d at levels
+    → HasCome (types d) at levels levels' piece (came.ToNil used)
     → behind ≡ at + used
     → number ≡ record { rest = record { begin = behind; end = levels'.innermost.end }; number = [] }
-    → PartAnswers L d d levels' levels'' (part.NameLength (record { number = number })) rest (Err f)
-    → ValueHasRead L T offset (types d) levels z → AreBytes (z ++ piece)
-    → PartSteps L T offset d z piece levels'' d (Err f)
+    → PartAnswers keep L d d levels' levels'' (part.NameLength (record { number = number })) rest (Err f)
+    → ValueHasRead keep L T offset (types d) levels z → AreBytes (z ++ piece)
+    → PartSteps keep L T offset d z piece levels'' d (Err f)
 nil_stops {used = used} f rest e w r b n answers h o =
     part_stopped_behind used f (behind_nil rest e w r b n answers h o)
 
 -- no more is taken than there is
-pub nil_few : {L : Bounds} {at behind used : ℕ} {d : Defined} {piece : List ℕ} {number : NumberStage}
+pub nil_few : {keep : Bool} {L : Bounds} {at behind used : ℕ} {d : Defined} {piece : List ℕ} {number : NumberStage}
     {levels levels' levels'' : Levels} (taken : PartTaken) (rest : List ℕ)
-    → rest ≡ drop used piece → IsInValue L d at levels → HasCome (types d) at levels levels' piece (came.ToNil used)
+    → rest ≡ drop used piece → IsInValue keep L d at levels
+    → HasCome (types d) at levels levels' piece (came.ToNil used)
     → behind ≡ at + used
     → number ≡ record { rest = record { begin = behind; end = levels'.innermost.end }; number = [] }
-    → PartAnswers L d d levels' levels'' (part.NameLength (record { number = number })) rest (Ok taken)
+    → PartAnswers keep L d d levels' levels'' (part.NameLength (record { number = number })) rest (Ok taken)
     → AreBytes piece → used + taken.used ≤ length piece
 nil_few {piece = piece} taken rest e w r b n answers o =
     part_few (nil_further taken rest e w r b n answers w.has_read (bytes-append w.bytes piece w.are_bytes o))
 
-past_ends : {L : Bounds} {T : Table} {offset at behind used : ℕ} {d : Defined} {z piece : List ℕ}
+past_ends : {keep : Bool} {L : Bounds} {T : Table} {offset at behind used : ℕ} {d : Defined} {z piece : List ℕ}
     {levels levels' levels'' : Levels} {result : Result Goes Fault}
-    → IsInValue L d at levels → HasCome (types d) at levels levels' piece (came.PastValue used) → behind ≡ at + used
-    → EndAnswers L d behind levels' levels'' result → ValueHasRead L T offset (types d) levels z → AreBytes (z ++ piece)
-    → GoesSteps L T offset d (z ++ take used piece) levels'' result
+    → IsInValue keep L d at levels → HasCome (types d) at levels levels' piece (came.PastValue used) → behind
+    ≡ at + used
+    → EndAnswers keep L d behind levels' levels'' result → ValueHasRead keep L T offset (types d) levels z
+    → AreBytes (z ++ piece)
+    → GoesSteps keep L T offset d (z ++ take used piece) levels'' result
 past_ends {T = T} {offset = offset} {used = used} {z = z} {piece = piece} w r b answers h o =
     let place = value_place w h in
     answers T offset (z ++ take used piece)
     (b ∙ length_behind offset z piece place (came_within (came.PastValue used) h r)) (value_past h r)
     (bytes_taken z piece used o)
 
-pub past_further : {L : Bounds} {T : Table} {offset at behind used : ℕ} {d : Defined} {z piece : List ℕ}
+pub past_further : {keep : Bool} {L : Bounds} {T : Table} {offset at behind used : ℕ} {d : Defined} {z piece : List ℕ}
     {levels levels' levels'' : Levels} (goes : Goes)
-    → IsInValue L d at levels → HasCome (types d) at levels levels' piece (came.PastValue used) → behind ≡ at + used
-    → EndAnswers L d behind levels' levels'' (Ok goes) → ValueHasRead L T offset (types d) levels z
+    → IsInValue keep L d at levels → HasCome (types d) at levels levels' piece (came.PastValue used) → behind
+    ≡ at + used
+    → EndAnswers keep L d behind levels' levels'' (Ok goes) → ValueHasRead keep L T offset (types d) levels z
     → AreBytes (z ++ piece)
-    → PartSteps L T offset d z piece levels'' d (Ok (record { used = used; next = behind_value goes }))
+    → PartSteps keep L T offset d z piece levels'' d (Ok (record { used = used; next = behind_value goes }))
 past_further {used = used} goes w r b answers h o =
     goes_behind goes (past_ends w r b answers h o) (came_within (came.PastValue used) h r)
 
-value_types : {L : Bounds} {T : Table} {offset : ℕ} {U : Table} {levels : Levels} {z : List ℕ} (piece : List ℕ)
-    → ValueHasRead L T offset U levels z → HasTypesWithin L T offset (z ++ piece) U
+value_types : {keep : Bool} {L : Bounds} {T : Table} {offset : ℕ} {U : Table} {levels : Levels} {z : List ℕ}
+    (piece : List ℕ)
+    → ValueHasRead keep L T offset U levels z → HasTypesWithin L T offset (z ++ piece) U
 value_types piece (in_value_at {z = z} c p said l k) = within_value (c ++ piece) p (append_assoc z c piece)
 
-pub past_stops : {L : Bounds} {T : Table} {offset at behind used : ℕ} {d : Defined} {z piece : List ℕ}
+pub past_stops : {keep : Bool} {L : Bounds} {T : Table} {offset at behind used : ℕ} {d : Defined} {z piece : List ℕ}
     {levels levels' levels'' : Levels} (f : Fault)
-    → IsInValue L d at levels → HasCome (types d) at levels levels' piece (came.PastValue used) → behind ≡ at + used
-    → EndAnswers L d behind levels' levels'' (Err f) → ValueHasRead L T offset (types d) levels z
-    → AreBytes (z ++ piece) → PartSteps L T offset d z piece levels'' d (Err f)
+    → IsInValue keep L d at levels → HasCome (types d) at levels levels' piece (came.PastValue used) → behind
+    ≡ at + used
+    → EndAnswers keep L d behind levels' levels'' (Err f) → ValueHasRead keep L T offset (types d) levels z
+    → AreBytes (z ++ piece) → PartSteps keep L T offset d z piece levels'' d (Err f)
 past_stops {used = used} {piece = piece} f w r b answers h o =
     goes_stopped used f (past_ends w r b answers h o) (value_types piece h)
 
 -- ---- where it stops
 
-pub value_stops : {L : Bounds} {T : Table} {offset at : ℕ} {d : Defined} {z piece : List ℕ} (levels levels' : Levels)
-    (f : Fault) → ValueHasRead L T offset (types d) levels z
+pub value_stops : {keep : Bool} {L : Bounds} {T : Table} {offset at : ℕ} {d : Defined} {z piece : List ℕ}
+    (levels levels' : Levels)
+    (f : Fault) → ValueHasRead keep L T offset (types d) levels z
     → LevelAnswers (types d) at levels.innermost levels'.innermost piece (Err f) → at ≡ offset + length z
-    → PartSteps L T offset d z piece levels' d (Err f)
+    → PartSteps keep L T offset d z piece levels' d (Err f)
 value_stops {d = d} {piece = piece} levels levels' (fault.Refused R) (in_value_at {z = z} {lv = lv} c p said l k) r a =
     let U = types d in
     let h = r lv.type lv.limit l.announced (lv.done ++ c) l.is.reads in
@@ -461,13 +485,14 @@ value_stops {d = d} levels levels' fault.Failed (in_value_at {lv = lv} c p said 
 
 -- ---- between steps, where something of it was read
 
-pub value_of_part : {L : Bounds} {T : Table} {offset : ℕ} {U : Table} {levels : Levels} {z : List ℕ}
-    → PartHasRead L T offset U levels part.Value z → ValueHasRead L T offset U levels z
+pub value_of_part : {keep : Bool} {L : Bounds} {T : Table} {offset : ℕ} {U : Table} {levels : Levels} {z : List ℕ}
+    → PartHasRead keep L T offset U levels part.Value z → ValueHasRead keep L T offset U levels z
 value_of_part (in_skeleton c p said l k) =
     in_value_at c p said (record { announced = l.announced; is = l.is; stood = stands l.viable; rest = l.rest }) k
 
-pub in_value_of : {L : Bounds} {d : Defined} {taken : ℕ} {levels : Levels} → IsInPut L d taken levels part.Value
-    → IsInValue L d taken levels
+pub in_value_of : {keep : Bool} {L : Bounds} {d : Defined} {taken : ℕ} {levels : Levels}
+    → IsInPut keep L d taken levels part.Value
+    → IsInValue keep L d taken levels
 in_value_of w = record {
   table = w.table;
   offset = w.offset;
@@ -479,6 +504,7 @@ in_value_of w = record {
   known = w.known;
 }
 
-pub part_of_value : {L : Bounds} {d : Defined} {old new : Levels} {piece : List ℕ} {result : Result PartTaken Fault}
-    → ValueAnswers L d old new piece result → PartAnswers L d d old new part.Value piece result
+pub part_of_value : {keep : Bool} {L : Bounds} {d : Defined} {old new : Levels} {piece : List ℕ}
+    {result : Result PartTaken Fault}
+    → ValueAnswers keep L d old new piece result → PartAnswers keep L d d old new part.Value piece result
 part_of_value v = record { each = λ T offset z h o. v.each T offset z (value_of_part h) o; some = v.some }

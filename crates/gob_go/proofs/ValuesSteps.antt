@@ -1,4 +1,5 @@
 -- Items of values that stand whole one behind another at the front of a piece, and define nothing.
+use Rattle.std.proofs.Common.{Bool}
 use Rattle.std.proofs.Common.{◌≡◌, ℕ, suc, ◌+◌, ◌-◌, ◌≤◌, List, [], ◌∷◌, ◌++◌, length, take, drop, min, arith}
 use Rattle.std.proofs.Common.{refl, sym, ap, ◌∙◌, subst, length-append, length-drop}
 use Rattle.std.proofs.Math.Seq.{take-add}
@@ -20,7 +21,7 @@ use Rattle.gob_filled.specs.OutcomeLaws.{unfilled_item}
 use Rattle.gob_filled.specs.Stream.{FilledItem, AreFilledItems, IsFilledItem, putting, of_value, last_counted}
 use Rattle.gob_filled.specs.Stream as filled
 use Rattle.gob_filled.proofs.Contained.{item_stays}
-use Rattle.gob_go.specs.Calls.Session.{HasItemsNext, ReadsAll, ReadsItems}
+use Rattle.gob_go.specs.Calls.Session.{HasItemsNext, ReadsAllSo, ReadsItemsSo}
 use Rattle.gob_go.specs.Machine.SessionState.{SessionState}
 use Rattle.gob_go.specs.Whole.{AreFilledBefore, IsFilledWhole}
 use Rattle.gob_go.proofs.SessionAnswers.{few_items}
@@ -120,9 +121,9 @@ pub prefix_items : (s : SessionState) {count used : ℕ} (piece : List ℕ)
     → HasItemsNext s (take used piece)
 prefix_items s piece b = (b.items, b.are)
 
-pub passes_items : {s s' : SessionState} {count used : ℕ} (piece : List ℕ)
+pub passes_items : {keep : Bool} {s s' : SessionState} {count used : ℕ} (piece : List ℕ)
     → AreFilledBefore (within_trees s.limits) (types s.types) s.taken count piece used
-    → ReadsAll s s' (take used piece) → ReadsItems s s' count used piece
+    → ReadsAllSo keep s s' (take used piece) → ReadsItemsSo keep s s' count used piece
 passes_items {used = used} piece b f =
     record {
       given = b.items;

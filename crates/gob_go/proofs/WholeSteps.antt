@@ -1,4 +1,5 @@
 -- Items of the format that stand whole at the front of a piece, between two items.
+use Rattle.std.proofs.Common.{Bool}
 use Rattle.std.proofs.Common.{◌≡◌, ℕ, ◌+◌, ◌-◌, ◌<◌, ◌≤◌, ◌^◌, List, [], ◌∷◌, ◌++◌, length, arith}
 use Rattle.std.proofs.Common.{refl, sym, ap, ◌∙◌, subst, append_assoc, length-append}
 use Rattle.std.proofs.lemmas.List.{append-nil}
@@ -12,8 +13,8 @@ use Rattle.gob_stream.specs.Bounds.{Bounds, within_trees}
 use Rattle.gob_stream.specs.Whole.{HasBegun}
 use Rattle.gob_filled.specs.Stream.{FilledItem, AreFilledItems, FilledStream, IsFilledItem}
 use Rattle.gob_filled.specs.Stream as filled
-use Rattle.gob_go.specs.Calls.Session.{HasItemsNext, ReadsAll, ReadsItems}
-use Rattle.gob_go.specs.Machine.HasRead.{StageHasRead, in_count, in_type_number, in_definition, in_put, HasRead}
+use Rattle.gob_go.specs.Calls.Session.{HasItemsNext, ReadsAllSo, ReadsItemsSo}
+use Rattle.gob_go.specs.Machine.HasRead.{StageHasRead, in_count, in_type_number, in_definition, in_put, StandsAfter}
 use Rattle.gob_go.specs.Machine.HasRead.{IsUsable, has_failed, stands_after, no_end}
 use Rattle.gob_go.specs.Machine.SessionState.{SessionState}
 use Rattle.gob_go.specs.Machine.Stages.{count_at}
@@ -23,12 +24,13 @@ use Rattle.gob_go.specs.declared.stage.Stage.TheVariants as stage
 use Rattle.gob_go.proofs.FinishSteps.{count_begins_here, nothing_expects}
 use Rattle.gob_go.proofs.FeedSteps.{between_table}
 use Rattle.gob_go.proofs.ItemsLaws.{NoNext, item_ends, items_end}
+use Rattle.gob_go.proofs.SessionSteps.{usable}
 use Rattle.gob_go.proofs.UnderWayLaws.{fewer_no_item}
 
 -- ---- between two items
 -- the count that is expected has no byte yet
-count_is_new : {L : Bounds} {T U : Table} {offset : ℕ} {expects : Stage} {y : List ℕ} {at : ItemCount}
-    → StageHasRead L T offset U expects y → expects ≡ stage.Count at → y ≡ [] → expects ≡ count_at offset
+count_is_new : {keep : Bool} {L : Bounds} {T U : Table} {offset : ℕ} {expects : Stage} {y : List ℕ} {at : ItemCount}
+    → StageHasRead keep L T offset U expects y → expects ≡ stage.Count at → y ≡ [] → expects ≡ count_at offset
 count_is_new {offset = offset} (in_count {number = number} q g n) e none =
     let make : ℕ → ℕ → List ℕ → Stage =
     λ b e q. stage.Count (record { number = record { rest = record { begin = b; end = e }; number = q } }) in
@@ -48,8 +50,8 @@ between_at {s = s} (stands_after a) e b =
     count_is_new a.stage e none ∙ ap (λ n. count_at n) here
 
 -- where no byte was taken, the types are those of the stream
-pub types_between : {L : Bounds} {T U : Table} {offset : ℕ} {expects : Stage} {y : List ℕ}
-    → StageHasRead L T offset U expects y → y ≡ [] → U ≡ T
+pub types_between : {keep : Bool} {L : Bounds} {T U : Table} {offset : ℕ} {expects : Stage} {y : List ℕ}
+    → StageHasRead keep L T offset U expects y → y ≡ [] → U ≡ T
 types_between h none = let k = nothing_expects h none in between_table h (count_is_new h k.is none)
 
 -- ---- items of the profile
@@ -74,10 +76,11 @@ filled_within (filled.and_then {b = b} {c = c} p e r) =
     omega (arith, length-append b c)
 
 -- ---- going past them
-pub passed : {s s' : SessionState} {z : List ℕ} {now : Stage} → s.stage ≡ count_at s.taken → s.limits.stream < 2 ^ 63
+pub passed : {keep : Bool} {s s' : SessionState} {z : List ℕ} {now : Stage} → s.stage ≡ count_at s.taken
+    → s.limits.stream < 2 ^ 63
     → AreBytes z → now ≡ count_at (s.taken + length z) → s' ≡ record s { taken = s.taken + length z; stage = now }
-    → ReadsAll s s' z
-passed {s = s} {z = z} {now = now} between most o new e items bytes is a there =
+    → ReadsAllSo keep s s' z
+passed {keep = keep} {s = s} {z = z} {now = now} between most o new e items bytes is a there =
     let none : a.under_way ≡ [] = count_begins_here a between refl in
     let table : types s.types ≡ a.table = between_table a.stage between in
     let prefix : bytes ≡ a.prefix = a.whole ∙ ap (λ y. a.prefix ++ y) none ∙ append-nil a.prefix in
@@ -85,7 +88,7 @@ passed {s = s} {z = z} {now = now} between most o new e items bytes is a there =
     let long : length (a.prefix ++ z) ≡ s.taken + length z = omega (arith, length-append a.prefix z) in
     let ends = items_end a.stream (omega arith) in
     let few = filled_within there in
-    let behind : StageHasRead (within_trees s.limits) (types s.types) (length (a.prefix ++ z)) (types s.types)
+    let behind : StageHasRead keep (within_trees s.limits) (types s.types) (length (a.prefix ++ z)) (types s.types)
     (count_at (length (a.prefix ++ z))) [] = in_count [] refl (record {
       begins = refl;
       ends = refl;
@@ -101,31 +104,33 @@ passed {s = s} {z = z} {now = now} between most o new e items bytes is a there =
       are_bytes = bytes-append bytes z a.are_bytes o;
       stream = more_behind (subst (λ (T : Table). FilledStream base_table (within_trees s.limits) items a.prefix T)
           (sym table) a.stream) (omega arith) there;
-      stage = subst (λ st. StageHasRead (within_trees s.limits) (types s.types) (length (a.prefix ++ z)) (types s.types)
+      stage = subst (λ st. StageHasRead keep (within_trees s.limits) (types s.types) (length (a.prefix ++ z))
+          (types s.types)
           st []) (sym (new ∙ ap (λ n. count_at n) (sym long))) behind;
       taken = sym (ap (λ y. length (y ++ z)) prefix ∙ long);
       room = a.room;
+      kept = a.kept;
     })
 
 -- what stood after some bytes is behind items, so it stands after some
 pub usable_behind : {s s' : SessionState} {z : List ℕ} → s.stage ≡ count_at s.taken → HasItemsNext s z
-    → ReadsAll s s' z → IsUsable s → IsUsable s'
+    → ((keep : Bool) → ReadsAllSo keep s s' z) → IsUsable s → IsUsable s'
 usable_behind {s = s} between h f (has_failed e) =
     absurd (let n : stage.Failed ≡ count_at s.taken = sym e ∙ between in cc)
-usable_behind between h f (stands_after {items = items} {bytes = bytes} a) =
-    stands_after (f items bytes h.0 a h.1)
+usable_behind {s = s} between h f (stands_after {items = items} {bytes = bytes} a) =
+    usable (f s.keeps items bytes h.0 a h.1)
 
 -- nothing is passed where nothing is found
-pub passes_none : {s : SessionState} {piece : List ℕ} → ReadsItems s s 0 0 piece
-passes_none {s = s} = record {
+pub passes_none : {keep : Bool} {s : SessionState} {piece : List ℕ} → ReadsItemsSo keep s s 0 0 piece
+passes_none {keep = keep} {s = s} = record {
   given = [];
   counted = refl;
   within = omega arith;
   none = λ e. refl;
   passed =
-      λ items bytes a. subst (λ z. HasRead s z (bytes ++ []))
+      λ items bytes a. subst (λ z. StandsAfter keep s z (bytes ++ []))
       (sym (append-nil items))
-      (subst (λ z. HasRead s items z) (sym (append-nil bytes)) a);
+      (subst (λ z. StandsAfter keep s items z) (sym (append-nil bytes)) a);
 }
 
 -- ---- the first segment of an item that has begun

@@ -17,6 +17,8 @@ pub(crate) struct Around {
     pub(crate) limits: Limits,
     /// How many bytes of the stream were taken.
     pub(crate) taken: u64,
+    /// Whether what fills nils is kept.
+    pub(crate) keeps: bool,
 }
 
 impl Around {
@@ -25,11 +27,13 @@ impl Around {
         requires { self.now.taken + used < 2 ^ 64 }
         ensures taken { result.taken ≡ self.now.taken + used }
         ensures limits { result.limits ≡ self.now.limits }
+        ensures keeps { result.keeps ≡ self.now.keeps }
     {
         Around {
             alloc: self.alloc,
             limits: self.limits,
             taken: self.taken + used as u64,
+            keeps: self.keeps,
         }
     }
 

@@ -31,9 +31,11 @@ impl ItemCount {
 
     /// Takes bytes of the count from the front of the piece.
     pub(crate) fn take(self, around: &Around, piece: &[u8]) -> Result<Stepped, Fault>
-        requires has_read { IsWithinItemOfSome (within_trees around.now.limits) around.now.taken (stage.Count self) }
-        ensures { (d : Defined) → IsWithinItem (within_trees around.now.limits) d around.now.taken (stage.Count self)
-            → StageAnswers (within_trees around.now.limits) d d (stage.Count self) piece.now result }
+        requires has_read { IsWithinItemOfSome around.now.keeps (within_trees around.now.limits) around.now.taken
+            (stage.Count self) }
+        ensures { (d : Defined) → IsWithinItem around.now.keeps (within_trees around.now.limits) d around.now.taken
+            (stage.Count self)
+            → StageAnswers around.now.keeps (within_trees around.now.limits) d d (stage.Count self) piece.now result }
     {
         let ItemCount { mut number } = self;
         // its contract says that no stream is so long that a count ends its numbers

@@ -29,10 +29,10 @@ impl DefinitionStage {
         table: &mut Table,
         piece: &[u8],
     ) -> Result<Stepped, Fault>
-        requires { IsWithinItem (within_trees around.now.limits) table.old around.now.taken
+        requires { IsWithinItem around.now.keeps (within_trees around.now.limits) table.old around.now.taken
             (stage.Definition self) }
-        ensures { StageAnswers (within_trees around.now.limits) table.old table.new (stage.Definition self)
-            piece.now result }
+        ensures { StageAnswers around.now.keeps (within_trees around.now.limits) table.old table.new
+            (stage.Definition self) piece.now result }
     {
         // its contract says that no stream is so long that the sum wraps
         let _most = around.limits.stream();

@@ -54,10 +54,10 @@ impl HeldTypeNumber {
         table: &mut Table,
         piece: &[u8],
     ) -> Result<PartTaken, Fault>
-        requires has_read { IsInPut (within_trees around.now.limits) table.old around.now.taken levels.old
-            (part.TypeNumber self) }
-        ensures { PartAnswers (within_trees around.now.limits) table.old table.new levels.old levels.new
-            (part.TypeNumber self) piece.now result }
+        requires has_read { IsInPut around.now.keeps (within_trees around.now.limits) table.old around.now.taken
+            levels.old (part.TypeNumber self) }
+        ensures { PartAnswers around.now.keeps (within_trees around.now.limits) table.old table.new levels.old
+            levels.new (part.TypeNumber self) piece.now result }
     {
         let HeldTypeNumber { mut number } = self;
         // its contract says that no stream is so long that the sum wraps
@@ -88,10 +88,10 @@ fn begin_held(
     number: u64,
     piece: &[u8],
 ) -> Result<PartTaken, Fault>
-    requires { IsBehindNumber (within_trees around.now.limits) table.old around.now.taken levels.old rest
-        (IsUnsigned number) }
-    ensures { HeldNumberSteps (within_trees around.now.limits) table.old table.new around.now.taken levels.old
-        levels.new rest (IsUnsigned number) piece.now result }
+    requires { IsBehindNumber around.now.keeps (within_trees around.now.limits) table.old around.now.taken
+        levels.old rest (IsUnsigned number) }
+    ensures { HeldNumberSteps around.now.keeps (within_trees around.now.limits) table.old table.new around.now.taken
+        levels.old levels.new rest (IsUnsigned number) piece.now result }
 {
     let signed = to_signed(number);
     let id = TypeId(signed.unsigned_abs());
@@ -111,10 +111,10 @@ fn begin_definition(
     id: TypeId,
     piece: &[u8],
 ) -> Result<PartTaken, Fault>
-    requires { IsBehindNumber (within_trees around.now.limits) table.old around.now.taken levels.old rest
-        (IsNumberOf negative id) }
-    ensures { HeldNumberSteps (within_trees around.now.limits) table.old table.new around.now.taken levels.old
-        levels.new rest (IsNumberOf negative id) piece.now result }
+    requires { IsBehindNumber around.now.keeps (within_trees around.now.limits) table.old around.now.taken
+        levels.old rest (IsNumberOf negative id) }
+    ensures { HeldNumberSteps around.now.keeps (within_trees around.now.limits) table.old table.new around.now.taken
+        levels.old levels.new rest (IsNumberOf negative id) piece.now result }
 {
     // its contract says that no stream is so long that a count ends its numbers
     let _most = around.limits.stream();
@@ -153,10 +153,10 @@ impl HeldDescription {
         table: &mut Table,
         piece: &[u8],
     ) -> Result<PartTaken, Fault>
-        requires has_read { IsInPut (within_trees around.now.limits) table.old around.now.taken levels.old
-            (part.Description self) }
-        ensures { PartAnswers (within_trees around.now.limits) table.old table.new levels.old levels.new
-            (part.Description self) piece.now result }
+        requires has_read { IsInPut around.now.keeps (within_trees around.now.limits) table.old around.now.taken
+            levels.old (part.Description self) }
+        ensures { PartAnswers around.now.keeps (within_trees around.now.limits) table.old table.new levels.old
+            levels.new (part.Description self) piece.now result }
     {
         // its contract says that no stream is so long that a count ends its numbers
         let _most = around.limits.stream();

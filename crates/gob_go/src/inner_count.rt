@@ -30,10 +30,10 @@ impl InnerCount {
         table: &Table,
         piece: &[u8],
     ) -> Result<PartTaken, Fault>
-        requires has_read { IsInPut (within_trees around.now.limits) table.now around.now.taken levels.old
-            (part.InnerCount self) }
-        ensures { PartAnswers (within_trees around.now.limits) table.now table.now levels.old levels.new
-            (part.InnerCount self) piece.now result }
+        requires has_read { IsInPut around.now.keeps (within_trees around.now.limits) table.now around.now.taken
+            levels.old (part.InnerCount self) }
+        ensures { PartAnswers around.now.keeps (within_trees around.now.limits) table.now table.now levels.old
+            levels.new (part.InnerCount self) piece.now result }
     {
         let InnerCount { id, mut number } = self;
         // what ends within it is a number of 64 bits

@@ -187,13 +187,15 @@ impl Level {
         }
     }
 
-    /// Fills the nil at hand with the value, which is whole.
-    pub(crate) fn hold(&mut self, alloc: Global, value: Level) -> Result<(), Memory>
-        ensures { IfOk result (λ _. Holds value self.old self.new) }
+    /// Fills the nil at hand with the value, which is whole, where that is kept.
+    pub(crate) fn hold(&mut self, around: &Around, value: Level) -> Result<(), Memory>
+        ensures { IfOk result (λ _. Holds around.now.keeps value self.old self.new) }
     {
         let place = self.skeleton.len() as u64;
-        let held = mem::replace(&mut self.held, Held::new(alloc));
-        self.fillings.push(held.filled_with(place, value))?;
+        let held = mem::replace(&mut self.held, Held::new(around.alloc));
+        if around.keeps {
+            self.fillings.push(held.filled_with(place, value))?;
+        }
         Ok(())
     }
 

@@ -76,8 +76,10 @@ impl Levels {
 
     /// Takes the number of the interface at hand as nil, behind whose byte the bytes taken end.
     pub(crate) fn fill(&mut self, around: &Around, table: &Table) -> Result<Goes, Fault>
-        requires { IsBeforeNilByte (within_trees around.now.limits) table.now around.now.taken self.old }
-        ensures { NilAnswers (within_trees around.now.limits) table.now around.now.taken self.old self.new result }
+        requires { IsBeforeNilByte around.now.keeps (within_trees around.now.limits) table.now around.now.taken
+            self.old }
+        ensures { NilAnswers around.now.keeps (within_trees around.now.limits) table.now around.now.taken self.old
+            self.new result }
     {
         if self.innermost.fill(around, table)? {
             return self.end_values(around, table);
@@ -87,8 +89,9 @@ impl Levels {
 
     /// Ends the innermost value, which is whole, and those around it that are whole with it.
     pub(crate) fn end_values(&mut self, around: &Around, table: &Table) -> Result<Goes, Fault>
-        requires { IsBehindValue (within_trees around.now.limits) table.now around.now.taken self.old }
-        ensures { EndAnswers (within_trees around.now.limits) table.now around.now.taken self.old self.new result }
+        requires { IsBehindValue around.now.keeps (within_trees around.now.limits) table.now around.now.taken self.old }
+        ensures { EndAnswers around.now.keeps (within_trees around.now.limits) table.now around.now.taken self.old
+            self.new result }
     {
         while let Some(outer) = self.outer.pop() {
             if !self.fill_outer(outer, around, table)? {
@@ -100,13 +103,14 @@ impl Levels {
 
     // The innermost value, which is whole, fills the nil at hand of the one around it. True where that is whole too.
     fn fill_outer(&mut self, outer: Level, around: &Around, table: &Table) -> Result<bool, Fault>
-        requires { IsBeforeFilling (within_trees around.now.limits) table.now around.now.taken self.old outer }
-        ensures steps { FillingAnswers (within_trees around.now.limits) table.now around.now.taken self.old self.new
-            outer result }
+        requires { IsBeforeFilling around.now.keeps (within_trees around.now.limits) table.now around.now.taken
+            self.old outer }
+        ensures steps { FillingAnswers around.now.keeps (within_trees around.now.limits) table.now around.now.taken
+            self.old self.new outer result }
         ensures outer { self.new.outer.items ≡ self.old.outer.items }
     {
         let inner = mem::replace(&mut self.innermost, outer);
-        self.innermost.hold(around.alloc, inner)?;
+        self.innermost.hold(around, inner)?;
         self.innermost.fill(around, table)
     }
 

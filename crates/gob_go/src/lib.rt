@@ -4,7 +4,8 @@
 //! A [`GoSession`] takes the bytes in pieces of any lengths and gives [`GoItem`]s. A value is kept as its skeleton,
 //! which is the spelling of a value with nil in its interfaces, and as what fills these nils: see [`Filled`].
 //!
-//! A [`GoReader`] is the reader of `gob_stream` over such a session.
+//! A [`GoReader`] is the reader of `gob_stream` over such a session. A [`PassingSession`] reads the same streams, and
+//! keeps nothing of what fills nils.
 #![tactic(auto)]
 
 mod around;
@@ -23,6 +24,7 @@ mod name;
 mod next_count;
 mod number;
 mod part;
+mod passing;
 mod put;
 mod session;
 mod stage;
@@ -36,5 +38,6 @@ pub use filled::{Definition, Filled, Filling};
 pub use filled_whole::is_filled_whole;
 pub use ids::{push_ids, push_inner_ids};
 pub use item::GoItem;
+pub use passing::PassingSession;
 pub use session::GoSession;
 pub use steps::GoReader;

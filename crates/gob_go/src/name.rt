@@ -48,10 +48,10 @@ impl NameLength {
         table: &Table,
         piece: &[u8],
     ) -> Result<PartTaken, Fault>
-        requires has_read { IsInPut (within_trees around.now.limits) table.now around.now.taken levels.old
-            (part.NameLength self) }
-        ensures { PartAnswers (within_trees around.now.limits) table.now table.now levels.old levels.new
-            (part.NameLength self) piece.now result }
+        requires has_read { IsInPut around.now.keeps (within_trees around.now.limits) table.now around.now.taken
+            levels.old (part.NameLength self) }
+        ensures { PartAnswers around.now.keeps (within_trees around.now.limits) table.now table.now levels.old
+            levels.new (part.NameLength self) piece.now result }
     {
         let NameLength { mut number } = self;
         // what ends within it is a number of 64 bits
@@ -82,10 +82,12 @@ impl Name {
         around: &Around,
         piece: &[u8],
     ) -> Result<PartTaken, Fault>
-        requires { IsInPutOfSome (within_trees around.now.limits) around.now.taken levels.old (part.Name self) }
+        requires { IsInPutOfSome around.now.keeps (within_trees around.now.limits) around.now.taken levels.old
+            (part.Name self) }
         ensures { (d : Defined)
-            → IsInPut (within_trees around.now.limits) d around.now.taken levels.old (part.Name self)
-            → PartAnswers (within_trees around.now.limits) d d levels.old levels.new (part.Name self) piece.now result }
+            → IsInPut around.now.keeps (within_trees around.now.limits) d around.now.taken levels.old (part.Name self)
+            → PartAnswers around.now.keeps (within_trees around.now.limits) d d levels.old levels.new
+            (part.Name self) piece.now result }
     {
         // what ends within it is a number of 64 bits
         let _most = around.limits.stream();

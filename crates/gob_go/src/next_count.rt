@@ -42,11 +42,13 @@ impl NextCount {
         around: &Around,
         piece: &[u8],
     ) -> Result<PartTaken, Fault>
-        requires { IsInPutOfSome (within_trees around.now.limits) around.now.taken levels.old (part.NextCount self) }
+        requires { IsInPutOfSome around.now.keeps (within_trees around.now.limits) around.now.taken levels.old
+            (part.NextCount self) }
         ensures { (d : Defined)
-            → IsInPut (within_trees around.now.limits) d around.now.taken levels.old (part.NextCount self)
-            → PartAnswers (within_trees around.now.limits) d d levels.old levels.new (part.NextCount self) piece.now
-            result }
+            → IsInPut around.now.keeps (within_trees around.now.limits) d around.now.taken levels.old
+            (part.NextCount self)
+            → PartAnswers around.now.keeps (within_trees around.now.limits) d d levels.old levels.new
+            (part.NextCount self) piece.now result }
     {
         let NextCount { mut number } = self;
         // its contract says that no stream is so long that a count ends its numbers

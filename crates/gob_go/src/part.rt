@@ -85,10 +85,10 @@ impl PutPart {
         table: &mut Table,
         piece: &[u8],
     ) -> Result<PartTaken, Fault>
-        requires has_read { IsInPut (within_trees around.now.limits) table.old around.now.taken levels.old
-            self }
-        ensures { PartAnswers (within_trees around.now.limits) table.old table.new levels.old levels.new
-            self piece.now result }
+        requires has_read { IsInPut around.now.keeps (within_trees around.now.limits) table.old around.now.taken
+            levels.old self }
+        ensures { PartAnswers around.now.keeps (within_trees around.now.limits) table.old table.new levels.old
+            levels.new self piece.now result }
     {
         match self {
             PutPart::Value => levels.take_value(around, table, piece),

@@ -30,9 +30,10 @@ impl PutStage {
         table: &mut Table,
         piece: &[u8],
     ) -> Result<Stepped, Fault>
-        requires { IsWithinItem (within_trees around.now.limits) table.old around.now.taken
+        requires { IsWithinItem around.now.keeps (within_trees around.now.limits) table.old around.now.taken
             (stage.Put self) }
-        ensures { StageAnswers (within_trees around.now.limits) table.old table.new (stage.Put self) piece.now result }
+        ensures { StageAnswers around.now.keeps (within_trees around.now.limits) table.old table.new
+            (stage.Put self) piece.now result }
     {
         let PutStage { mut levels, part } = self;
         // its contract says that no stream is so long that the sum wraps

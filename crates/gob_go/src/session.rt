@@ -5,7 +5,7 @@ use crate::count::ItemCount;
 use crate::item::GoItem;
 use crate::stage::Stage;
 use gob_num::Memory;
-use gob_stream::{Fault, Limits, Step, refusal};
+use gob_stream::{Fault, Limits, Step, feed, refusal};
 use gob_types::{Reason, Table};
 use std::alloc::Global;
 use std::marker::Model;
@@ -21,6 +21,8 @@ pub struct GoSession {
     pub(crate) taken: u64,
     // What is expected.
     pub(crate) stage: Stage,
+    // Whether what fills nils is kept.
+    pub(crate) keeps: bool,
 }
 
 // Not derived, so that a drop is one call in the proofs of what owns one.
@@ -31,6 +33,7 @@ impl Drop for GoSession {
             types: _,
             taken: _,
             stage: _,
+            keeps: _,
         } = self;
     }
 }
@@ -51,6 +54,7 @@ impl Model for GoSession {
       types = session.types;
       taken = session.taken;
       stage = session.stage;
+      keeps = session.keeps;
     } };
 
     // It has read some bytes, or has failed.
@@ -59,17 +63,19 @@ impl Model for GoSession {
       types = session.types;
       taken = session.taken;
       stage = session.stage;
+      keeps = session.keeps;
     }) };
 }
 
 impl GoSession {
-    ghost use Rattle.std.specs.Prelude.{◌≡◌, ◌≢◌, ◌<◌, ◌≤◌, ◌++◌, ◌∷◌, ℕ, List, [], length, Err};
+    ghost use Rattle.std.specs.Prelude.{◌≡◌, ◌≢◌, ◌<◌, ◌≤◌, ◌++◌, ◌∷◌, ℕ, List, [], length, Err, Bool};
     ghost use Rattle.std.specs.Prelude.{MatchBool, IfOk, IfErr, IfSome, OnOk, OnErr};
     ghost use Rattle.gob_types.specs.Defined.{types};
     ghost use Rattle.gob_stream.specs.Bounds.{AreLimits, deepest};
     ghost use Rattle.gob_stream.specs.Reading.{Given};
     ghost use Rattle.gob_filled.specs.Stream.{FilledItem};
-    ghost use Rattle.gob_go.specs.Calls.Session.{HasRead, HasReadOn, HasFailed, IsBetweenItems, StaysAsItWas};
+    ghost use Rattle.gob_go.specs.Calls.Session.{HasRead, HasFailed, IsBetweenItems, StaysAsItWas};
+    ghost use Rattle.gob_go.specs.Calls.Session.{StandsAfter, StandsSomewhere, StepAnswersSo};
     ghost use Rattle.gob_go.specs.Calls.Session.{table_of, taken_of, limits_of};
     ghost use Rattle.gob_go.specs.Calls.Session.{FeedAnswers, FeedsHonestly, FinishAnswers, StepAnswers};
 
@@ -81,12 +87,23 @@ impl GoSession {
         ensures limits { IfOk result (λ session. limits_of session ≡ limits) }
         ensures allowed { AreLimits deepest limits }
     {
+        GoSession::start(alloc, limits, true)
+    }
+
+    // One that keeps what fills nils, or nothing of it.
+    pub(crate) fn start(alloc: Global, limits: Limits, keeps: bool) -> Result<GoSession, Memory>
+        ensures stands { IfOk result (λ session. StandsAfter keeps session [] []) }
+        ensures taken { IfOk result (λ session. taken_of session ≡ 0) }
+        ensures limits { IfOk result (λ session. limits_of session ≡ limits) }
+        ensures allowed { AreLimits deepest limits }
+    {
         let types = Table::new(alloc, limits.types())?;
         Ok(GoSession {
             limits,
             types,
             taken: 0,
             stage: Stage::Count(ItemCount::new(0)),
+            keeps,
         })
     }
 
@@ -106,27 +123,7 @@ impl GoSession {
             → (result ≡ Err Fault.Failed) × StaysAsItWas self.old self.new × (out.new ≡ out.old) }
         ensures limits { limits_of self.new ≡ limits_of self.old }
     {
-        if self.has_failed() {
-            return Err(Fault::Failed);
-        }
-        let mut used = 0;
-        'steps: for _ in 0..piece.len() {
-            if used == piece.len() {
-                return Ok(());
-            }
-            match self.step(alloc, &piece[used..]) {
-                Ok(step) => {
-                    used += step.used;
-                    if let Some(item) = step.item {
-                        if let Err(fault) = self.push_item(item, out) {
-                            return Err(fault);
-                        }
-                    }
-                }
-                Err(fault) => return Err(fault),
-            }
-        }
-        Ok(())
+        feed(self, alloc, piece, out)
     }
 
     /// Takes some bytes from the front of the piece, one at least where it has any, and none behind the end of an item;
@@ -135,6 +132,8 @@ impl GoSession {
     pub fn step(&mut self, alloc: Global, piece: &[u8]) -> Result<Step<GoItem>, Fault>
         ensures advances { (items : List FilledItem) (bytes : List ℕ) → HasRead self.old items bytes
             → StepAnswers self.old self.new items bytes piece.now result }
+        ensures any { (keep : Bool) (items : List FilledItem) (bytes : List ℕ) → StandsAfter keep self.old items bytes
+            → StepAnswersSo keep self.old self.new items bytes piece.now result }
         ensures used { IfOk result (λ step. (0 < length piece.now → 0 < step.used) × (step.used ≤ length piece.now)) }
         ensures between { IfOk result (λ step. IfSome step.item (λ _. IsBetweenItems self.new)) }
         ensures failed { OnErr result (HasFailed self.new) }
@@ -158,6 +157,7 @@ impl GoSession {
             alloc,
             limits: self.limits,
             taken: self.taken,
+            keeps: self.keeps,
         };
         let stage = mem::replace(&mut self.stage, Stage::Failed);
         match stage.take(&around, &mut self.types, piece) {
@@ -178,6 +178,8 @@ impl GoSession {
     /// [`Fault::Failed`].
     pub fn finish(&mut self) -> Result<(), Fault>
         ensures finishes { (items : List FilledItem) (bytes : List ℕ) → HasRead self.old items bytes
+            → FinishAnswers self.old self.new items bytes result }
+        ensures any { (keep : Bool) (items : List FilledItem) (bytes : List ℕ) → StandsAfter keep self.old items bytes
             → FinishAnswers self.old self.new items bytes result }
         ensures failed { OnErr result (HasFailed self.new) }
         ensures stays { HasFailed self.old → (result ≡ Err Fault.Failed) × StaysAsItWas self.old self.new }
@@ -211,28 +213,10 @@ impl GoSession {
         self.limits
     }
 
-    // Appends an item. Without memory for it nothing more is read.
-    fn push_item(&mut self, item: GoItem, out: &mut Vec<GoItem>) -> Result<(), Fault>
-        ensures given { OnOk result (out.new.items ≡ out.old.items ++ item ∷ []) }
-        ensures kept { OnOk result (self.new ≡ self.old) }
-        ensures memory { IfErr result (λ fault. fault ≡ Fault.Memory) }
-        ensures as_before { OnErr result (out.new.items ≡ out.old.items) }
-        ensures failed { OnErr result (HasFailed self.new) }
-        ensures types { table_of self.new ≡ table_of self.old }
-        ensures taken { taken_of self.new ≡ taken_of self.old }
-        ensures limits { limits_of self.new ≡ limits_of self.old }
-    {
-        if out.push(item).is_err() {
-            self.fail();
-            return Err(Fault::Memory);
-        }
-        Ok(())
-    }
-
     // Whether there was a fault. If not, it has read some bytes.
     pub(crate) fn has_failed(&self) -> bool
         ensures failed { MatchBool result (HasFailed self.now) (¬ HasFailed self.now) }
-        ensures has_read { ¬ HasFailed self.now → HasReadOn self.now }
+        ensures has_read { ¬ HasFailed self.now → StandsSomewhere self.now }
     {
         matches!(self.stage, Stage::Failed)
     }

@@ -91,9 +91,10 @@ impl Stage {
         table: &mut Table,
         piece: &[u8],
     ) -> Result<Stepped, Fault>
-        requires has_read { IsWithinItem (within_trees around.now.limits) table.old around.now.taken
+        requires has_read { IsWithinItem around.now.keeps (within_trees around.now.limits) table.old around.now.taken
             self }
-        ensures { StageAnswers (within_trees around.now.limits) table.old table.new self piece.now result }
+        ensures { StageAnswers around.now.keeps (within_trees around.now.limits) table.old table.new self piece.now
+            result }
     {
         match self {
             Stage::Count(count) => count.take(around, piece),

@@ -42,10 +42,10 @@ impl TypeNumberStage {
         table: &mut Table,
         piece: &[u8],
     ) -> Result<Stepped, Fault>
-        requires has_read { IsWithinItem (within_trees around.now.limits) table.old around.now.taken
+        requires has_read { IsWithinItem around.now.keeps (within_trees around.now.limits) table.old around.now.taken
             (stage.TypeNumber self) }
-        ensures { StageAnswers (within_trees around.now.limits) table.old table.new (stage.TypeNumber self)
-            piece.now result }
+        ensures { StageAnswers around.now.keeps (within_trees around.now.limits) table.old table.new
+            (stage.TypeNumber self) piece.now result }
     {
         let TypeNumberStage { mut number } = self;
         // its contract says that no stream is so long that the sum wraps
@@ -76,8 +76,8 @@ fn begin_body(
     piece: &[u8],
 ) -> Result<Stepped, Fault>
     requires { IsAtBody (within_trees around.now.limits) table.old around.now.taken body (IsUnsigned number) }
-    ensures { BodySteps (within_trees around.now.limits) table.old table.new around.now.taken body (IsUnsigned number)
-        piece.now result }
+    ensures { BodySteps around.now.keeps (within_trees around.now.limits) table.old table.new around.now.taken body
+        (IsUnsigned number) piece.now result }
 {
     let signed = to_signed(number);
     let id = TypeId(signed.unsigned_abs());
@@ -96,7 +96,7 @@ fn begin_definition(
     piece: &[u8],
 ) -> Result<Stepped, Fault>
     requires { IsAtBody (within_trees around.now.limits) table.old around.now.taken body (IsNumberOf negative id) }
-    ensures { BodySteps (within_trees around.now.limits) table.old table.new around.now.taken body
+    ensures { BodySteps around.now.keeps (within_trees around.now.limits) table.old table.new around.now.taken body
         (IsNumberOf negative id) piece.now result }
 {
     // its contract says that no stream is so long that the sum wraps
@@ -115,7 +115,7 @@ fn begin_put(
     piece: &[u8],
 ) -> Result<Stepped, Fault>
     requires { IsAtBody (within_trees around.now.limits) table.old around.now.taken body (IsNumberOf positive id) }
-    ensures { BodySteps (within_trees around.now.limits) table.old table.new around.now.taken body
+    ensures { BodySteps around.now.keeps (within_trees around.now.limits) table.old table.new around.now.taken body
         (IsNumberOf positive id) piece.now result }
 {
     // its contract says that no stream is so long that the sum wraps

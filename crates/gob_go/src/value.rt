@@ -20,8 +20,9 @@ impl Levels {
         table: &Table,
         piece: &[u8],
     ) -> Result<PartTaken, Fault>
-        requires { IsInValue (within_trees around.now.limits) table.now around.now.taken self.old }
-        ensures { ValueAnswers (within_trees around.now.limits) table.now self.old self.new piece.now result }
+        requires { IsInValue around.now.keeps (within_trees around.now.limits) table.now around.now.taken self.old }
+        ensures { ValueAnswers around.now.keeps (within_trees around.now.limits) table.now self.old self.new
+            piece.now result }
     {
         // its contract says that no stream is so long that the sum wraps
         let _most = around.limits.stream();

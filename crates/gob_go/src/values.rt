@@ -1,9 +1,9 @@
 //! Items of values that stand whole one behind another in front of a piece, and define nothing.
 
-ghost use Rattle.std.specs.Prelude.{◌≡◌, ◌+◌, ◌<◌, ◌≤◌, length};
+ghost use Rattle.std.specs.Prelude.{◌≡◌, ◌+◌, ◌<◌, ◌≤◌, length, Bool};
 ghost use Rattle.gob_types.specs.Defined.{types};
 ghost use Rattle.gob_stream.specs.Bounds.{within_trees};
-ghost use Rattle.gob_go.specs.Calls.Session.{HasFailed, IsBetweenItems, ReadsItems, StaysAsItWas};
+ghost use Rattle.gob_go.specs.Calls.Session.{HasFailed, IsBetweenItems, ReadsItems, ReadsItemsSo, StaysAsItWas};
 ghost use Rattle.gob_go.specs.Calls.Session.{table_of, taken_of, limits_of};
 ghost use Rattle.gob_go.specs.Whole.{AreFilledBefore};
 
@@ -19,6 +19,7 @@ impl GoSession {
     /// is to be refused. After a fault it passes none.
     pub fn pass_values(&mut self, piece: &[u8]) -> Passed
         ensures passed { ReadsItems self.old self.new result.items result.used piece.now }
+        ensures any { (keep : Bool) → ReadsItemsSo keep self.old self.new result.items result.used piece.now }
         ensures between { 0 < result.used → IsBetweenItems self.new }
         ensures both { 0 < result.items → IsBetweenItems self.old × IsBetweenItems self.new }
         ensures stays { HasFailed self.old → (result.items ≡ 0) × (result.used ≡ 0) × StaysAsItWas self.old self.new }

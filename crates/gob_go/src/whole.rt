@@ -1,8 +1,8 @@
 //! Items of values in which no interface holds a value, where they stand whole at the front of a piece.
 
-ghost use Rattle.std.specs.Prelude.{◌≡◌, ◌+◌, length, IsTrue, IfSome};
+ghost use Rattle.std.specs.Prelude.{◌≡◌, ◌+◌, length, IsTrue, IfSome, Bool};
 ghost use Rattle.gob_go.specs.Calls.Session.{HasBodyNext, HasBegunNext, HasItemNext, HasItemsNext, IsBetweenItems};
-ghost use Rattle.gob_go.specs.Calls.Session.{HasFailed, ReadsAll, ReadsOn, limits_of, table_of, taken_of};
+ghost use Rattle.gob_go.specs.Calls.Session.{HasFailed, ReadsAllSo, ReadsOn, ReadsOnSo, limits_of, table_of, taken_of};
 
 use crate::count::ItemCount;
 use crate::session::GoSession;
@@ -57,6 +57,7 @@ impl GoSession {
         requires between { IsBetweenItems self.old }
         requires item { HasItemNext self.old item.now }
         ensures passed { ReadsOn self.old self.new item.now }
+        ensures any { (keep : Bool) → ReadsOnSo keep self.old self.new item.now }
         ensures between { IsBetweenItems self.new }
         ensures taken { taken_of self.new ≡ taken_of self.old + length item.now }
         ensures types { table_of self.new ≡ table_of self.old }
@@ -69,7 +70,7 @@ impl GoSession {
     pub(crate) fn go_past(&mut self, items: &[u8])
         requires between { IsBetweenItems self.old }
         requires items { HasItemsNext self.old items.now }
-        ensures passed { ReadsAll self.old self.new items.now }
+        ensures passed { (keep : Bool) → ReadsAllSo keep self.old self.new items.now }
         ensures between { IsBetweenItems self.new }
         ensures taken { taken_of self.new ≡ taken_of self.old + length items.now }
         ensures types { table_of self.new ≡ table_of self.old }

@@ -1,6 +1,6 @@
 -- What a session reads step by step, written again.
 use Rattle.std.proofs.Common.{◌≡◌, ℕ, ◌+◌, ◌-◌, List, [], ◌∷◌, ◌++◌, length, take, drop, Some, None, refl, sym, ap}
-use Rattle.std.proofs.Common.{Err, subst, ◌∙◌, append_assoc, arith}
+use Rattle.std.proofs.Common.{Err, subst, ◌∙◌, append_assoc, arith, true}
 use Rattle.std.proofs.Math.Seq.{take-add}
 use Rattle.std.proofs.lemmas.List.{take-append-drop, take_rest}
 use Rattle.gob_types.specs.Base.{base_table}
@@ -40,7 +40,7 @@ same_prefix s' {items = items} {p = p} {U = U} more y h e stream f =
 
 -- no item is whole with the bytes that were taken
 pub none_written : {s s' : SessionState} {bytes out piece : List ℕ} {used : ℕ} (h : HasWritten s bytes out)
-    → s'.limits ≡ s.limits → AdvancesOver s' h.items bytes piece used None
+    → s'.limits ≡ s.limits → AdvancesOver true s' h.items bytes piece used None
     → HasWritten s' (bytes ++ take used piece) out
 none_written {s' = s'} {piece = piece} {used = used} h e (over_some some few after) = record {
   items = h.items;
@@ -50,7 +50,7 @@ none_written {s' = s'} {piece = piece} {used = used} h e (over_some some few aft
 
 -- between items the types are those behind the last one
 types_between : {L : Bounds} {T U : Table} {offset n : ℕ} {st : Stage} {z : List ℕ}
-    → StageHasRead L T offset U st z → st ≡ count_at n → U ≡ T
+    → StageHasRead true L T offset U st z → st ≡ count_at n → U ≡ T
 types_between (in_count q e n) f = e
 types_between (in_type_number a e c n) f = absurd (cc f)
 types_between (in_definition a y e c d) f = absurd (cc f)
@@ -64,7 +64,7 @@ pub record WritesItem (s' : SessionState) (given : GoItem) (bytes out : List ℕ
 -- one is
 pub item_written : {s s' : SessionState} {bytes out piece : List ℕ} {used : ℕ} {given : GoItem}
     (h : HasWritten s bytes out) → s'.limits ≡ s.limits → IsBetweenItems s'
-    → AdvancesOver s' h.items bytes piece used (Some given)
+    → AdvancesOver true s' h.items bytes piece used (Some given)
     → WritesItem s' given (bytes ++ take used piece) out
 item_written {s' = s'} {piece = piece} {used = used} h e between (over_item {i = i} some few means after) =
     let last = last_of h.items after.stream in
@@ -80,7 +80,7 @@ item_written {s' = s'} {piece = piece} {used = used} h e between (over_item {i =
         behind = after.table;
         offset = 0 + length last.before;
         item = i;
-        means = means;
+        means = means refl;
         is = last.item;
         grown = λ t s m. subst (λ U. shape_of U t ≡ Some s) (sym here) m;
         shallow = omega arith;

@@ -1,6 +1,6 @@
 -- What an item that is spelled has to do with a stream behind which its bytes are read.
 use Rattle.std.proofs.Common.{◌≡◌, ◌≢◌, ℕ, ◌<◌, ◌≤◌, List, [], ◌∷◌, ◌++◌, length, Result, Ok, Err, arith, refl}
-use Rattle.std.proofs.Common.{sym, ap, ◌∙◌, subst, length-append, IsErrAnd, false, get_or}
+use Rattle.std.proofs.Common.{sym, ap, ◌∙◌, subst, length-append, IsErrAnd, true, false, get_or}
 use Rattle.std.proofs.lemmas.List.{append-nil}
 use Rattle.gob_num.specs.Spelled.{Appends, IsSpelled}
 use Rattle.gob_num.proofs.PublicLaws.{unsigned_length}
@@ -186,7 +186,7 @@ not_finished s s' s'' kept bytes piece given reading.Failed w spelled l a r = ab
 
 -- between items the types are those behind the last one
 types_at_rest : {L : Bounds} {T U : Table} {offset : ℕ} {st : Stage} {y : List ℕ}
-    → StageHasRead L T offset U st y → y ≡ [] → U ≡ T
+    → StageHasRead true L T offset U st y → y ≡ [] → U ≡ T
 types_at_rest (in_count q e n) f = e
 types_at_rest (in_type_number a e k n) f = e
 types_at_rest (in_definition a y e k d) f = e

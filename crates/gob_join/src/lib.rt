@@ -23,6 +23,7 @@ mod join_fault;
 mod numbering;
 mod renaming;
 mod run;
+mod same;
 mod shape;
 mod taking;
 mod value;

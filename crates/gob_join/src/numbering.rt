@@ -4,18 +4,20 @@ ghost use Rattle.std.specs.Prelude.{◌≡◌, ◌≤◌, ◌∷◌, [], IfSome,
 ghost use Rattle.gob_join.specs.Machine.Numbered.{NumbersSome};
 ghost use Rattle.gob_join.specs.Renaming.{among};
 
-use crate::renaming::{NewIds, Renaming};
+use crate::renaming::{Known, NewIds, Renaming};
+use crate::same::share_more;
 use crate::shape::is_renamed;
 use gob_num::Memory;
 use gob_types::{Shapes, Table, TypeId};
 use indexmap::IndexSet;
 use std::alloc::Global;
 
-// The first id that Go's encoder gives a type of a program.
-const FIRST: u64 = 65;
+/// The first id that Go's encoder gives a type of a program.
+pub(crate) const FIRST: u64 = 65;
 
 /// Lets an id stand for each of these types for which none does: its own, where the joined stream has the same type
-/// under it, with all that it leads to, or has none under it; else the least one that is free.
+/// under it, with all that it leads to; else another one under which it has that; else its own, where it has none under
+/// it; else the least one that is free.
 pub(crate) fn number(
     alloc: Global,
     table: &Table,
@@ -25,7 +27,8 @@ pub(crate) fn number(
 ) -> Result<(), Memory>
     ensures { OnOk result (NumbersSome ids.now (among renaming.old) (among renaming.new)) }
 {
-    let shared = shared_types(alloc, table, joined, ids, renaming)?;
+    let mut shared = shared_types(alloc, table, joined, ids, renaming)?;
+    share_more(alloc, table, joined, ids, renaming, &mut shared)?;
     let mut kept = IndexSet::new(alloc);
     keep_ids(joined, &shared, ids, renaming, &mut kept)?;
     number_anew(joined, &kept, ids, renaming)
@@ -76,26 +79,6 @@ fn still_shared(
     Ok(still)
 }
 
-// The ids that stand for others, with those that may.
-#[derive(Drop)]
-struct Known<'a> {
-    renaming: &'a Renaming,
-    shared: &'a Renaming,
-}
-
-impl NewIds for Known<'_> {
-    ghost use Rattle.gob_join.specs.Renaming.{among, or_else};
-
-    ghost ids = { λ known. or_else (among known.renaming.now) (among known.shared.now) };
-
-    fn get(&self, id: TypeId) -> Option<TypeId> {
-        match self.renaming.get(id) {
-            Some(new) => Some(new),
-            None => self.shared.get(id),
-        }
-    }
-}
-
 // Whether the type has the same shape in both tables.
 fn is_shared(table: &Table, joined: &Table, id: TypeId, known: &Known<'_>) -> bool {
     match (table.shape_of(id), joined.shape_of(id)) {
@@ -104,7 +87,7 @@ fn is_shared(table: &Table, joined: &Table, id: TypeId, known: &Known<'_>) -> bo
     }
 }
 
-// Lets its own id stand for each type that is shared, or whose id is free, which is then one of the kept ones.
+// Lets an id stand for each type that is shared, and its own for each whose id is free, which is then a kept one.
 fn keep_ids(
     joined: &Table,
     shared: &Renaming,
@@ -130,8 +113,8 @@ fn keep_id(
 ) -> Result<(), Memory>
     ensures { OnOk result (NumbersSome (id ∷ []) (among renaming.old) (among renaming.new)) }
 {
-    if shared.get(id).is_some() {
-        return let_stand(renaming, id, id);
+    if let Some(new) = shared.get(id) {
+        return let_stand(renaming, id, new);
     }
     if joined.shape_of(id).is_some() {
         return Ok(());

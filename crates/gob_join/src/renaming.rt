@@ -89,3 +89,23 @@ impl NewIds for Renaming {
         self.ids.get(&id).copied()
     }
 }
+
+/// The ids that stand for others, with those that may.
+#[derive(Drop)]
+pub(crate) struct Known<'a> {
+    pub(crate) renaming: &'a Renaming,
+    pub(crate) shared: &'a Renaming,
+}
+
+impl NewIds for Known<'_> {
+    ghost use Rattle.gob_join.specs.Renaming.{among, or_else};
+
+    ghost ids = { λ known. or_else (among known.renaming.now) (among known.shared.now) };
+
+    fn get(&self, id: TypeId) -> Option<TypeId> {
+        match self.renaming.get(id) {
+            Some(new) => Some(new),
+            None => self.shared.get(id),
+        }
+    }
+}

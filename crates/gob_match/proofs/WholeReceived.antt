@@ -36,7 +36,7 @@ use Rattle.gob_match.specs.Machine.Conversions as kept
 use Rattle.gob_match.specs.Machine.Exploring.{ConvertsAt}
 use Rattle.gob_match.specs.Machine.Receiving.{AreElementsReceived, FieldsReceived, IsOfMatch, IsReceivableField}
 use Rattle.gob_match.specs.Machine.Receiving.{IsReceived, no_more, absent, present}
-use Rattle.gob_match.specs.declared.places.Place.{Place}
+use Rattle.gob_match.specs.declared.places.FieldPlace.{FieldPlace}
 use Rattle.gob_match.specs.Machine.ReceivingWhole.{ArePlaces, BeginsValue, GivesCommon, HasPlace, LacksPlace}
 use Rattle.gob_match.specs.Machine.ReceivingWhole.{PlacesRise, StandPresent, no_place, place}
 use Rattle.gob_match.specs.Machine.ReceivingWhole.{Admits, CopiesEach, GivesEach, GivesEntries, GivesFields, GivesList}
@@ -499,36 +499,36 @@ struct_inside e = cc
 -- ---- fields by their places
 
 -- each place has at least the number that is next
-place_from : {T : Table} {types : List Field} {body : List ℕ} {fs : Fields} {ps : List Place} {next : ℕ} {b : List ℕ}
-    (j : ℕ) {q : Place} → SpellsFields T types next fs b → ArePlaces T types body fs ps → slice_get ps j ≡ Some q
+place_from : {T : Table} {types : List Field} {body : List ℕ} {fs : Fields} {ps : List FieldPlace} {next : ℕ} {b : List ℕ}
+    (j : ℕ) {q : FieldPlace} → SpellsFields T types next fs b → ArePlaces T types body fs ps → slice_get ps j ≡ Some q
     → next ≤ q.number
 place_from j s no_place there = absurd (true≢false (sym (ap is_some there)))
 place_from zero (next_field l t a p ps) (place at is n v r) there =
-    let e = ap (λ (p : Place). p.number) (some_injective there) in omega arith
+    let e = ap (λ (p : FieldPlace). p.number) (some_injective there) in omega arith
 place_from (suc j) (next_field l t a p ps) (place at is m v r) there =
     let n = place_from j ps r there in omega arith
 
-pub places_rise : {T : Table} {types : List Field} {body : List ℕ} {fs : Fields} {ps : List Place} {next : ℕ}
+pub places_rise : {T : Table} {types : List Field} {body : List ℕ} {fs : Fields} {ps : List FieldPlace} {next : ℕ}
     {b : List ℕ} → SpellsFields T types next fs b → ArePlaces T types body fs ps → PlacesRise ps
 places_rise s no_place i j p q below one other = absurd (true≢false (sym (ap is_some one)))
 places_rise s (place at is l v r) zero zero p q below one other = absurd (omega arith)
 places_rise s (place at is l v r) (suc i) zero p q below one other = absurd (omega arith)
 places_rise (next_field l t a o ps) (place at is m v r) zero (suc j) p q below one other =
     let n = place_from j ps r other in
-    let e = ap (λ (p : Place). p.number) (some_injective one) in
+    let e = ap (λ (p : FieldPlace). p.number) (some_injective one) in
     omega arith
 places_rise (next_field l t a o ps) (place at is m v r) (suc i) (suc j) p q below one other =
     places_rise ps r i j p q (omega arith) one other
 
 -- the value that stands at a place
-record PresentAt (T : Table) (types : List Field) (body : List ℕ) (fs : Fields) (p : Place) : Type 0 where
+record PresentAt (T : Table) (types : List Field) (body : List ℕ) (fs : Fields) (p : FieldPlace) : Type 0 where
   value : Tree
   type : Field
   present : IsPresent p.number value fs
   there : slice_get types p.number ≡ Some type
   begins : BeginsValue T type.id value (drop p.at body)
 
-place_present : {T : Table} {types : List Field} {body : List ℕ} {fs : Fields} {ps : List Place} (k : ℕ) {p : Place}
+place_present : {T : Table} {types : List Field} {body : List ℕ} {fs : Fields} {ps : List FieldPlace} (k : ℕ) {p : FieldPlace}
     → ArePlaces T types body fs ps → slice_get ps k ≡ Some p → PresentAt T types body fs p
 place_present k no_place there = absurd (true≢false (sym (ap is_some there)))
 place_present {T = T} {types = types} {body = body} zero (place {f = f} {v = v} {fs = fs} {e = e} at is l s r) there =
@@ -543,7 +543,7 @@ place_present (suc k) (place at is l s r) there =
     let h = place_present k r there in
     record { value = h.value; type = h.type; present = later h.present; there = h.there; begins = h.begins }
 
-place_absent : {T : Table} {types : List Field} {body : List ℕ} {fs : Fields} {ps : List Place} {n : ℕ}
+place_absent : {T : Table} {types : List Field} {body : List ℕ} {fs : Fields} {ps : List FieldPlace} {n : ℕ}
     → ArePlaces T types body fs ps → LacksPlace ps n → IsAbsent n fs
 place_absent no_place lacks v h = elim h [ ]
 place_absent (place {p = p} at is l s r) lacks v h = elim (inside h) [
@@ -552,7 +552,7 @@ place_absent (place {p = p} at is l s r) lacks v h = elim (inside h) [
 ]
 
 module _ (T : Table) (types : List Field) (limit : ℕ) (body : List ℕ) where
-  pub present_end : (next n : ℕ) (places : List Place) → n ≡ 0 → (x y : List ℕ) → BeginsThisNumber n x y
+  pub present_end : (next n : ℕ) (places : List FieldPlace) → n ≡ 0 → (x y : List ℕ) → BeginsThisNumber n x y
       → StandPresent T types limit body next places places x y
   present_end next n places none x y p = record {
     values = no_field;
@@ -566,7 +566,7 @@ module _ (T : Table) (types : List Field) (limit : ℕ) (body : List ℕ) where
   }
 
   pub present_more : (next delta number : ℕ) (type : Field) → 0 < delta → number + 1 ≡ next + delta
-      → slice_get types number ≡ Some type → (at : ℕ) (old mid new : List Place) → at ≤ length body
+      → slice_get types number ≡ Some type → (at : ℕ) (old mid new : List FieldPlace) → at ≤ length body
       → mid ≡ old ++ record { number = number; at = at } ∷ [] → (x a y z : List ℕ) → BeginsThisNumber delta x a
       → (a ≡ drop at body) × StandsTyped T type.id limit a y
       → StandPresent T types limit body (number + 1) mid new y z → StandPresent T types limit body next old new x z
@@ -575,7 +575,7 @@ module _ (T : Table) (types : List Field) (limit : ℕ) (body : List ℕ) where
       let u = q.within in
       let v = r.within in
       let up : delta ≡ number + 1 - next = omega arith in
-      let one : Place = record { number = number; at = at } in
+      let one : FieldPlace = record { number = number; at = at } in
       record {
         values = field number q.value r.values;
         bytes = p.bytes ++ (q.bytes ++ r.bytes);
@@ -598,7 +598,7 @@ stands_here body at end s =
     let q = stands_typed body at end s in
     record { order = q.order; inside = q.inside; begins = (refl, q.begins) }
 
-module _ {T U : Table} {types : List Field} {body : List ℕ} (values : Fields) {ps : List Place}
+module _ {T U : Table} {types : List Field} {body : List ℕ} (values : Fields) {ps : List FieldPlace}
     (stand : ArePlaces T types body values ps) where
   pub common_absent : (c : CommonField) {cs : List CommonField} {wanted : ℕ} {old new : List ℕ}
       → LacksPlace ps c.stream → GivesCommon T U values cs wanted old new
@@ -644,13 +644,13 @@ common_end values a = record {
 }
 
 -- what stands at the places that were kept
-pub record Standing (T : Table) (types : List Field) (body : List ℕ) (places : List Place) : Type 0 where
+pub record Standing (T : Table) (types : List Field) (body : List ℕ) (places : List FieldPlace) : Type 0 where
   pub values : Fields
   pub bytes : List ℕ
   pub spelled : SpellsFields T types 0 values bytes
   pub stand : ArePlaces T types body values places
 
-pub standing : {T : Table} {types : List Field} {limit : ℕ} {body : List ℕ} {at end : ℕ} {none places : List Place}
+pub standing : {T : Table} {types : List Field} {limit : ℕ} {body : List ℕ} {at end : ℕ} {none places : List FieldPlace}
     → HoldsBetween (StandPresent T types limit body 0 none places) body at end → none ≡ []
     → Standing T types body places
 standing {T = T} {types = types} {body = body} s empty =
@@ -663,21 +663,21 @@ standing {T = T} {types = types} {body = body} s empty =
       stand = subst (ArePlaces T types body q.values) (sym all) q.stand;
     }
 
-pub has_inside : {T : Table} {types : List Field} {body : List ℕ} {ps : List Place} {n at : ℕ}
+pub has_inside : {T : Table} {types : List Field} {body : List ℕ} {ps : List FieldPlace} {n at : ℕ}
     → Standing T types body ps → HasPlace ps n at → at ≤ length body
 has_inside {T = T} {types = types} {body = body} s h =
     subst (λ at. at ≤ length body) h.is (by h.index s.stand h.there)
   where
-    by : {T : Table} {types : List Field} {body : List ℕ} {fs : Fields} {ps : List Place} (k : ℕ) {p : Place}
+    by : {T : Table} {types : List Field} {body : List ℕ} {fs : Fields} {ps : List FieldPlace} (k : ℕ) {p : FieldPlace}
         → ArePlaces T types body fs ps → slice_get ps k ≡ Some p → p.at ≤ length body
     by k no_place there = absurd (true≢false (sym (ap is_some there)))
     by {body = body} zero (place at is l v r) there =
-        subst (λ (p : Place). p.at ≤ length body) (some_injective there) l
+        subst (λ (p : FieldPlace). p.at ≤ length body) (some_injective there) l
     by (suc k) (place at is l v r) there = by k r there
 
 -- the places are those of a struct, and of its values so much is received
 pub reordered_given : {T U : Table} {types : List Field} {common : List CommonField} {limit : ℕ} {body : List ℕ}
-    {at end : ℕ} {places : List Place} {none : List Place} {old new : List ℕ}
+    {at end : ℕ} {places : List FieldPlace} {none : List FieldPlace} {old new : List ℕ}
     → HoldsBetween (StandPresent T types limit body 0 none places) body at end → none ≡ []
     → ((values : Fields) → ArePlaces T types body values places → GivesCommon T U values common 0 old new)
     → HoldsBetween (GivesFields T U types common 0 0 limit old new) body at end

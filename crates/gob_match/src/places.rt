@@ -10,7 +10,7 @@ use gob_value::{field_number, number_at};
 
 /// Where the value of a field stands.
 #[derive(Clone, Copy)]
-pub(crate) struct Place {
+pub(crate) struct FieldPlace {
     pub(crate) number: u64,
     pub(crate) at: usize,
 }
@@ -20,7 +20,7 @@ pub(crate) fn present_fields<S: Shapes>(
     stream: &S,
     types: &Fields,
     part: Part<'_>,
-    places: &mut Vec<Place>,
+    places: &mut Vec<FieldPlace>,
 ) -> Option<usize>
     requires { part.at ≤ length part.body.now }
     ensures { IfSome result (λ end. HoldsBetween (StandPresent (S.table stream.now) types.now part.entry.depth
@@ -35,7 +35,7 @@ pub(crate) fn present_fields<S: Shapes>(
         }
         let number = field_number(next, delta)?;
         let own = types.get(number)?;
-        keep_place(Place { number, at: behind }, places)?;
+        keep_place(FieldPlace { number, at: behind }, places)?;
         let value = Part {
             body: part.body,
             at: behind,
@@ -48,14 +48,14 @@ pub(crate) fn present_fields<S: Shapes>(
 }
 
 // Keeps a place, last.
-fn keep_place(place: Place, places: &mut Vec<Place>) -> Option<()>
+fn keep_place(place: FieldPlace, places: &mut Vec<FieldPlace>) -> Option<()>
     ensures { IfSome result (λ _. places.new.items ≡ places.old.items ++ place ∷ []) }
 {
     places.push(place).ok()
 }
 
 /// Where the field of this number stands, if it is present.
-pub(crate) fn place_of(places: &[Place], number: u64) -> Option<usize>
+pub(crate) fn place_of(places: &[FieldPlace], number: u64) -> Option<usize>
     requires { PlacesRise places.now }
     ensures found { IfSome result (λ at. HasPlace places.now number at) }
     ensures none { result ≡ None → LacksPlace places.now number }

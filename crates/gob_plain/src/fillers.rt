@@ -133,25 +133,29 @@ fn write_filler(alloc: Global, filler: &Filler<'_>, out: &mut Writer) -> Result<
     requires { HasJson filler.now }
     ensures { WritesPlain result out.old out.new (SaysFiller filler.now) }
 {
+    let mut scratch = Scratch::new(alloc);
     match filler.name {
         Some(name) => {
             out.begin_object()?;
             write_name(alloc, name, out)?;
-            copy_json(alloc, filler.text.as_str(), out)?;
+            copy_json(filler.text.as_str(), &mut scratch, out)?;
             out.end_object()
         }
-        None => copy_json(alloc, filler.text.as_str(), out),
+        None => copy_json(filler.text.as_str(), &mut scratch, out),
     }
 }
 
 /// Writes the JSON of the text.
-fn copy_json(alloc: Global, text: &str, out: &mut Writer) -> Result<(), AllocError>
+pub(crate) fn copy_json(
+    text: &str,
+    scratch: &mut Scratch,
+    out: &mut Writer,
+) -> Result<(), AllocError>
     ensures before { out.new.before ≡ out.old.before }
     ensures tokens { (j : Json) → tokens text.now ≡ json_tokens j
         → WritesTokens result out.old out.new (json_tokens j) }
 {
-    let mut scratch = Scratch::new(alloc);
-    let mut reader = Reader::new(text, &mut scratch)?;
+    let mut reader = Reader::new(text, scratch)?;
     'tokens: while let Some(token) = reader.next() {
         match token {
             Token::Bad => return Ok(()),

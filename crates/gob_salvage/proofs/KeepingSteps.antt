@@ -16,7 +16,7 @@ use Rattle.gob_filled.specs.Outcome.{EndsFilled, Ending, at_the_end, next_refuse
 use Rattle.gob_filled.specs.Stream.{FilledItem, IsFilledItem, FilledStream, AreFilledItems, no_more, and_then}
 use Rattle.gob_go.specs.Calls.Session.{HasRead, IsBetweenItems, ReadsItems, limits_of, table_of, types_of}
 use Rattle.gob_go.specs.Machine.SessionState.{SessionState}
-use Rattle.gob_go.proofs.FeedSteps.{rest_of}
+use Rattle.gob_stream.proofs.Reader.FeedingSteps.{rest_of}
 use Rattle.gob_go.proofs.SessionAnswers.{table_between}
 use Rattle.gob_go.proofs.ItemsLaws.{item_ends, item_grown, last_of, one_more, one_reading}
 use Rattle.gob_salvage.specs.declared.gap.Gap.{Gap}

@@ -7,10 +7,10 @@ use Rattle.gob_types.specs.Table.{Table}
 use Rattle.gob_stream.specs.Bounds.{Bounds, within_trees}
 use Rattle.gob_filled.specs.Stream.{FilledItem, FilledStream, AreFilledItems, no_more, and_then}
 use Rattle.gob_go.specs.Calls.Session.{HasRead, IsBetweenItems, ReadsItems, limits_of, types_of}
-use Rattle.gob_go.specs.Machine.HasRead.{stands_after}
 use Rattle.gob_go.specs.Machine.SessionState.{SessionState}
-use Rattle.gob_go.proofs.FeedSteps.{rest_of}
+use Rattle.gob_stream.proofs.Reader.FeedingSteps.{rest_of}
 use Rattle.gob_go.proofs.FinishSteps.{nothing_expects}
+use Rattle.gob_go.proofs.SessionSteps.{usable}
 use Rattle.gob_go.proofs.ItemsLaws.{one_reading}
 use Rattle.gob_go.proofs.WholeSteps.{between_at}
 use Rattle.gob_salvage.specs.Taking.{HasReadAll}
@@ -117,7 +117,7 @@ between_still {s = s} {items = items} {out = out} a between b limits =
     let new = subst (λ (M : Bounds). FilledStream base_table (within_trees M) items b.prefix b.table) limits b.stream in
     let none = (one_reading b.under_way [] new old (sym b.whole ∙ sym (append-nil out))).rest in
     let k = nothing_expects b.stage none in
-    between_at (stands_after b) k.is (k.begins_at ∙ omega (
+    between_at (usable b) k.is (k.begins_at ∙ omega (
       arith,
       b.taken,
       ap length b.whole,

@@ -1,7 +1,7 @@
 -- What taking one item comes to, step by step.
 use Rattle.std.proofs.Common.{◌≡◌, ℕ, ◌+◌, ◌<◌, ◌≤◌, List, [], ◌∷◌, ◌++◌, length, take, drop, Option, Some, None}
 use Rattle.std.proofs.Common.{Result, Ok, Err, arith, refl, sym, ap, ◌∙◌, subst}
-use Rattle.std.proofs.Common.{append_assoc, length-append, length-drop}
+use Rattle.std.proofs.Common.{append_assoc, length-append, length-drop, true, IfSome}
 use Rattle.std.proofs.Math.Seq.{take-add}
 use Rattle.std.proofs.lemmas.List.{append-nil, take-append-drop, take_all, take_rest}
 use Rattle.gob_types.specs.Base.{base_table}
@@ -14,11 +14,11 @@ use Rattle.gob_stream.specs.Honest.{OfRefusal}
 use Rattle.gob_filled.specs.Outcome.{FilledOutcome, refused}
 use Rattle.gob_filled.specs.Stream.{FilledItem, FilledStream}
 use Rattle.gob_go.specs.Calls.Session.{FinishAnswers, HasRead, IsBetweenItems, StepAnswers, limits_of, types_of}
-use Rattle.gob_go.specs.Machine.HasRead.{stands_after}
 use Rattle.gob_go.specs.Machine.SessionState.{SessionState}
 use Rattle.gob_go.specs.Machine.Stages.{AdvancesOver, over_some, over_item}
 use Rattle.gob_go.specs.declared.item.GoItem.{GoItem}
-use Rattle.gob_go.proofs.FeedSteps.{StepsOver, rest_of}
+use Rattle.gob_go.proofs.SessionSteps.{usable}
+use Rattle.gob_stream.proofs.Reader.FeedingSteps.{rest_of}
 use Rattle.gob_go.proofs.FinishSteps.{count_begins_here, nothing_expects}
 use Rattle.gob_go.proofs.SessionAnswers.{table_between}
 use Rattle.gob_go.proofs.WholeSteps.{between_at}
@@ -54,13 +54,21 @@ take_start {s = s} piece = record {
   read = λ items bytes a. subst (λ (b : List ℕ). HasRead s items b) (sym (append-nil bytes)) a;
 }
 
+-- a step over the front of a piece
+pub record StepsOver (s s' : SessionState) (piece : List ℕ) (used : ℕ) (item : Option GoItem) : Type 0 where
+  pub some : (0 < used) × (used ≤ length piece)
+  pub limits : limits_of s' ≡ limits_of s
+  pub between : IfSome item (λ _. IsBetweenItems s')
+  pub advances : (items : List FilledItem) (bytes : List ℕ) → HasRead s items bytes
+      → AdvancesOver true s' items bytes piece used item
+
 stands_over : {s' : SessionState} {items : List FilledItem} {bytes piece : List ℕ} {used : ℕ} {item : Option GoItem}
-    → AdvancesOver s' items bytes piece used item → item ≡ None → HasRead s' items (bytes ++ take used piece)
+    → AdvancesOver true s' items bytes piece used item → item ≡ None → HasRead s' items (bytes ++ take used piece)
 stands_over (over_some p l a) e = a
 stands_over (over_item p l m a) e = absurd (cc)
 
 gives_over : {s' : SessionState} {items : List FilledItem} {bytes piece : List ℕ} {used : ℕ} {item : Option GoItem}
-    {given : GoItem} → AdvancesOver s' items bytes piece used item → item ≡ Some given
+    {given : GoItem} → AdvancesOver true s' items bytes piece used item → item ≡ Some given
     → OneMore s' items (bytes ++ take used piece)
 gives_over (over_some p l a) e = absurd (cc)
 gives_over (over_item {i = i} p l m a) e = record { item = i; after = a }
@@ -152,7 +160,7 @@ pub new_between : {s : SessionState} → HasRead s [] [] → IsBetweenItems s
 new_between a =
     let none = none_of_none a.prefix a.under_way a.whole in
     let k = nothing_expects a.stage none in
-    between_at (stands_after a) k.is (k.begins_at ∙ omega (
+    between_at (usable a) k.is (k.begins_at ∙ omega (
       arith,
       a.taken,
       ap length a.whole,

@@ -30,13 +30,13 @@ pub(crate) fn number_at(limits: &Limits, bytes: &[u8], at: usize) -> Option<i64>
 
 /// Where bytes stand in others.
 #[derive(Clone, Copy)]
-pub(crate) struct Place {
+pub(crate) struct Span {
     pub begin: usize,
     pub end: usize,
 }
 
 /// Whether the bytes have this piece at one of the places.
-pub(crate) fn has_piece(bytes: &[u8], places: &[Place], piece: &[u8]) -> bool
+pub(crate) fn has_piece(bytes: &[u8], places: &[Span], piece: &[u8]) -> bool
     ensures { IsTrue result → StandsIn piece.now bytes.now }
 {
     for place in places {

@@ -7,7 +7,7 @@ ghost use Rattle.gob_salvage.specs.Salvage.{IsDefinedAgain, IsSalvage};
 ghost use Rattle.gob_salvage.specs.Taking.{NotesItem};
 
 use crate::again::read_again;
-use crate::frame::{Place, frame_end, has_piece, number_at};
+use crate::frame::{Span, frame_end, has_piece, number_at};
 use crate::gap::Gap;
 use crate::item::take_item;
 use crate::search::Search;
@@ -59,7 +59,7 @@ struct Keeper {
     // Those of these items that define types.
     defining: Vec<u8>,
     // Where those stand in what is kept.
-    defined: Vec<Place>,
+    defined: Vec<Span>,
     kept: Salvaged,
     // The offset of the first byte that is neither kept nor left out.
     at: usize,
@@ -137,7 +137,7 @@ impl Keeper {
                 let count = self.session.table().count();
                 let begin = self.kept.bytes.len();
                 let end = begin.saturating_add(used);
-                note_place(&mut self.defined, known, count, Place { begin, end })?;
+                note_place(&mut self.defined, known, count, Span { begin, end })?;
                 note(&mut self.defining, known, count, &piece[..used])?;
                 self.keep(piece, Passed { items: 1, used })
             }
@@ -234,10 +234,10 @@ impl Keeper {
 
 // Appends the place of the item in what is kept, where it has defined types.
 fn note_place(
-    defined: &mut Vec<Place>,
+    defined: &mut Vec<Span>,
     before: u64,
     behind: u64,
-    place: Place,
+    place: Span,
 ) -> Result<(), Memory> {
     if before < behind {
         defined.push(place)?;

@@ -7,8 +7,8 @@
 //! 07 ff 82 01 2c ..     items: kept
 //! ```
 //!
-//! [`salvage`] keeps what it can of bytes, and says in [`Gap`]s what it leaves out. [`run_salvage`] is the run of the
-//! program, and [`report`] what that tells on standard error.
+//! [`salvage`] keeps what it can of bytes, and [`salvage_all`] of an input; what they leave out is said in [`Gap`]s.
+//! [`run_salvage`] is the run of the program, and [`report`] what that tells on standard error.
 #![tactic(auto)]
 
 mod again;
@@ -24,4 +24,4 @@ mod search;
 pub use gap::Gap;
 pub use keeping::{Salvaged, salvage};
 pub use lines::report;
-pub use run::run_salvage;
+pub use run::{run_salvage, salvage_all};

@@ -1,13 +1,13 @@
 //! The run that keeps what isn't damaged of an input.
 
-ghost use Rattle.std.specs.Prelude.{◌≡◌, ℕ, ◌≤◌, List, length, Some, IfErr, IfOk, OnOk};
+ghost use Rattle.std.specs.Prelude.{◌≡◌, ℕ, ◌≤◌, List, [], length, Some, IfErr, IfOk, OnOk};
 ghost use Rattle.std.specs.Io.KnownBytes.{Consumes, IsAtEnd};
 ghost use Rattle.gob_stream.specs.Bounds.{within_trees};
 ghost use Rattle.gob_stream.specs.Calls.Ends.{failed_reads, failed_writes, reader_of, writer_of};
 ghost use Rattle.gob_stream.specs.Calls.Waiting.{waiting};
 ghost use Rattle.gob_tool.specs.Ending.{CountsOnlyWrites};
 ghost use Rattle.gob_tool.specs.Showing.{CountsReadFaults, CountsWriteFaults, IsFlushedSince};
-ghost use Rattle.gob_salvage.specs.Running.{CountsReading, SalvageAnswers, StopsReading};
+ghost use Rattle.gob_salvage.specs.Running.{CountsReading, IsOf, SalvageAnswers, StopsReading};
 
 use crate::keeping::{Salvaged, salvage};
 use gob_stream::{Input, Limits, Output, Waiting, refusal};
@@ -51,11 +51,30 @@ fn send_kept<R: Read, W: Write>(
     ensures reads { CountsReadFaults (failed_reads input.old) (failed_reads input.new) result }
     ensures writes { CountsOnlyWrites (failed_writes output.old) (failed_writes output.new) result }
 {
-    let read = read_all(alloc, input, limits.stream())?;
-    let kept = salvage(alloc, limits, read.bytes())?;
+    let kept = salvage_all(alloc, input, limits)?;
     output.send_all(&kept.bytes)?;
     *told = Some(kept);
     Ok(())
+}
+
+/// Reads all of the input, and keeps what isn't damaged of it, which is a stream. An input that is longer than a stream
+/// may be is refused, as `StreamTooLong`; no other is. It takes the input in memory, and what is kept beside it. No
+/// value may be deeper than `limits.depth()` or than 1000.
+pub fn salvage_all<R: Read>(
+    alloc: Global,
+    input: &mut Input<R>,
+    limits: Limits,
+) -> Result<Salvaged, ToolFault>
+    ensures kept { (bytes : List ℕ) → R.remaining (reader_of input.old) ≡ Some bytes
+        → IfOk result (IsOf (within_trees limits) bytes) }
+    ensures end { (bytes : List ℕ) → R.remaining (reader_of input.old) ≡ Some bytes
+        → OnOk result (R.remaining (reader_of input.new) ≡ Some []) }
+    ensures stops { (bytes : List ℕ) → R.remaining (reader_of input.old) ≡ Some bytes
+        → IfErr result (StopsReading limits.stream bytes) }
+    ensures reads { CountsReading (failed_reads input.old) (failed_reads input.new) result }
+{
+    let read = read_all(alloc, input, limits.stream())?;
+    Ok(salvage(alloc, limits, read.bytes())?)
 }
 
 // Reads all of the input, which may have so many bytes.

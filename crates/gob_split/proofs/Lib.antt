@@ -2,3 +2,4 @@ pub mod TextLaws
 pub mod NextLaws
 pub mod CutterLaws
 pub mod RunLaws
+pub mod PartLaws

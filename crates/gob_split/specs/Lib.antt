@@ -3,3 +3,4 @@ pub mod Text
 pub mod Split
 pub mod Running
 pub mod Machine
+pub mod Laws

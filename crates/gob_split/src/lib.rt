@@ -8,11 +8,13 @@
 //! A definition that stands in a value stands in an item of its own in front of it, as
 //! [`hoist_item`](gob_go_writer::hoist_item) puts it: so each part has the definitions of its values in front of them.
 //!
-//! [`run_split`] splits what a reader gives, over [`Parts`], which say where parts go.
+//! [`run_split`] splits what a reader gives, over [`Parts`], which say where parts go. That each part is a stream is a
+//! law: [`laws`].
 #![tactic(auto)]
 
 mod cutter;
 mod item_text;
+pub mod laws;
 mod next_text;
 mod part_size;
 mod parts;

@@ -1,6 +1,7 @@
 -- What a session has read after each of its steps and calls.
 pub mod FinishSteps
 pub mod FeedSteps
+pub mod FeedingSteps
 pub mod WantedSteps
 pub mod UnderWayLaws
 pub mod HasReadLaws

@@ -12,6 +12,7 @@ pub mod Devices
 pub mod Reading
 pub mod Whole
 pub mod Stepping
+pub mod Feeding
 pub mod StrictStepping
 pub mod Honest
 pub mod Laws

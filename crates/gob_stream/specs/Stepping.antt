@@ -35,6 +35,8 @@ pub record Stepping (X Item Told : Type 0) : Type 1 where
   pub told : StreamItem → Told
   -- these are the types to which the bytes lead behind the items, up to a fault
   pub leads : Bounds → List ℕ → List Told → Table → Type 0
+  -- what a step over the piece answers, in its own words
+  pub steps : X → X → List ℕ → Result (Step Item) Fault → Type 0
 
 -- the items of what a step gave
 pub data GivesItemsOf {Item Told : Type 0} (means : Item → Told → Type 0) : Option Item → List Told → Type 0 where

@@ -2,6 +2,7 @@
 
 use crate::count::{CountStage, refusal};
 use crate::fault::Fault;
+use crate::feeding::feed;
 use crate::item::Item;
 use crate::limits::Limits;
 use crate::stage::{Around, Extent, Stage};
@@ -119,27 +120,7 @@ impl<B: Builder> Session<B> {
             → (result ≡ Err Fault.Failed) × StaysAsItWas self.old self.new × (out.new ≡ out.old) }
         ensures limits { limits_of self.new ≡ limits_of self.old }
     {
-        if self.has_failed() {
-            return Err(Fault::Failed);
-        }
-        let mut used = 0;
-        'steps: for _ in 0..piece.len() {
-            if used == piece.len() {
-                return Ok(());
-            }
-            match self.step(alloc, &piece[used..]) {
-                Ok(step) => {
-                    used += step.used;
-                    if let Some(item) = step.item {
-                        if let Err(fault) = self.push_item(item, out) {
-                            return Err(fault);
-                        }
-                    }
-                }
-                Err(fault) => return Err(fault),
-            }
-        }
-        Ok(())
+        feed(self, alloc, piece, out)
     }
 
     /// Takes some bytes from the front of the piece, one at least where it has any, and none behind the end of an item.
@@ -227,24 +208,6 @@ impl<B: Builder> Session<B> {
         ensures { result ≡ limits_of self.now }
     {
         self.limits
-    }
-
-    // Appends an item. Without memory for it nothing more is read.
-    fn push_item(&mut self, item: Item<B::Out>, out: &mut Vec<Item<B::Out>>) -> Result<(), Fault>
-        ensures given { OnOk result (out.new.items ≡ out.old.items ++ item ∷ []) }
-        ensures kept { OnOk result (self.new ≡ self.old) }
-        ensures memory { IfErr result (λ fault. fault ≡ Fault.Memory) }
-        ensures as_before { OnErr result (out.new.items ≡ out.old.items) }
-        ensures failed { OnErr result (HasFailed self.new) }
-        ensures types { table_of self.new ≡ table_of self.old }
-        ensures taken { taken_of self.new ≡ taken_of self.old }
-        ensures limits { limits_of self.new ≡ limits_of self.old }
-    {
-        if out.push(item).is_err() {
-            self.fail();
-            return Err(Fault::Memory);
-        }
-        Ok(())
     }
 
     /// Whether there was a fault. If not, it has read some bytes.

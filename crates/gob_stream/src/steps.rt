@@ -47,6 +47,7 @@ pub trait Steps: Drop {
         ensures stepped { (items : List Told) (bytes : List ℕ) (h : stepping.read self.old items bytes)
             → StepAnswersBy stepping (stepping.behind self.old items bytes h) self.old self.new items bytes piece.now
             result }
+        ensures answers { stepping.steps self.old self.new piece.now result }
         ensures shown { (items : List Told) (bytes : List ℕ) → stepping.read self.old items bytes
             → OfRefusal (λ refusal. length bytes < refusal.seen) result }
         ensures used { IfOk result (λ step. (0 < length piece.now → 0 < step.used) × (step.used ≤ length piece.now)) }
@@ -119,6 +120,7 @@ pub trait Steps: Drop {
         ensures given { GivesAllBy stepping self.old }
         ensures failed { stepping.failed self.new }
         ensures types { stepping.table self.new ≡ stepping.table self.old }
+        ensures taken { stepping.taken self.new ≡ stepping.taken self.old }
         ensures limits { stepping.limits self.new ≡ stepping.limits self.old };
 
     /// The types of the stream so far.

@@ -2,7 +2,7 @@
 use Rattle.std.proofs.Common.{Some, ◌≡◌, ℕ, arith, List, [], ◌∷◌, ◌++◌, Option}
 use Rattle.std.proofs.Common.{ap, append_assoc, Result, Ok, Err, ◌∙◌, sym, subst, refl, append-nil, inl, inr}
 use Rattle.std.specs.Io.KnownBytes.{Appends, Keeps}
-use Rattle.std.proofs.KnownBytes.{Appends-kept}
+use Rattle.std.proofs.KnownBytes.{Appends-kept, Appends-trans}
 use Rattle.gob_types.specs.Base.{base_table}
 use Rattle.gob_types.specs.Ready.{IsReady}
 use Rattle.gob_types.specs.Table.{Table}
@@ -20,7 +20,7 @@ use Rattle.gob_stream.specs.Body.{value as of_value}
 use Rattle.gob_stream.specs.Bounds.{Bounds, within_trees}
 use Rattle.gob_stream.specs.Calls.Session.{limits_of, types_of}
 use Rattle.gob_stream.specs.Item.{StreamItem, defines, mean_more, mean_none, means_definition, means_value, puts}
-use Rattle.gob_stream.specs.Stream.{counted, IsItem, Stream}
+use Rattle.gob_stream.specs.Stream.{counted, IsItem, no_more, Stream}
 use Rattle.gob_stream.specs.declared.item.Item as declared
 use Rattle.gob_stream.specs.declared.item.Item.TheVariants as variant
 use Rattle.gob_stream.proofs.PublicLaws.{views_meant}
@@ -32,18 +32,21 @@ use Rattle.gob_tool.specs.declared.receiver.LastMatch.{LastMatch}
 use Rattle.gob_stream.specs.Item.{ItemMeans}
 use Rattle.gob_stream.specs.Outcome.{BeginsWithStream, strict}
 use Rattle.gob_stream.specs.declared.session.Step.{Step}
-use Rattle.gob_tool.specs.Texts.{AnswersOrStops, answers, stops_at, HaveTexts, no_texts, texts_then, OfTexts}
+use Rattle.gob_tool.specs.Texts.{answers, stops_at, HaveTexts, no_texts, texts_then, OfTexts}
 use Rattle.gob_tool.specs.Texts.{from_item, from_value}
 use Rattle.gob_tool.proofs.ShowLaws.{begins_first, meant, same_behind}
 use Rattle.gob_tool.proofs.TextLaws.{begun, ended_begins, runs_as, runs_begun}
 use Rattle.gob_tool.specs.Ending.{CountsOnlyWrites, EndsRun, ends_so, flush_fails}
-use Rattle.gob_tool.specs.Line.{line}
-use Rattle.gob_tool.specs.Taking.{AreReceived, clashes, CountsTakeReads, HasTakenItems, no_item, Receiving, receives}
-use Rattle.gob_tool.specs.Taking.{stops_at_wanted, TakeAnswers, takes_behind as received_behind}
-use Rattle.gob_tool.specs.Taking.{value as received_value}
+use Rattle.gob_tool.specs.Converting.{in_front}
+use Rattle.gob_tool.specs.Taking.{clashes, CountsTakeReads, first_type, Receiving, receives}
+use Rattle.gob_tool.specs.Taking.{stops_at_wanted, takes_behind as received_behind}
+use Rattle.gob_tool.specs.Machine.Received.{AreReceivedIn, AreSpelled, FormAnswers, HasIn, no_item, Says, text_in_front}
+use Rattle.gob_tool.specs.Machine.Received.{value as received_value}
+use Rattle.gob_tool.specs.declared.received_form.ReceivedForm.{ReceivedForm}
+use Rattle.gob_tool.specs.declared.received_form.ReceivedForm.TheVariants as form
 use Rattle.gob_tool.specs.Machine.Lines.{Trees}
-use Rattle.gob_tool.specs.Machine.Receiver.{Clashes, clashes_with, IsClash, IsReceived, KeepsKnown}
-use Rattle.gob_tool.specs.Machine.Receiver.{ReceivesNone, StaysKnown}
+use Rattle.gob_tool.specs.Machine.Receiver.{Clashes, clashes_with, IsReceived, KeepsKnown}
+use Rattle.gob_tool.specs.Machine.Receiver.{ReceivesNone, StaysKnown, TextsOrClash}
 use Rattle.gob_tool.specs.Showing.{AppendsPrefix, CountsReadFaults}
 use Rattle.gob_tool.specs.Machine.Counting.{CountsCounting}
 use Rattle.gob_tool.specs.Machine.Taken.{AreSent, defined, sent, views_given}
@@ -54,7 +57,8 @@ use Rattle.gob_tool.specs.Machine.Texts.{HasReadSome}
 use Rattle.gob_stream.specs.Calls.ReaderOf.{StepsOnBy}
 use Rattle.gob_stream.specs.Stepping.{StandsBy}
 use Rattle.gob_stream.specs.StrictStepping.{strict_stepping}
-use Rattle.gob_tool.proofs.ReceivedLaws.{received_append, received_on, stream_sent}
+use Rattle.gob_tool.proofs.ConvertLaws.{has_converted}
+use Rattle.gob_tool.proofs.ReceivedLaws.{lines_received, received_append, received_on, stream_sent}
 
 -- ---- what a step gave
 pub given_views : {o : Option (declared.Item Value)} {more : List StreamItem} → GivesItems tree_building.means o more
@@ -67,7 +71,7 @@ sent_behind : {T : Table} {others : List StreamItem} (items : List StreamItem) �
     → AreSent T others
 sent_behind [] s = s
 sent_behind (defines id v ∷ items) (defined s) = sent_behind items s
-sent_behind (puts id v ∷ items) (sent r f s) = sent_behind items s
+sent_behind (puts id v ∷ items) (sent r n f s) = sent_behind items s
 
 -- where no type is defined the match that is kept is one of the types behind it
 stays_known : {L : Bounds} {bytes : List ℕ} {o : Option (declared.Item Value)} {items more : List StreamItem}
@@ -127,107 +131,177 @@ module _ {r r' : Trees} {step : Step (declared.Item Value)} (so : HasReadSome (s
       (subst (λ T. StaysKnown T U u kept step.item) behind.1
       (stays_known c.0 behind.0 U u kept st.gives (subst (λ T. KeepsKnown T U u kept) (sym c.1) h)))
 
--- ---- the texts of items are the lines of what is received of them
-received_one : {T U : Table} {u : TypeId} {i : StreamItem} {text : List ℕ} → IsReceived U u T i text
-    → AreReceived T U u (i ∷ []) text
-received_one {T = T} {U = U} {u = u} {text = text} (from_item m h) =
-    subst (λ i. AreReceived T U u (i ∷ []) text) (meant m) h
+-- ---- the texts of items are those of what is received of them
+received_one : {how : ReceivedForm} {T U : Table} {u : TypeId} {i : StreamItem} {text : List ℕ}
+    → IsReceived how U u T i text → AreReceivedIn how T U u (i ∷ []) text
+received_one {how = how} {T = T} {U = U} {u = u} {text = text} (from_item m h) =
+    subst (λ i. AreReceivedIn how T U u (i ∷ []) text) (meant m) h
 received_one (from_value h) = h
 
-module _ {U : Table} {u : TypeId} (wanted : IsReady U u) {L : Bounds} {bytes : List ℕ} where
+-- bytes went out in front of a prefix
+prefix_behind : (old mid new : Option (List ℕ)) (x y : List ℕ) → Appends old mid x → AppendsPrefix mid new y
+    → AppendsPrefix old new (x ++ y)
+prefix_behind old mid new x y a p = record {
+  prefix = x ++ p.prefix;
+  rest = p.rest;
+  whole = ap (λ l. x ++ l) p.whole ∙ sym (append_assoc x p.prefix p.rest);
+  out = Appends-trans old mid new x p.prefix a p.out;
+}
+
+-- what is known of the wanted stream: its items, and the spelling of the definitions in front of the wanted type
+pub record KnowsWanted (L : Bounds) (U : Table) (u : TypeId) (definitions : List ℕ) (given : List StreamItem) : Type
+    0 where
+  pub bytes : List ℕ
+  pub stream : Stream base_table L given bytes U
+  pub first : first_type given ≡ Some u
+  pub front : AreSpelled (in_front given) definitions
+
+module _ (how : ReceivedForm) {U : Table} {u : TypeId} (wanted : IsReady U u) {L : Bounds} {bytes definitions : List ℕ}
+    {given : List StreamItem} (knows : KnowsWanted L U u definitions given) where
   -- by the types behind all of them
-  all_received : {items : List StreamItem} {text : List ℕ} → HaveTexts strict (IsReceived U u) L bytes items text
-      → (b : BeginsWithStream base_table L bytes items) → AreReceived b.table U u items text
+  all_received : {items : List StreamItem} {text : List ℕ} → HaveTexts strict (IsReceived how U u) L bytes items text
+      → (b : BeginsWithStream base_table L bytes items) → AreReceivedIn how b.table U u items text
   all_received no_texts b = no_item
   all_received (texts_then {items = items} i more h c m) b =
       let t = begins_first items (i ∷ []) b in
       received_append (received_on wanted t.0.stream t.1 (all_received h t.0))
-      (subst (λ T. AreReceived T U u (i ∷ []) more) (same_behind c b) (received_one m))
+      (subst (λ T. AreReceivedIn how T U u (i ∷ []) more) (same_behind c b) (received_one m))
 
-  has_taken : {items : List StreamItem} {P : List ℕ → Type 0} (b : BeginsWithStream base_table L bytes items)
-      → OfTexts strict (IsReceived U u) L bytes P items → HasTakenItems b.table U u items P
-  has_taken b o = record { lines = o.text; received = all_received o.texts b; holds = o.holds }
+  -- and what stands in front of them
+  has_written : {T : Table} {items : List StreamItem} {text : List ℕ} (P : List ℕ → Type 0)
+      → BeginsWithStream base_table L bytes items → AreReceivedIn how T U u items text
+      → P (text_in_front how definitions ++ text) → HasIn how L given U u P T items
+  has_written P b r p = in_form how P b r p
+    where
+      in_form : (how : ReceivedForm) {T : Table} {items : List StreamItem} {text : List ℕ} (P : List ℕ → Type 0)
+          → BeginsWithStream base_table L bytes items → AreReceivedIn how T U u items text
+          → P (text_in_front how definitions ++ text) → HasIn how L given U u P T items
+      in_form form.Line {text = text} P b r p = record { lines = text; received = lines_received r; holds = p }
+      in_form form.Item P b r p = has_converted {P = P} knows.stream knows.first knows.front b r p
 
-  clash_behind : {now : Option (List ℕ)} {P C : List ℕ → Type 0} {i : StreamItem} {given : declared.Item Value}
-      {f : ToolFault} (items : List StreamItem) (b : BeginsWithStream base_table L bytes (items ++ i ∷ []))
-      → OfTexts strict (IsReceived U u) L bytes P items → ItemMeans tree_building.means given i
-      → Clashes U u b.table given f → Receiving L bytes now U u P C (Err f)
-  clash_behind items b o means_definition x = elim x [ ]
-  clash_behind items b o (means_value m) (clashes_with c) =
-      let t = begins_first items _ b in
-      clashes (record {
-        items = items;
-        id = _;
-        value = _;
+  module _ (now old mid new : Option (List ℕ)) (front : Appends old mid (text_in_front how definitions)) where
+    all_written : {T : Table} (items : List StreamItem) (b : BeginsWithStream base_table L bytes items)
+        → (o : OfTexts strict (IsReceived how U u) L bytes (Appends mid new) items)
+        → AreReceivedIn how T U u items o.text → HasIn how L given U u (Appends old new) T items
+    all_written items b o r = has_written (Appends old new) b r
+        (Appends-trans old mid new (text_in_front how definitions) o.text front o.holds)
+
+    prefix_written : (items : List StreamItem) (b : BeginsWithStream base_table L bytes items)
+        → OfTexts strict (IsReceived how U u) L bytes (AppendsPrefix mid new) items
+        → HasIn how L given U u (AppendsPrefix old new) b.table items
+    prefix_written items b o =
+        has_written (AppendsPrefix old new) b (all_received o.texts b)
+        (prefix_behind old mid new (text_in_front how definitions) o.text front o.holds)
+
+    clash_behind : {i : StreamItem} {item : declared.Item Value} {f : ToolFault} (items : List StreamItem)
+        (b : BeginsWithStream base_table L bytes (items ++ i ∷ []))
+        → OfTexts strict (IsReceived how U u) L bytes (Appends mid new) items → ItemMeans tree_building.means item i
+        → Clashes U u b.table item f
+        → Receiving L bytes now U u (HasIn how L given U u (Appends old new))
+        (HasIn how L given U u (AppendsPrefix old new)) (Err f)
+    clash_behind items b o means_definition x = elim x [ ]
+    clash_behind items b o (means_value m) (clashes_with c) =
+        let t = begins_first items _ b in
+        clashes (record {
+          items = items;
+          id = _;
+          value = _;
+          begins = b;
+          received = all_written items t.0 o (received_on wanted t.0.stream t.1 (all_received o.texts t.0));
+          clash = c;
+        })
+
+    pub received_so : {r : Result (Unit {0}) ToolFault} → TextsOrClash how U u L bytes now mid new r
+        → Receiving L bytes now U u (HasIn how L given U u (Appends old new))
+        (HasIn how L given U u (AppendsPrefix old new)) r
+    received_so {r = r} (answers h) =
+        receives (runs_begun strict L bytes now
+        (λ T items. OfTexts strict (IsReceived how U u) L bytes (Appends mid new) items)
+        (HasIn how L given U u (Appends old new))
+        (λ T items. OfTexts strict (IsReceived how U u) L bytes (AppendsPrefix mid new) items)
+        (HasIn how L given U u (AppendsPrefix old new)) r h
+        (λ T items b o. all_written items b o (all_received o.texts b))
+        (λ T items b o. prefix_written items b o))
+    received_so (stops_at items i b o stop) = clash_behind items b o stop.means stop.stops
+
+  -- where what stands in front of them can't go out
+  pub none_received : {now old new : Option (List ℕ)} → AppendsPrefix old new (text_in_front how definitions)
+      → Receiving L bytes now U u (HasIn how L given U u (Appends old new))
+      (HasIn how L given U u (AppendsPrefix old new)) (Err fault.Write)
+  none_received {old = old} {new = new} p =
+      let b : BeginsWithStream base_table L bytes [] =
+      record { prefix = []; rest = bytes; table = base_table; stream = no_more; whole = refl } in
+      receives (record {
+        items = [];
         begins = b;
-        received = record {
-          lines = o.text;
-          received = received_on wanted t.0.stream t.1 (all_received o.texts t.0);
-          holds = o.holds;
-        };
-        clash = c;
+        holds = has_written (AppendsPrefix old new) b no_item
+            (subst (AppendsPrefix old new) (sym (append-nil (text_in_front how definitions))) p);
       })
 
-  pub receiving_so : {now old new : Option (List ℕ)} {r : Result (Unit {0}) ToolFault}
-      → AnswersOrStops strict (IsReceived U u) (IsClash U u) L bytes now old new r
-      → Receiving L bytes now U u (Appends old new) (AppendsPrefix old new) r
-  receiving_so {now = now} {old = old} {new = new} {r = r} (answers h) =
-      receives (runs_begun strict L bytes now
-      (λ T items. OfTexts strict (IsReceived U u) L bytes (Appends old new) items)
-      (λ T items. HasTakenItems T U u items (Appends old new))
-      (λ T items. OfTexts strict (IsReceived U u) L bytes (AppendsPrefix old new) items)
-      (λ T items. HasTakenItems T U u items (AppendsPrefix old new)) r h (λ T items b o. has_taken b o)
-      (λ T items b o. has_taken b o))
-  receiving_so (stops_at items i b o stop) = clash_behind items b o stop.means stop.stops
-
 -- ---- behind the flush
-taken_as : {T U : Table} {u : TypeId} {items : List StreamItem} {P Q : List ℕ → Type 0} → HasTakenItems T U u items P
-    → ((b : List ℕ) → P b → Q b) → HasTakenItems T U u items Q
-taken_as t f = record { lines = t.lines; received = t.received; holds = f _ t.holds }
+has_as : (how : ReceivedForm) (L : Bounds) (given : List StreamItem) (U : Table) (u : TypeId)
+    (P Q : List ℕ → Type 0) → ((b : List ℕ) → P b → Q b) → (T : Table) (items : List StreamItem)
+    → HasIn how L given U u P T items → HasIn how L given U u Q T items
+has_as form.Line L given U u P Q f T items h = record { lines = h.lines; received = h.received; holds = f _ h.holds }
+has_as form.Item L given U u P Q f T items h = record {
+  received = h.received;
+  are = h.are;
+  bytes = h.bytes;
+  table = h.table;
+  stream = h.stream;
+  holds = f _ h.holds;
+}
 
-receiving_as : {L : Bounds} {bytes : List ℕ} {now : Option (List ℕ)} {U : Table} {u : TypeId}
-    {P Q C D : List ℕ → Type 0} {r : Result (Unit {0}) ToolFault} → Receiving L bytes now U u P C r
-    → ((all : List ℕ) → P all → Q all) → ((all : List ℕ) → C all → D all) → Receiving L bytes now U u Q D r
-receiving_as {L = L} {bytes = bytes} {now = now} {U = U} {u = u} {P = P} {Q = Q} {C = C} {D = D} {r = r} (receives h) f
-    g =
-    receives (runs_as strict L bytes now (λ T items. HasTakenItems T U u items P)
-    (λ T items. HasTakenItems T U u items Q) (λ T items. HasTakenItems T U u items C)
-    (λ T items. HasTakenItems T U u items D) r h (λ T items t. taken_as t f) (λ T items t. taken_as t g))
-receiving_as (clashes c) f g = clashes (record {
-  items = c.items;
-  id = c.id;
-  value = c.value;
-  begins = c.begins;
-  received = taken_as c.received f;
-  clash = c.clash;
-})
+-- what is received by the items of the wanted stream, its types and the wanted one
+abbrev Behind : ReceivedForm → Bounds → (bytes : List ℕ) → (now old new : Option (List ℕ)) → (given : List StreamItem)
+    → Table → TypeId → Result (Unit {0}) ToolFault → Type 0
+Behind how L bytes now old new given U u result = Receiving L bytes now U u (HasIn how L given U u (Appends old new))
+    (HasIn how L given U u (AppendsPrefix old new)) result
 
-pub takes_ended : (L : Bounds) (wanted bytes : List ℕ) (wanted_now now old mid new : Option (List ℕ))
-    (answer result : Result (Unit {0}) ToolFault) → Keeps mid new → EndsRun answer result
-    → TakeAnswers L wanted bytes wanted_now now old mid answer
-    → TakeAnswers L wanted bytes wanted_now now old new result
-takes_ended L wanted bytes wanted_now now old mid new answer result k ends h = at ends h
+module _ (how : ReceivedForm) (L : Bounds) (bytes : List ℕ) (now old mid new : Option (List ℕ)) (k : Keeps mid new)
+    (given : List StreamItem) (U : Table) (u : TypeId) where
+  kept_behind : {r : Result (Unit {0}) ToolFault} → Behind how L bytes now old mid given U u r
+      → Behind how L bytes now old new given U u r
+  kept_behind {r = r} (receives h) =
+      let whole = has_as how L given U u (Appends old mid) (Appends old new)
+      (λ all a. Appends-kept old mid new all a k) in
+      let prefix = has_as how L given U u (AppendsPrefix old mid) (AppendsPrefix old new)
+      (λ all a. prefix_kept old mid new all a k) in
+      receives (runs_as strict L bytes now (HasIn how L given U u (Appends old mid))
+      (HasIn how L given U u (Appends old new)) (HasIn how L given U u (AppendsPrefix old mid))
+      (HasIn how L given U u (AppendsPrefix old new)) r h whole prefix)
+  kept_behind (clashes c) = clashes (record {
+    items = c.items;
+    id = c.id;
+    value = c.value;
+    begins = c.begins;
+    received = has_as how L given U u (Appends old mid) (Appends old new) (λ all a. Appends-kept old mid new all a k)
+        c.begins.table c.items c.received;
+    clash = c.clash;
+  })
+
+  cut : Behind how L bytes now old mid given U u (Ok tt) → Behind how L bytes now old new given U u (Err fault.Write)
+  cut (receives w) = receives (ended_begins strict w (has_as how L given U u (Appends old mid) (AppendsPrefix old new)
+      (λ all a. all_kept old mid new all a k)))
+
+  flushed : {answer result : Result (Unit {0}) ToolFault} → EndsRun answer result
+      → Behind how L bytes now old mid given U u answer → Behind how L bytes now old new given U u result
+  flushed (ends_so e) h = subst (λ r. Behind how L bytes now old new given U u r) (sym e) (kept_behind h)
+  flushed (flush_fails o e) h =
+      subst (λ r. Behind how L bytes now old new given U u r) (sym e)
+      (cut (subst (λ r. Behind how L bytes now old mid given U u r) o h))
+
+pub takes_ended : (how : ReceivedForm) (L : Bounds) (wanted bytes : List ℕ)
+    (wanted_now now old mid new : Option (List ℕ)) (answer result : Result (Unit {0}) ToolFault) → Keeps mid new
+    → EndsRun answer result → FormAnswers how L wanted bytes wanted_now now old mid answer
+    → FormAnswers how L wanted bytes wanted_now now old new result
+takes_ended how L wanted bytes wanted_now now old mid new answer result k ends h = at ends h
   where
-    flushed : {U : Table} {u : TypeId} {answer result : Result (Unit {0}) ToolFault} → EndsRun answer result
-        → Receiving L bytes now U u (Appends old mid) (AppendsPrefix old mid) answer
-        → Receiving L bytes now U u (Appends old new) (AppendsPrefix old new) result
-    flushed {U = U} {u = u} (ends_so e) h =
-        subst (λ r. Receiving L bytes now U u (Appends old new) (AppendsPrefix old new) r) (sym e)
-        (receiving_as h (λ all a. Appends-kept old mid new all a k) (λ all a. prefix_kept old mid new all a k))
-    flushed {U = U} {u = u} (flush_fails o e) h =
-        subst (λ r. Receiving L bytes now U u (Appends old new) (AppendsPrefix old new) r) (sym e)
-        (cut (subst (λ r. Receiving L bytes now U u (Appends old mid) (AppendsPrefix old mid) r) o h))
-      where
-        cut : Receiving L bytes now U u (Appends old mid) (AppendsPrefix old mid) (Ok tt)
-            → Receiving L bytes now U u (Appends old new) (AppendsPrefix old new) (Err fault.Write)
-        cut (receives w) = receives (ended_begins strict w (λ T items t.
-            taken_as t (λ all a. all_kept old mid new all a k)))
-
     at : {answer result : Result (Unit {0}) ToolFault} → EndsRun answer result
-        → TakeAnswers L wanted bytes wanted_now now old mid answer → TakeAnswers L wanted bytes wanted_now now old new
-        result
+        → FormAnswers how L wanted bytes wanted_now now old mid answer
+        → FormAnswers how L wanted bytes wanted_now now old new result
     at (ends_so e) (stops_at_wanted lacks untouched) =
-        subst (λ r. TakeAnswers L wanted bytes wanted_now now old new r) (sym e) (stops_at_wanted lacks (record {
+        subst (λ r. FormAnswers how L wanted bytes wanted_now now old new r) (sym e) (stops_at_wanted lacks (record {
           unread = untouched.unread;
           unwritten = Appends-kept old mid new [] untouched.unwritten k;
         }))
@@ -239,7 +313,7 @@ takes_ended L wanted bytes wanted_now now old mid new answer result k ends h = a
       end = h.end;
       id = h.id;
       first = h.first;
-      holds = flushed ends h.holds;
+      holds = flushed how L bytes now old mid new k h.items h.table h.id ends h.holds;
     })
 
 -- ---- at the wanted type of a receiver that is this one
@@ -293,18 +367,17 @@ wanted_unwritten wanted wanted' out fault.Memory h = refl
 
 -- ---- an item
 pub sent_ready : {T : Table} {t : TypeId} {v : Tree} → AreSent T (puts t v ∷ []) → IsReady T t
-sent_ready (sent r f s) = r
+sent_ready (sent r n f s) = r
 
 pub sent_fits : {T : Table} {t : TypeId} {v : Tree} → AreSent T (puts t v ∷ []) → FitsWithin T t 1000 v
-sent_fits (sent r f s) = f
+sent_fits (sent r n f s) = f
 
 pub clash_given : (T U : Table) (t u : TypeId) (value : Value) (e : MatchFault) → IsMatchFault T U t u e
     → ReceivesNone U u T (variant.Put t value) e
 clash_given T U t u value (matching.Clash path reason) h = clashes_with h
 clash_given T U t u value matching.Memory h = tt
 
-pub value_received : {T U : Table} {u : TypeId} {text : List ℕ} (id : TypeId) (v w : Tree) → Match T U id u
-    → Receives T U id u v w → text ≡ line U (puts u w) → AreReceived T U u (puts id v ∷ []) text
-value_received {T = T} {U = U} {u = u} id v w m r is =
-    subst (λ l. AreReceived T U u (puts id v ∷ []) l) (append-nil (line U (puts u w)) ∙ sym is)
-    (received_value m r no_item)
+pub value_received : {how : ReceivedForm} {T U : Table} {u : TypeId} {text : List ℕ} (id : TypeId) (v w : Tree)
+    → Match T U id u → Receives T U id u v w → Says how U u w text → AreReceivedIn how T U u (puts id v ∷ []) text
+value_received {how = how} {T = T} {U = U} {u = u} {text = text} id v w m r is =
+    subst (λ l. AreReceivedIn how T U u (puts id v ∷ []) l) (append-nil text) (received_value text m r is no_item)

@@ -158,7 +158,7 @@ pub form_shallow : {T : Table} {t : TypeId} {limit : ℕ} {w : Tree} → limit �
     → FitsWithin T t greatest_depth w
 form_shallow less f = record { bytes = f.bytes; spelled = f.spelled; within = omega (arith, f.within, less) }
 
-numbered_as : {m n : ℤ} {b c text : List ℕ} → m ≡ n → c ≡ b → IsNumbered m c text → IsNumbered n b text
+pub numbered_as : {m n : ℤ} {b c text : List ℕ} → m ≡ n → c ≡ b → IsNumbered m c text → IsNumbered n b text
 numbered_as {m = m} {b = b} {text = text} same is h = subst (λ (n : ℤ). IsNumbered n b text) same
     (subst (λ (c : List ℕ). IsNumbered m c text) is h)
 

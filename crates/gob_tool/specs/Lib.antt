@@ -4,6 +4,7 @@ pub mod Ending
 pub mod Fault
 pub mod Showing
 pub mod Taking
+pub mod Converting
 pub mod Checking
 pub mod Rewriting
 pub mod Running

@@ -5,5 +5,6 @@ pub mod Texts
 pub mod Counting
 pub mod Rewritten
 pub mod Taken
+pub mod Received
 pub mod FormsGo
 pub mod LinesGo

@@ -8,6 +8,7 @@ use Rattle.gob_words.specs.declared.words.Order.{Order}
 use Rattle.gob_tool.specs.Checking.{CheckAnswers}
 use Rattle.gob_tool.specs.Rewriting.{RewriteAnswers}
 use Rattle.gob_tool.specs.Showing.{ShowAnswers}
+use Rattle.gob_tool.specs.Converting.{ConvertAnswers}
 use Rattle.gob_tool.specs.Taking.{TakeAnswers}
 
 -- the limits under which the streams are read
@@ -22,3 +23,5 @@ OrderAnswers chosen.Check L wanted bytes wanted_now now old new result = CheckAn
 OrderAnswers chosen.Rewrite L wanted bytes wanted_now now old new result = RewriteAnswers L bytes now old new result
 OrderAnswers chosen.Take L wanted bytes wanted_now now old new result = TakeAnswers L wanted bytes wanted_now now old
     new result
+OrderAnswers chosen.Convert L wanted bytes wanted_now now old new result = ConvertAnswers L wanted bytes wanted_now now
+    old new result

@@ -30,16 +30,17 @@ first_type [] = None
 first_type (defines id described ∷ items) = first_type items
 first_type (puts id value ∷ items) = Some id
 
--- the bytes are a stream, all of them were read, and this holds of the types behind it and of the type of its first
--- value
-pub record HasWanted (L : Bounds) (bytes : List ℕ) (now : Option (List ℕ)) (P : Table → TypeId → Type 0) : Type 0 where
+-- the bytes are a stream, all of them were read, and this holds of its items, of the types behind it and of the type of
+-- its first value
+pub record HasWanted (L : Bounds) (bytes : List ℕ) (now : Option (List ℕ))
+    (P : List StreamItem → Table → TypeId → Type 0) : Type 0 where
   pub items : List StreamItem
   pub table : Table
   pub stream : Stream base_table L items bytes table
   pub end : now ≡ Some []
   pub id : TypeId
   pub first : first_type items ≡ Some id
-  pub holds : P table id
+  pub holds : P items table id
 
 -- T has the types of the stream, and u is the wanted type, one of U: each value among the items is of a type that
 -- matches it, and these are the lines of what is received of them
@@ -58,23 +59,23 @@ pub record HasTakenItems (T U : Table) (u : TypeId) (items : List StreamItem) (P
   pub holds : P lines
 
 -- the bytes begin with the stream of some items and of a value whose type clashes with the wanted one, on this path
--- of the fewest steps and for this reason, and this holds of the lines of the items before it
+-- of the fewest steps and for this reason, and this holds of the items before it
 pub record ClashesBehind (L : Bounds) (bytes : List ℕ) (U : Table) (u : TypeId) (path : List TypeStep)
-    (reason : ClashReason) (P : List ℕ → Type 0) : Type 0 where
+    (reason : ClashReason) (P : Table → List StreamItem → Type 0) : Type 0 where
   pub items : List StreamItem
   pub id : TypeId
   pub value : Tree
   pub begins : BeginsWithStream base_table L bytes (items ++ puts id value ∷ [])
-  pub received : HasTakenItems begins.table U u items P
+  pub received : P begins.table items
   pub clash : IsLeastClash begins.table U id u path reason
 
 -- how the part of the run behind the wanted stream ends, over an input with these bytes left, where `Whole` holds of
--- the lines that were to go out, or `Cut` after a failed write: as any run, or at a value whose type clashes
+-- the items if all went out that was to be written of them, or `Cut` after a failed write: as any run, or at a value
+-- whose type clashes
 pub data Receiving (L : Bounds) (bytes : List ℕ) (now : Option (List ℕ)) (U : Table) (u : TypeId)
-    (Whole Cut : List ℕ → Type 0) : Result (Unit {0}) ToolFault → Type 0 where
-  receives : {r : Result (Unit {0}) ToolFault}
-      → RunAnswersIn strict L bytes now (λ T items. HasTakenItems T U u items Whole)
-      (λ T items. HasTakenItems T U u items Cut) r → Receiving L bytes now U u Whole Cut r
+    (Whole Cut : Table → List StreamItem → Type 0) : Result (Unit {0}) ToolFault → Type 0 where
+  receives : {r : Result (Unit {0}) ToolFault} → RunAnswersIn strict L bytes now Whole Cut r
+      → Receiving L bytes now U u Whole Cut r
   clashes : {path : Vec TypeStep Global} {reason : ClashReason} → ClashesBehind L bytes U u path.items reason Whole
       → Receiving L bytes now U u Whole Cut (Err (fault.Clash path reason))
 
@@ -95,16 +96,26 @@ LacksWanted L bytes now (fault.Refused R) = ⊥
 LacksWanted L bytes now (fault.Clash path reason) = ⊥
 LacksWanted L bytes now fault.Write = ⊥
 
--- how the run ends, over a wanted stream and an input with these bytes left, and an output with the old bytes: the
--- wanted stream has no wanted type, and nothing else is done; or the lines of what is received went out, and nothing
--- else, or after a failed write a prefix of them
-pub data TakeAnswers (L : Bounds) (wanted bytes : List ℕ) (wanted_now now old new : Option (List ℕ)) : Result (Unit {0})
-    ToolFault → Type 0 where
+-- how a run that receives values ends, over a wanted stream and an input with these bytes left, and an output with the
+-- old bytes: the wanted stream has no wanted type, and nothing else is done; or what is written of the values that are
+-- received went out, and nothing else, or after a failed write a prefix of it. `Has` says what is written: for the
+-- items of the wanted stream, its types and the wanted one, a property of the bytes, the types of the input and its
+-- items.
+pub data WantedAnswers (Has : List StreamItem → Table → TypeId → (List ℕ → Type 0) → Table → List StreamItem → Type 0)
+    (L : Bounds) (wanted bytes : List ℕ) (wanted_now now old new : Option (List ℕ)) : Result (Unit {0}) ToolFault → Type
+    0 where
   stops_at_wanted : {f : ToolFault} → LacksWanted L wanted wanted_now f → Untouched bytes now old new
-      → TakeAnswers L wanted bytes wanted_now now old new (Err f)
+      → WantedAnswers Has L wanted bytes wanted_now now old new (Err f)
   takes_behind : {r : Result (Unit {0}) ToolFault}
-      → HasWanted L wanted wanted_now (λ U u. Receiving L bytes now U u (Appends old new) (AppendsPrefix old new) r)
-      → TakeAnswers L wanted bytes wanted_now now old new r
+      → HasWanted L wanted wanted_now (λ given U u. Receiving L bytes now U u (Has given U u (Appends old new))
+      (Has given U u (AppendsPrefix old new)) r)
+      → WantedAnswers Has L wanted bytes wanted_now now old new r
+
+-- the lines of what is received go out
+abbrev pub TakeAnswers : Bounds → (wanted bytes : List ℕ) → (wanted_now now old new : Option (List ℕ))
+    → Result (Unit {0}) ToolFault → Type 0
+TakeAnswers L wanted bytes wanted_now now old new result =
+    WantedAnswers (λ given U u P T items. HasTakenItems T U u items P) L wanted bytes wanted_now now old new result
 
 -- a read of the one input or of the other failed where the fault is `Read`, and else only before a failed write
 abbrev pub CountsTakeReads : (wanted wanted' failures failures' : ℕ) → Result (Unit {0}) ToolFault → Type 0

@@ -1,6 +1,6 @@
-//! The lines of values that are received as values of a wanted type.
+//! The texts of values that are received as values of a wanted type.
 
-ghost use Rattle.std.specs.Prelude.{◌≡◌, ◌∷◌, [], IfErr, OnOk, Some};
+ghost use Rattle.std.specs.Prelude.{◌≡◌, ◌^◌, ◌<◌, ◌∷◌, [], IfErr, OnOk, Some};
 ghost use Rattle.gob_types.specs.Defined.{types};
 ghost use Rattle.gob_types.specs.Ready.{IsReady};
 ghost use Rattle.gob_stream.specs.Item.{item_view};
@@ -9,7 +9,7 @@ ghost use Rattle.gob_tool.specs.Machine.Receiver.{is_received_of_item, is_receiv
 ghost use Rattle.gob_tool.specs.Machine.Taken.{AreSent};
 
 use crate::fault::ToolFault;
-use crate::item_line::{given_line, line_depth, send_item, whole_item};
+use crate::item_line::{line_depth, whole_item};
 use crate::receiver::{LastMatch, Receiver};
 use crate::text_steps::TextSteps;
 use crate::texts::Sent;
@@ -24,9 +24,9 @@ use std::io::Write;
 impl<const MOST: usize> TextSteps<Session<TreeBuilder>> for Receiver<'_, MOST> {
     type Kept = LastMatch;
 
-    ghost of_item = { λ receiver. is_received_of_item (types receiver.wanted.now) receiver.wanted_id };
+    ghost of_item = { λ receiver. is_received_of_item receiver.form (types receiver.wanted.now) receiver.wanted_id };
 
-    ghost of_value = { λ receiver. is_received_of_value (types receiver.wanted.now) receiver.wanted_id };
+    ghost of_value = { λ receiver. is_received_of_value receiver.form (types receiver.wanted.now) receiver.wanted_id };
 
     ghost stops = { λ receiver. Clashes (types receiver.wanted.now) receiver.wanted_id };
 
@@ -60,7 +60,7 @@ impl<const MOST: usize> TextSteps<Session<TreeBuilder>> for Receiver<'_, MOST> {
         if !self.receive_whole(alloc, reader.table(), &item, depth, kept) {
             return None;
         }
-        let sent = send_item(self.wanted, self.wanted_id, &kept.room, depth, output);
+        let sent = self.send(alloc, &kept.room, depth, output)?;
         Some(Sent {
             used: item.used,
             sent,
@@ -68,7 +68,7 @@ impl<const MOST: usize> TextSteps<Session<TreeBuilder>> for Receiver<'_, MOST> {
     }
 }
 
-/// Makes in `text`, which is empty, the line of what is received of an item, if it is a value. `stream` has the types
+/// Makes in `text`, which is empty, the text of what is received of an item, if it is a value. `stream` has the types
 /// behind it.
 fn push_received<const MOST: usize>(
     alloc: Global,
@@ -82,9 +82,10 @@ fn push_received<const MOST: usize>(
     requires known { StaysKnown (types stream.now) (types receiver.now.wanted.now) receiver.now.wanted_id kept.old
         (Some item.now) }
     requires ready { IsReady (types receiver.now.wanted.now) receiver.now.wanted_id }
+    requires number { receiver.now.wanted_id.0 < 2 ^ 63 }
     requires empty { text.old.items ≡ [] }
-    ensures made { OnOk result (is_received_of_item (types receiver.now.wanted.now) receiver.now.wanted_id
-        (types stream.now) item.now text.new.items) }
+    ensures made { OnOk result (is_received_of_item receiver.now.form (types receiver.now.wanted.now)
+        receiver.now.wanted_id (types stream.now) item.now text.new.items) }
     ensures known { OnOk result (KeepsKnown (types stream.now) (types receiver.now.wanted.now) receiver.now.wanted_id
         kept.new) }
     ensures fault { IfErr result (ReceivesNone (types receiver.now.wanted.now) receiver.now.wanted_id
@@ -97,11 +98,8 @@ fn push_received<const MOST: usize>(
         }
         Item::Put { id, value } => {
             let value = receiver.receive(alloc, stream, *id, value, kept)?;
-            let id = receiver.wanted_id;
-            let received = Some(Item::Put { id, value });
-            let made = given_line(alloc, &received, receiver.wanted, text);
-            drop(received);
-            Ok(made?)
+            let pushed = receiver.push(alloc, value, text);
+            Ok(pushed?)
         }
     }
 }

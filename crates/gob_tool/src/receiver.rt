@@ -11,8 +11,10 @@ ghost use Rattle.gob_match.specs.Matching.{Match};
 ghost use Rattle.gob_match.specs.Received.{Receives};
 ghost use Rattle.gob_match.specs.Faults.{IsMatchFault};
 ghost use Rattle.gob_match.specs.ReceivedWhole.{ReceivesWhole};
+ghost use Rattle.gob_stream.specs.Bounds.{greatest_depth};
 ghost use Rattle.gob_tool.specs.Machine.Receiver.{IsKnown, KeepsKnown};
 
+use crate::received_form::ReceivedForm;
 use gob_match::{KeptMatch, MatchFault, Matched, match_types, receive, receive_whole};
 use gob_stream::Whole;
 use gob_types::{Table, TypeId};
@@ -25,6 +27,7 @@ use std::alloc::Global;
 pub(crate) struct Receiver<'a, const MOST: usize> {
     pub(crate) wanted: &'a Table,
     pub(crate) wanted_id: TypeId,
+    pub(crate) form: ReceivedForm,
 }
 
 /// What a receiver keeps from one value to the next: the match of the type of the last one, since the next value is
@@ -73,6 +76,8 @@ impl<const MOST: usize> Receiver<'_, MOST> {
         ensures matched { OnOk result (Match (types stream.now) (types self.now.wanted.now) id self.now.wanted_id) }
         ensures received { IfOk result (λ w. Receives (types stream.now) (types self.now.wanted.now) id
             self.now.wanted_id (view value.now) (view w)) }
+        ensures fits { IfOk result (λ w. FitsWithin (types self.now.wanted.now) self.now.wanted_id greatest_depth
+            (view w)) }
         ensures fault { IfErr result (IsMatchFault (types stream.now) (types self.now.wanted.now) id
             self.now.wanted_id) }
     {

@@ -12,14 +12,14 @@ use crate::check::run_check;
 use crate::fault::ToolFault;
 use crate::rewrite::run_rewrite;
 use crate::show::run_show;
-use crate::take::run_take;
+use crate::take::{run_convert, run_take};
 use gob_stream::{Input, Limits, Output};
 use gob_words::{Chosen, Order};
 use std::alloc::Global;
 use std::io::{Read, Write};
 
 /// Does with the input what the order asks for, under its limits; the run of each command says what that is, and what
-/// each fault means. The wanted stream is read only for [`Chosen::Take`].
+/// each fault means. The wanted stream is read only for [`Chosen::Take`] and [`Chosen::Convert`].
 pub fn run_order<Q: Read, R: Read, W: Write>(
     alloc: Global,
     order: &Order,
@@ -47,6 +47,7 @@ pub fn run_order<Q: Read, R: Read, W: Write>(
         Chosen::Check => run_check(alloc, input, output, limits),
         Chosen::Rewrite => run_rewrite(alloc, input, output, limits),
         Chosen::Take => run_take(alloc, wanted, input, output, limits),
+        Chosen::Convert => run_convert(alloc, wanted, input, output, limits),
     }
 }
 

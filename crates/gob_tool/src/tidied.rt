@@ -66,31 +66,25 @@ fn push_tidy_definition(
 {
     let tidied = tidy(alloc, table, TypeId::WIRE_TYPE, described)?;
     let mut content = Vec::new(alloc);
-    let spelled = spell_description(alloc, table, &tidied, &mut content);
+    let spelled = spell_fitting(alloc, table, TypeId::WIRE_TYPE, &tidied, &mut content);
     drop(tidied);
     spelled?;
     push_content(alloc, -(id.0 as i64), &content, text)
 }
 
-/// Appends the spelling of a description.
-fn spell_description(
+/// Appends the spelling of a value that fits its type.
+pub(crate) fn spell_fitting(
     alloc: Global,
     table: &Table,
-    described: &Value,
+    id: TypeId,
+    value: &Value,
     content: &mut Vec<u8>,
 ) -> Result<(), Memory>
-    requires { FitsWithin (types table.now) wire_type greatest_depth (view described.now) }
-    ensures { OnOk result (Appends (Spells (types table.now) wire_type (view described.now)) content.old.items
+    requires { FitsWithin (types table.now) id greatest_depth (view value.now) }
+    ensures { OnOk result (Appends (Spells (types table.now) id (view value.now)) content.old.items
         content.new.items) }
 {
-    match spell(
-        alloc,
-        table,
-        TypeId::WIRE_TYPE,
-        described,
-        Limits::GREATEST_DEPTH,
-        content,
-    ) {
+    match spell(alloc, table, id, value, Limits::GREATEST_DEPTH, content) {
         Ok(()) => Ok(()),
         Err(SpellFault::Memory) => Err(Memory),
         // it fits
@@ -190,7 +184,7 @@ pub(crate) fn send_tidy_whole<W: Write>(
 }
 
 /// Makes the item of this type number and content in `text`, which is empty.
-fn push_content(
+pub(crate) fn push_content(
     alloc: Global,
     number: i64,
     content: &[u8],
@@ -206,7 +200,7 @@ fn push_content(
 
 /// Sends the item of this type number and content, and answers whether all of it went out. None: no memory was had for
 /// what stands before the content, and nothing was sent.
-fn send_content<W: Write>(
+pub(crate) fn send_content<W: Write>(
     alloc: Global,
     number: i64,
     content: &[u8],

@@ -1,7 +1,7 @@
 //! Runs of the commands, and how they end.
 
 use gob_stream::{Input, Limits, Output};
-use gob_tool::{ToolFault, run_check, run_rewrite, run_show, run_take};
+use gob_tool::{ToolFault, run_check, run_convert, run_rewrite, run_show, run_take};
 use std::alloc::Global;
 use std::io::{Read, Write};
 
@@ -12,6 +12,7 @@ pub(crate) enum Command<'a> {
     Check,
     Rewrite,
     Take(&'a [u8]),
+    Convert(&'a [u8]),
 }
 
 impl<'a> Command<'a> {
@@ -43,6 +44,10 @@ impl<'a> Command<'a> {
             Command::Take(wanted) => {
                 let mut wanted = Input::new(wanted);
                 run_take(alloc, &mut wanted, input, output, limits)
+            }
+            Command::Convert(wanted) => {
+                let mut wanted = Input::new(wanted);
+                run_convert(alloc, &mut wanted, input, output, limits)
             }
         }
     }

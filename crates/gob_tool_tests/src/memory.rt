@@ -24,9 +24,10 @@ fn go_together(trial: &Trial, ended: Result<(), ToolFault>, written: &[u8]) -> b
     }
 }
 
-// Whether that is written of fewer bytes than the stream has.
+// Whether nothing is written, as before the wanted type is known, or that of fewer bytes than the stream has.
 fn is_begun(trial: &Trial, written: &[u8]) -> bool {
-    (0..trial.stream.len()).any(|bytes| trial.written_within(bytes) == written)
+    written.is_empty()
+        || (0..trial.stream.len()).any(|bytes| trial.written_within(bytes) == written)
 }
 
 #[test]

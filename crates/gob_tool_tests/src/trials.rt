@@ -2,7 +2,7 @@
 
 use crate::commands::Command;
 use crate::streams::{THREE, THREE_LINES};
-use crate::takes::{A_AND_B, B_AND_C, B_LINE};
+use crate::takes::{A_AND_B, B_ALONE, B_AND_C, B_LINE};
 
 /// What is tried: a command, and a stream that it goes through to the end.
 #[derive(Clone, Copy)]
@@ -32,7 +32,7 @@ impl Trial {
 }
 
 // The trials.
-const TRIALS: [Trial; 5] = [
+const TRIALS: [Trial; 6] = [
     Trial {
         what: "three items shown: whole lines are written",
         command: Command::Show,
@@ -76,9 +76,16 @@ const TRIALS: [Trial; 5] = [
         written: B_LINE,
         ends: &[(36, 32)],
     },
+    Trial {
+        what: "the value of A and B received as one of B and C: the definition is written first",
+        command: Command::Convert(B_AND_C),
+        stream: A_AND_B,
+        written: B_ALONE,
+        ends: &[(0, 28), (36, 34)],
+    },
 ];
 
 /// The trials.
-pub(crate) fn trials() -> [Trial; 5] {
+pub(crate) fn trials() -> [Trial; 6] {
     TRIALS
 }

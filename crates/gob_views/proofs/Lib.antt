@@ -6,3 +6,4 @@ pub mod SendLaws
 pub mod VerifyLaws
 pub mod TypeRuns
 pub mod InMemoryLaws
+pub mod RunLaws

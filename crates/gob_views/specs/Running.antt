@@ -1,12 +1,15 @@
 -- What the run of a view answers. (docs/FORMAT.md, The program: this project's own.)
-use Rattle.std.specs.Prelude.{◌≡◌, ℕ, Bool, true, false, List, [], ◌∷◌, ◌++◌, Option, None, Some, Result, codes}
+use Rattle.std.specs.Prelude.{◌≡◌, ℕ, Bool, true, false, List, [], ◌∷◌, ◌++◌, Option, None, Some, Result, Err}
+use Rattle.std.specs.Prelude.{◌⊎◌, codes}
+use Rattle.std.specs.Io.KnownBytes.{Appends}
 use Rattle.gob_tool.specs.CheckingGo.{CheckGoAnswers}
 use Rattle.gob_tool.specs.RewritingGo.{RewriteGoAnswers}
 use Rattle.gob_tool.specs.ShowingGo.{ShowGoAnswers}
-use Rattle.gob_salvage.specs.Running.{SalvageAnswers}
+use Rattle.gob_salvage.specs.Running.{IsOf, SalvageAnswers, StopsReading}
 use Rattle.gob_salvage.specs.declared.keeping.Salvaged.{Salvaged}
 use Rattle.gob_stream.specs.Bounds.{Bounds}
 use Rattle.gob_tool.specs.declared.fault.ToolFault.{ToolFault}
+use Rattle.gob_tool.specs.declared.fault.ToolFault.TheVariants as fault
 use Rattle.gob_why.specs.Explain.{ExplainAnswers}
 use Rattle.gob_why.specs.Why.{WhyAnswers}
 use Rattle.gob_why.specs.declared.explained.Explained.{Explained}
@@ -69,6 +72,8 @@ CommandAnswers command.Explain view bytes now old new result =
     ExplainAnswers (view_explained view) (view_limits view) bytes now old new result
 CommandAnswers command.Salvage view bytes now old new result =
     (told : Option Salvaged) × SalvageAnswers (view_limits view) bytes now old new told result
+CommandAnswers command.Split view bytes now old new result = SendsText old new [] result
+CommandAnswers command.Join view bytes now old new result = SendsText old new [] result
 CommandAnswers command.Write view bytes now old new result = SendsText old new [] result
 CommandAnswers command.Version view bytes now old new result = SendsText old new version_line result
 CommandAnswers command.ShowGo view bytes now old new result = ShowGoAnswers (view_limits view) bytes now old new result
@@ -79,7 +84,60 @@ CommandAnswers command.Verify view bytes now old new result =
 CommandAnswers command.RewriteGo view bytes now old new result =
     RewriteGoAnswers view.hoist (view_limits view) bytes now old new result
 
+-- ---- of what isn't damaged
+-- whether the command is shown of that, where it is asked for so
+abbrev pub shows_kept : ViewCommand → (is_asked : Bool) → Bool
+shows_kept command.Values is_asked = is_asked
+shows_kept command.Types is_asked = is_asked
+shows_kept command.ShowGo is_asked = is_asked
+shows_kept _ is_asked = false
+
+-- what a run over bytes in memory has answered: no read of these fails
+abbrev pub in_memory : Result (Unit {0}) ToolFault → Result (Unit {0}) ToolFault
+in_memory (Err fault.Read) = Err fault.Memory
+in_memory answer = answer
+
+-- the run of the command was one over these bytes in memory, whatever it left of them
+pub record ShowsBytes (view : View) (bytes : List ℕ) (old new : Option (List ℕ))
+    (result : Result (Unit {0}) ToolFault) : Type 0 where
+  pub left : Option (List ℕ)
+  pub answer : Result (Unit {0}) ToolFault
+  pub shows : CommandAnswers view.command view bytes left old new answer
+  pub is : result ≡ in_memory answer
+
+-- all of the input was read, the run was one over what is kept of it, and that is told
+pub record ShowsKept (view : View) (bytes : List ℕ) (now old new : Option (List ℕ)) (told : Option Salvaged)
+    (result : Result (Unit {0}) ToolFault) : Type 0 where
+  pub kept : Salvaged
+  pub is : IsOf (view_limits view) bytes kept
+  pub end : now ≡ Some []
+  pub shows : ShowsBytes view kept.bytes.items old new result
+  pub tells : told ≡ Some kept
+
+-- less than all of the input could be read and kept, and nothing went out
+pub record ShowsNothing (view : View) (bytes : List ℕ) (old new : Option (List ℕ))
+    (result : Result (Unit {0}) ToolFault) : Type 0 where
+  pub fault : ToolFault
+  pub is : result ≡ Err fault
+  pub stops : StopsReading (view_limits view).stream bytes fault
+  pub sent : Appends old new []
+
+-- how what the view asks for ends, where it is shown of what is kept of the input
+abbrev pub KeptAnswers : View → (bytes : List ℕ) → (now old new : Option (List ℕ)) → (told : Option Salvaged)
+    → Result (Unit {0}) ToolFault → Type 0
+KeptAnswers view bytes now old new told result =
+    ShowsKept view bytes now old new told result ⊎ ShowsNothing view bytes old new result
+
+-- ---- the run
+-- and of all of the input else
+abbrev pub AnswersBy : (of_kept : Bool) → View → (bytes : List ℕ) → (now old new : Option (List ℕ))
+    → Result (Unit {0}) ToolFault → Type 0
+AnswersBy false view bytes now old new result = CommandAnswers view.command view bytes now old new result
+AnswersBy true view bytes now old new result =
+    (told : Option Salvaged) × KeptAnswers view bytes now old new told result
+
 -- how what the view asks for ends
 abbrev pub ViewAnswers : View → (bytes : List ℕ) → (now old new : Option (List ℕ)) → Result (Unit {0}) ToolFault
     → Type 0
-ViewAnswers view bytes now old new result = CommandAnswers view.command view bytes now old new result
+ViewAnswers view bytes now old new result =
+    AnswersBy (shows_kept view.command view.salvage) view bytes now old new result

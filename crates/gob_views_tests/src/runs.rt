@@ -111,9 +111,11 @@ pub(crate) fn usual(alloc: Global, command: ViewCommand) -> View<'static> {
         kinds: Vec::new(alloc),
         main: false,
         progress: false,
+        salvage: false,
         hoist: false,
         fault: false,
         at: None,
+        line: 268435456,
     }
 }
 
@@ -132,6 +134,13 @@ const DEFINED_INSIDE: &str =
 
 const HOISTED: &str =
     "0a ff 81 05 01 02 ff 84 00 00 00 12 10 00 08 2a 62 69 67 2e 49 6e 74 ff 82 04 00 02 02 05";
+
+// A point, one with a changed byte, and another.
+const DAMAGED: &str =
+    "POINT 07 ff 82 01 2c 01 42 00 07 ff 82 09 2c 01 42 00 07 ff 82 01 2a 01 42 00";
+
+// What isn't damaged of these.
+const UNDAMAGED: &str = "POINT 07 ff 82 01 2c 01 42 00 07 ff 82 01 2a 01 42 00";
 
 // A time in UTC.
 const TIME: &str = "TIME 13 ff 82 00 0f 01 00 00 00 0e c2 8b e7 70 00 00 00 00 ff ff";
@@ -248,6 +257,25 @@ fn what_interfaces_hold_is_viewed(rt: HostRuntime) {
             rewrites(alloc, hoist, DEFINED_INSIDE, due) == Ok(true),
             "hoisted: {}",
             hoist
+        );
+    }
+}
+
+// Whether the command shows of the damaged stream, where that is asked for, what it shows of what isn't damaged.
+fn shows_undamaged(alloc: Global, command: ViewCommand) -> Result<bool, AllocError> {
+    let mut view = usual(alloc, command);
+    let due = shown(alloc, &view, UNDAMAGED)?;
+    view.salvage = true;
+    let kept = shown(alloc, &view, DAMAGED)?;
+    Ok(kept.as_slice() == due.as_slice() && !due.is_empty())
+}
+
+#[test]
+fn what_is_not_damaged_is_viewed(rt: HostRuntime) {
+    for command in [ViewCommand::Values, ViewCommand::Types, ViewCommand::ShowGo] {
+        assert!(rt;
+            shows_undamaged(rt.alloc(), command) == Ok(true),
+            "{command:?}"
         );
     }
 }

@@ -1,7 +1,7 @@
 -- What is kept of a stream goes on from item to item.
 use Rattle.std.proofs.Common.{◌≡◌, ℕ, ◌+◌, ◌-◌, ◌<◌, ◌≤◌, ◌^◌, arith, List, [], ◌∷◌, ◌++◌, length, take}
 use Rattle.std.proofs.Common.{Option, None, Some, Result, Ok, Err, ◌∙◌, ap, sym, subst, refl, length-append}
-use Rattle.std.proofs.Common.{append_assoc, append-nil, IfSome, OnOk}
+use Rattle.std.proofs.Common.{append_assoc, append-nil, IfSome, OnOk, true}
 use Rattle.std.specs.Result.{IsErrAnd}
 use Rattle.gob_num.specs.declared.memory.Memory.{Memory}
 use Rattle.gob_types.specs.Base.{base_table}
@@ -221,7 +221,7 @@ pub kept_step : (which : Option Explained) (s s' : SessionState) (items items' :
     → limits_of s' ≡ limits_of s → AreLimits deepest (limits_of s) → 0 < length piece → items' ≡ items + given_count o
     → (h : HasReadKept which s items bytes item begin text) → IfSome o (λ _. IsBetweenItems s')
     → GoesOn which (types_of s') o item begin (take used piece) item' begin' (Ok tt) line
-    → AdvancesOver s' h.given bytes piece used o
+    → AdvancesOver true s' h.given bytes piece used o
     → KeepsNext which s' items items' bytes piece item' begin' (text ++ line) (Ok used)
 kept_step which s s' items items' bytes piece item begin text item' begin' line used o same limits some n h b on
     (over_some l w a) =
@@ -250,7 +250,7 @@ kept_step which s s' items items' bytes piece item begin text item' begin' line 
 pub step_fits : {which : Option Explained} {s s' : SessionState} {items items' : ℕ} {bytes piece item : List ℕ}
     {begin : ℕ} {text : List ℕ} {used : ℕ} {o : Option GoItem} → limits_of s' ≡ limits_of s
     → AreLimits deepest (limits_of s) → items' ≡ items + given_count o
-    → (h : HasReadKept which s items bytes item begin text) → AdvancesOver s' h.given bytes piece used o
+    → (h : HasReadKept which s items bytes item begin text) → AdvancesOver true s' h.given bytes piece used o
     → items' < 2 ^ 64
 step_fits same limits n h (over_some l w a) = let fit = items_fit h limits in omega arith
 step_fits {bytes = bytes} {piece = piece} {used = used} same limits n h (over_item {i = i} l w m a) =

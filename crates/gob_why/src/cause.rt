@@ -20,6 +20,13 @@ pub(crate) enum Cause {
     Text,
     /// The input is a text that spells a stream.
     Spelled(Spelling),
+    /// The input is a dump that spells the front of a stream, with a line of `*` in place of lines that repeat.
+    ShortDump(Spelling),
+    /// The input is a text that spells something else.
+    SpelledForm {
+        spelling: Spelling,
+        form: Form,
+    },
     /// It begins with a head of HTTP.
     Http {
         bytes: usize,
@@ -47,14 +54,21 @@ pub(crate) enum Cause {
     Replaced,
     /// Line feeds became a carriage return and a line feed.
     Returns,
-    /// Another stream begins with the item, which defines the type, in the same way or in another.
+    /// Another stream begins with the item, which defines the type, in the same way or in another. Its first value may
+    /// be one by the types that were defined before.
     AnotherStream {
         begin: u64,
         id: TypeId,
         is_same: bool,
+        is_known: bool,
     },
     /// The item isn't all there, and another stream begins at this offset.
     CutOff {
+        begin: u64,
+        stream: u64,
+    },
+    /// Bytes that are no item stand behind the last one, and another stream begins at this offset.
+    Between {
         begin: u64,
         stream: u64,
     },
@@ -102,11 +116,22 @@ pub(crate) fn cause_text(alloc: Global, cause: Cause) -> Result<String, Memory> 
             let name = spelling.name();
             Ok(format!(in alloc; "The file is {name}, and what it holds is a gob stream.")?)
         }
+        Cause::SpelledForm { spelling, form } => {
+            let (name, held) = (spelling.name(), form.name());
+            Ok(format!(in alloc; "The file is {name}, and what it holds begins as {held} does.")?)
+        }
+        Cause::ShortDump(spelling) => {
+            let name = spelling.name();
+            Ok(format!(in alloc;
+                "The file is {name} of a gob stream, in which a line of * stands for lines that repeat."
+            )?)
+        }
         Cause::Length {
             bytes,
             is_high_first,
         } => length_text(alloc, bytes, is_high_first),
         Cause::Prefix { bytes } => prefix_text(alloc, bytes),
+        Cause::Between { begin, stream } => between_text(alloc, begin, stream),
         Cause::AnotherStream { id, is_same, .. } => another_text(alloc, id, is_same),
         _ => numbered_text(alloc, cause),
     }
@@ -124,7 +149,7 @@ fn numbered_text(alloc: Global, cause: Cause) -> Result<String, Memory> {
             "The file has no byte but {byte:02x}, as far as was read: room that was never written."
         )?,
         Cause::LostFront { bytes } => format!(in alloc;
-            "The beginning of the stream is missing: from byte {bytes} on whole items stand."
+            "The beginning of the stream is missing or was changed: from byte {bytes} on whole items stand."
         )?,
         Cause::CutOff { stream, .. } => format!(in alloc;
             "A write was cut off within this item, and another encoder's stream begins at byte {stream}."
@@ -202,6 +227,18 @@ fn prefix_text(alloc: Global, bytes: usize) -> Result<String, Memory> {
         "bytes stand"
     };
     Ok(format!(in alloc; "{bytes} {stand} before the stream: whole items follow.")?)
+}
+
+fn between_text(alloc: Global, begin: u64, stream: u64) -> Result<String, Memory> {
+    let bytes = stream.saturating_sub(begin);
+    let stand = if bytes == 1 {
+        "byte stands here that is"
+    } else {
+        "bytes stand here that are"
+    };
+    Ok(format!(in alloc;
+        "{bytes} {stand} no item, and another encoder's stream begins at byte {stream}."
+    )?)
 }
 
 fn another_text(alloc: Global, id: TypeId, is_same: bool) -> Result<String, Memory> {

@@ -2,7 +2,7 @@
 
 use crate::cause::Cause;
 use crate::length::length_cause;
-use crate::marks::rest_from;
+use crate::marks::{has_line, rest_from};
 use crate::trial::tried;
 use gob_forms::{
     Form, Spelling, chain_from, defines_at, form_of, form_of_maps, form_of_wide, http_head,
@@ -14,6 +14,9 @@ use std::alloc::Global;
 
 /// No more of the first bytes is looked at.
 pub(crate) const FRONT: usize = 65536;
+
+// What gzip writes begins so.
+const DEFLATED: &[u8] = b"\x1f\x8b\x08";
 
 // The fewest bytes that tell that there is no other.
 const MANY: usize = 16;
@@ -70,31 +73,60 @@ fn only_byte(front: &[u8]) -> Option<u8> {
 
 // Text, which may spell a stream.
 fn text_cause(alloc: Global, front: &[u8], limits: Limits) -> Result<Option<Cause>, Memory> {
-    if let Some(spelling) = spelling_of(alloc, front, limits)? {
-        return Ok(Some(Cause::Spelled(spelling)));
+    if let Some(cause) = spelled_cause(alloc, front, limits)? {
+        return Ok(Some(cause));
     }
     if front.is_empty() || !is_text(front) {
         return Ok(None);
     }
-    if !is_json(front) {
-        return Ok(Some(Cause::Text));
-    }
-    match json_string(alloc, front, limits)? {
-        Some(start) => Ok(Some(Cause::JsonString { start })),
-        None => Ok(Some(Cause::Json)),
-    }
+    json_cause(alloc, front, limits)
 }
 
-// How the bytes spell a stream, if they do.
-fn spelling_of(alloc: Global, front: &[u8], limits: Limits) -> Result<Option<Spelling>, Memory> {
+// JSON, an object, an array or a string, or other text.
+fn json_cause(alloc: Global, front: &[u8], limits: Limits) -> Result<Option<Cause>, Memory> {
+    let is_json = is_json(front);
+    if is_json || front.starts_with(b"\"") {
+        if let Some(start) = json_string(alloc, front, limits)? {
+            return Ok(Some(Cause::JsonString { start }));
+        }
+    }
+    if is_json {
+        return Ok(Some(Cause::Json));
+    }
+    Ok(Some(Cause::Text))
+}
+
+// A text that spells a stream, or what may be a packed one.
+fn spelled_cause(alloc: Global, front: &[u8], limits: Limits) -> Result<Option<Cause>, Memory> {
     for spelling in Spelling::ALL {
         if let Some(bytes) = spelling.decode(alloc, front)? {
             if tried(alloc, &bytes, limits)?.is_front() {
-                return Ok(Some(spelling));
+                return Ok(Some(stream_spelled(spelling, front)));
+            }
+            if let Some(form) = packed_form(&bytes) {
+                return Ok(Some(Cause::SpelledForm { spelling, form }));
             }
         }
     }
     Ok(None)
+}
+
+// A text that spells a stream so, or the front of one: a line of * in a dump stands for lines that are left out.
+fn stream_spelled(spelling: Spelling, front: &[u8]) -> Cause {
+    let is_dump = matches!(spelling, Spelling::Xxd | Spelling::Hexdump);
+    if is_dump && has_line(front, b"\n*\n") {
+        return Cause::ShortDump(spelling);
+    }
+    Cause::Spelled(spelling)
+}
+
+// The form of bytes that are packed, where its mark is no accident.
+fn packed_form(bytes: &[u8]) -> Option<Form> {
+    match form_of(bytes)? {
+        Form::Gzip if !bytes.starts_with(DEFLATED) => None,
+        form @ (Form::Gzip | Form::Zstd | Form::Xz | Form::Lz4) => Some(form),
+        _ => None,
+    }
 }
 
 // How a string of JSON begins that is base64 of a stream.

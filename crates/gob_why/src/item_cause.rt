@@ -5,7 +5,7 @@ use crate::front_cause::{FRONT, are_items, items_in, stream_in};
 use crate::marks::{front_to, is_replaced, rest_from, without_returns, zeros_at_front};
 use crate::scene::{FIRST_DEFINED, Scene};
 use crate::trial::{defines_alike, depth_of, is_value};
-use gob_forms::{begins_item, chain_from, head_of, is_text};
+use gob_forms::{begins_item, chain_from, defines_at, head_of, is_text};
 use gob_num::Memory;
 use gob_stream::Limits;
 use gob_types::{Reason, Shapes, TypeId};
@@ -13,6 +13,9 @@ use std::alloc::Global;
 
 // So many zeros are no accident.
 const MANY_ZEROS: usize = 8;
+
+// So many definitions are gone past to the first value behind them.
+const MOST_DEFINITIONS: u64 = 10000;
 
 // What stands behind the last item, as a checksum or a length does, has no more bytes.
 const MOST_BEHIND: usize = 64;
@@ -90,9 +93,28 @@ fn another_stream(alloc: Global, scene: &Scene<'_>, id: TypeId) -> Result<Option
             begin: scene.kept.begin,
             id,
             is_same,
+            is_known: is_known(alloc, scene)?,
         })),
         None => Ok(None),
     }
+}
+
+// Whether the first value behind the definitions is one by the types that were defined before them, and holds nothing,
+// or no byte stands behind them.
+fn is_known(alloc: Global, scene: &Scene<'_>) -> Result<bool, Memory> {
+    let mut place = 0usize;
+    for _ in 0..MOST_DEFINITIONS {
+        let item = rest_from(scene.item(), place);
+        let Some(head) = head_of(item) else {
+            return Ok(item.is_empty());
+        };
+        if !head.defines {
+            let body = head.body_in(item);
+            return is_value(alloc, scene.table, head.id, body, scene.limits.depth());
+        }
+        place = place.saturating_add(head.end_in(item));
+    }
+    Ok(false)
 }
 
 // How many bytes the item has, where its own count is refused, and the type that it names may come.
@@ -167,7 +189,13 @@ fn zeros_in(scene: &Scene<'_>) -> Option<Cause> {
     }
     let begin = scene.kept.begin.saturating_add(place as u64);
     if zeros < rest.len() {
-        return Some(Cause::Hole { zeros });
+        // what stands before a stream, or between two, is none
+        let is_before = place == 0 && (scene.kept.items == 0 || defines_at(rest, zeros));
+        return if is_before {
+            None
+        } else {
+            Some(Cause::Hole { zeros })
+        };
     }
     if begin == 0 {
         return Some(Cause::OneByte { byte: 0 });
@@ -225,7 +253,10 @@ fn lost_front(alloc: Global, scene: &Scene<'_>) -> Result<Option<Cause>, Memory>
 fn cut_off(alloc: Global, scene: &Scene<'_>) -> Result<Option<Cause>, Memory> {
     let begin = scene.kept.begin;
     if let Some(stream) = stream_within(alloc, scene)? {
-        return Ok(Some(Cause::CutOff { begin, stream }));
+        if begins_item(scene.item()) {
+            return Ok(Some(Cause::CutOff { begin, stream }));
+        }
+        return Ok(Some(Cause::Between { begin, stream }));
     }
     if scene.refusal.reason == Reason::Ended {
         return Ok(Some(Cause::Torn));

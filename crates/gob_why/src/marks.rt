@@ -31,6 +31,16 @@ pub(crate) fn zeros_at_front(bytes: &[u8]) -> usize {
     bytes.iter().take_while(|byte| **byte == 0).count()
 }
 
+/// Whether the text has this line, which is given with the line feeds around it.
+pub(crate) fn has_line(text: &[u8], line: &[u8]) -> bool {
+    for place in 0..text.len() {
+        if text[place..].starts_with(line) {
+            return true;
+        }
+    }
+    false
+}
+
 /// Whether U+FFFD stands at the front of the bytes.
 pub(crate) fn is_replaced(bytes: &[u8]) -> bool {
     bytes.starts_with(&REPLACEMENT)

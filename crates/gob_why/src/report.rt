@@ -96,33 +96,38 @@ fn push_cause(
     file: &str,
     text: &mut String,
 ) -> Result<(), Memory> {
-    let reason = scene.refusal.reason;
     let found = cause_of(alloc, scene)?;
-    let cause = said_cause(alloc, found, reason)?;
+    let cause = said_cause(alloc, found, scene)?;
     let cause = cause.as_str();
     write!(text, "cause: {cause}\n")?;
-    let step = said_step(alloc, found, reason, file)?;
+    let step = said_step(alloc, found, scene, file)?;
     let step = step.as_str();
     write!(text, "next: {step}\n")?;
     Ok(())
 }
 
-fn said_cause(alloc: Global, found: Option<Cause>, reason: Reason) -> Result<String, Memory> {
+fn said_cause(alloc: Global, found: Option<Cause>, scene: &Scene<'_>) -> Result<String, Memory> {
     match found {
         Some(cause) => cause_text(alloc, cause),
-        None => Ok(String::from_str(alloc, usual_cause(reason))?),
+        None => {
+            let usual = usual_cause(scene.refusal.reason, scene.kept.items);
+            Ok(String::from_str(alloc, usual)?)
+        }
     }
 }
 
 fn said_step(
     alloc: Global,
     found: Option<Cause>,
-    reason: Reason,
+    scene: &Scene<'_>,
     file: &str,
 ) -> Result<String, Memory> {
     match found {
         Some(cause) => step_text(alloc, cause, file),
-        None => with_file(alloc, usual_step(reason), file),
+        None => {
+            let usual = usual_step(scene.refusal.reason, scene.kept.items);
+            with_file(alloc, usual, file)
+        }
     }
 }
 

@@ -6,12 +6,18 @@ use gob_types::Reason;
 const CHANGED: &str =
     "These bytes were changed, or something else stands in the file from here on.";
 
+const FIRST: &str = "This is no gob stream, or these bytes were changed.";
+
 const WRITER: &str =
     "Go's encoder doesn't write this. Either these bytes were changed, or another program wrote the file.";
 
 /// Where the file is to come from once more.
 pub(crate) const FETCH: &str =
     "Get the file once more from where it comes from, in binary, and compare its size or checksum.";
+
+/// Where the file is to come from once more, and how else to have the items in front, which are whole, and others.
+pub(crate) const SALVAGE: &str =
+    "Get the file once more from where it comes from, or read what isn't damaged: gob values --salvage IN";
 
 /// What is wrong.
 pub(crate) fn what(reason: Reason) -> &'static str {
@@ -47,8 +53,8 @@ pub(crate) fn what(reason: Reason) -> &'static str {
     }
 }
 
-/// What is usually behind it.
-pub(crate) fn usual_cause(reason: Reason) -> &'static str {
+/// What is usually behind it, where so many items stand before.
+pub(crate) fn usual_cause(reason: Reason, items: u64) -> &'static str {
     match reason {
         Reason::NotMinimal
         | Reason::Bottomless(_)
@@ -63,17 +69,19 @@ pub(crate) fn usual_cause(reason: Reason) -> &'static str {
         Reason::TooDeep => {
             "Either the value is deep, as a long linked list is, or these bytes were changed."
         }
+        _ if items == 0 => FIRST,
         _ => CHANGED,
     }
 }
 
 /// What to do then, where IN is the file.
-pub(crate) fn usual_step(reason: Reason) -> &'static str {
+pub(crate) fn usual_step(reason: Reason, items: u64) -> &'static str {
     match reason {
         Reason::TooDeep =>
             "If the values are meant to be so deep, type: gob check --depth 65536 IN",
         Reason::UndefinedType(id) if id.0 >= FIRST_DEFINED =>
             "Get the file from its first byte on.",
-        _ => FETCH,
+        _ if items == 0 => FETCH,
+        _ => SALVAGE,
     }
 }

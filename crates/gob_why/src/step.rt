@@ -1,7 +1,7 @@
 //! What to do where a stream is refused, in a sentence or in what to type.
 
 use crate::cause::Cause;
-use crate::sentence::FETCH;
+use crate::sentence::{FETCH, SALVAGE};
 use gob_num::Memory;
 use std::alloc::Global;
 use std::str;
@@ -10,17 +10,23 @@ use std::str;
 pub(crate) fn step_text(alloc: Global, cause: Cause, file: &str) -> Result<String, Memory> {
     match cause {
         Cause::Form(form) => with_file(alloc, form.step(), file),
-        Cause::Spelled(spelling) => with_file(alloc, spelling.step(), file),
+        Cause::Spelled(spelling) | Cause::SpelledForm { spelling, .. } => {
+            with_file(alloc, spelling.step(), file)
+        }
         Cause::JsonString { start } => string_text(alloc, &start, file),
         Cause::Http { bytes } | Cause::Length { bytes, .. } | Cause::Prefix { bytes } => {
             tail_text(alloc, bytes as u64, file)
         }
         // what is defined again is left out, so one stream has all values, also where cutting would lose some
-        Cause::AnotherStream { is_same: true, .. } => {
-            with_file(alloc, "gob salvage IN | gob values", file)
-        }
+        Cause::AnotherStream {
+            is_same: true,
+            is_known: true,
+            ..
+        } => with_file(alloc, "gob values --salvage IN", file),
         Cause::AnotherStream { begin, .. } => halves_text(alloc, begin, begin, file),
-        Cause::CutOff { begin, stream } => halves_text(alloc, begin, stream, file),
+        Cause::CutOff { begin, stream } | Cause::Between { begin, stream } => {
+            halves_text(alloc, begin, stream, file)
+        }
         Cause::LineFeed { begin } | Cause::Behind { begin } | Cause::ZerosToEnd { begin } => {
             Ok(format!(in alloc; "head -c {begin} {file} | gob why")?)
         }
@@ -55,14 +61,16 @@ fn plain_step(cause: Cause) -> &'static str {
         Cause::Returns => {
             "Get the file once more in binary, or type: LC_ALL=C sed 's/\\r$//' IN | gob why"
         }
-        Cause::Hole { .. } => {
-            "Get the file once more from where it comes from, and compare its checksum."
+        Cause::ShortDump(_) => {
+            "Get the file itself, or a dump of all its lines, as hexdump -v -C and od -v -t x1 make them."
         }
+        Cause::Hole { .. } => SALVAGE,
         Cause::Damaged { .. } => {
-            "Get the file once more, or read all other items: gob salvage IN | gob values"
+            "Get the file once more, or read all other items: gob values --salvage IN"
         }
         Cause::Torn => "Get the whole file.",
-        Cause::NoBeginning | Cause::LostFront { .. } => "Get the file from its first byte on.",
+        Cause::NoBeginning => "Get the file from its first byte on.",
+        Cause::LostFront { .. } => "Get the file once more, from its first byte on.",
         _ => "",
     }
 }

@@ -11,7 +11,7 @@ use Rattle.gob_words.specs.declared.words.OrderFault.TheVariants as fault
 use Rattle.gob_words.specs.declared.view.View.{View}
 use Rattle.gob_words.specs.declared.view.ViewCommand.{ViewCommand}
 use Rattle.gob_words.specs.declared.view.ViewCommand.TheVariants.{Values, Types, Why, Explain, Verify, Salvage, Version}
-use Rattle.gob_words.specs.declared.view.ViewCommand.TheVariants.{Write, ShowGo, CheckGo, RewriteGo}
+use Rattle.gob_words.specs.declared.view.ViewCommand.TheVariants.{Write, Split, Join, ShowGo, CheckGo, RewriteGo}
 use Rattle.gob_words.specs.declared.view.ViewFault.{ViewFault}
 use Rattle.gob_words.specs.declared.view.ViewFault.TheVariants as view_fault
 use Rattle.gob_words.specs.Words.{HasNoFault, IsNumber, IsFaultOf, IsSet, program}
@@ -26,11 +26,12 @@ use Rattle.gob_words.proofs.WordLaws.{name_met, rows_met, some_fault, the_one, t
 -- the command of this name, by its first letter, its second one or its fourth
 abbrev having : (first second fourth : ℕ) → ViewCommand
 having first c fourth =
-    if first == 99 then CheckGo else (if first == 115 then (if c == 97 then Salvage else ShowGo)
+    if first == 99 then CheckGo else (if first == 106 then Join
+    else (if first == 115 then (if c == 97 then Salvage else (if c == 112 then Split else ShowGo))
     else (if first == 114 then RewriteGo else (if first == 119 then (if c == 114 then Write else Why)
     else (if c == 97 then Values
     else (if c == 121 then Types else (if c == 120 then Explain
-    else (if fourth == 105 then Verify else Version)))))))
+    else (if fourth == 105 then Verify else Version))))))))
 
 abbrev having_name : Text → ViewCommand
 having_name name = having (slice_index name 0) (slice_index name 1) (slice_index name 3)
@@ -42,6 +43,8 @@ has Why = refl
 has Explain = refl
 has Verify = refl
 has Salvage = refl
+has Split = refl
+has Join = refl
 has Write = refl
 has Version = refl
 has ShowGo = refl
@@ -69,6 +72,8 @@ pub record ViewMeets (command : ViewCommand) (rows : List Row) (view : View) : T
   pub most : view.depth ≤ greatest_view_depth
   pub at : IsPlaceOf command (first_of (codes "at") rows) view.at
   pub asked : IsAskedFor command (first_of (codes "go") rows) (first_of (codes "hoist") rows)
+      (first_of (codes "salvage") rows)
+  pub line : IsNumber (first_of (codes "line") rows) 268435456 view.line
 
 pub view_meets : (met : Option (Text × List Row)) (command : ViewCommand) (rows : List Row) (view : View)
     → met ≡ Some (view_name command, rows) → IsViewOf met view → ViewMeets command rows view
@@ -82,15 +87,18 @@ view_meets met command rows view e h =
       most = h.most;
       at = subst (λ c. IsPlaceOf c (first_of (codes "at") rows) view.at) one
           (subst (λ r. IsPlaceOf view.command (first_of (codes "at") r) view.at) same h.at);
-      asked = subst (λ c. IsAskedFor c (first_of (codes "go") rows) (first_of (codes "hoist") rows)) one
-          (subst (λ r. IsAskedFor view.command (first_of (codes "go") r) (first_of (codes "hoist") r)) same h.asked);
+      line = subst (λ r. IsNumber (first_of (codes "line") r) 268435456 view.line) same h.line;
+      asked = subst (λ c. IsAskedFor c (first_of (codes "go") rows) (first_of (codes "hoist") rows)
+          (first_of (codes "salvage") rows)) one
+          (subst (λ r. IsAskedFor view.command (first_of (codes "go") r) (first_of (codes "hoist") r)
+          (first_of (codes "salvage") r)) same h.asked);
     }
 
 -- equal words ask alike
-pub asked_alike : (command : ViewCommand) (go other hoist another : Option Text) → go ≡ other → hoist ≡ another
-    → IsAskedFor command go hoist → IsAskedFor command other another
-asked_alike command go other hoist another e f h = subst (λ w. IsAskedFor command other w) f
-    (subst (λ w. IsAskedFor command w hoist) e h)
+pub asked_alike : (command : ViewCommand) (go go' hoist hoist' salvage salvage' : Option Text) → go ≡ go'
+    → hoist ≡ hoist' → salvage ≡ salvage' → IsAskedFor command go hoist salvage → IsAskedFor command go' hoist' salvage'
+asked_alike command go go' hoist hoist' salvage salvage' e f d h = subst (λ w. IsAskedFor command go' hoist' w) d
+    (subst (λ w. IsAskedFor command go' w salvage) f (subst (λ w. IsAskedFor command w hoist salvage) e h))
 
 -- the words that what was met gives for this are those of its rows
 pub words_met : (name : Text) (met : Option (Text × List Row)) (rows : List Row) (words : Option (List Text))

@@ -23,7 +23,7 @@ use Rattle.gob_words.specs.Words.{IsDigit, IsNumber, IsOrderOf, IsSet, name_of, 
 use Rattle.gob_words.specs.Words.{Asks, IsFaultOf, IsWithoutLast, of_nothing, of_more, Refuses, program}
 use Rattle.gob_words.specs.declared.words.Order.{Order}
 use Rattle.gob_words.specs.declared.words.Chosen.{Chosen}
-use Rattle.gob_words.specs.declared.words.Chosen.TheVariants.{Show, Check, Rewrite, Take}
+use Rattle.gob_words.specs.declared.words.Chosen.TheVariants.{Show, Check, Rewrite, Take, Convert}
 
 -- ---- numbers
 
@@ -59,19 +59,21 @@ one_number (Some word) usual n m h k = h.2 ∙ sym k.2
 
 -- ---- names
 
--- the command whose name begins with this letter
-abbrev beginning : ℕ → Chosen
-beginning c = if c == 115 then Show else (if c == 99 then Check else (if c == 114 then Rewrite else Take))
+-- the command whose name has this third letter
+abbrev with_third : ℕ → Chosen
+with_third c = if c == 111 then Show else (if c == 101 then Check else (if c == 119 then Rewrite else
+    (if c == 107 then Take else Convert)))
 
-begins : (a : Chosen) → beginning (slice_index (name_of a) 0) ≡ a
-begins Show = refl
-begins Check = refl
-begins Rewrite = refl
-begins Take = refl
+third : (a : Chosen) → with_third (slice_index (name_of a) 2) ≡ a
+third Show = refl
+third Check = refl
+third Rewrite = refl
+third Take = refl
+third Convert = refl
 
 -- commands have different names
 pub one_command : (a b : Chosen) → name_of a ≡ name_of b → a ≡ b
-one_command a b e = sym (begins a) ∙ ap (λ name. beginning (slice_index name 0)) e ∙ begins b
+one_command a b e = sym (third a) ∙ ap (λ name. with_third (slice_index name 2)) e ∙ third b
 
 -- ---- what was met
 
@@ -115,6 +117,7 @@ pub record Meets (command : Chosen) (rows : List Row) (order : Order) : Type 0 w
   pub plain : ¬ IsSet (first_of (codes "go") rows)
   pub in_place : ¬ IsSet (first_of (codes "hoist") rows)
   pub quiet : ¬ IsSet (first_of (codes "progress") rows)
+  pub whole : ¬ IsSet (first_of (codes "salvage") rows)
 
 pub meets : (met : Option (Text × List Row)) (command : Chosen) (rows : List Row) (order : Order)
     → met ≡ Some (name_of command, rows) → IsOrderOf met order → Meets command rows order
@@ -130,6 +133,7 @@ meets met command rows order e h =
       plain = subst (λ r. ¬ IsSet (first_of (codes "go") r)) same.1 h.plain;
       in_place = subst (λ r. ¬ IsSet (first_of (codes "hoist") r)) same.1 h.in_place;
       quiet = subst (λ r. ¬ IsSet (first_of (codes "progress") r)) same.1 h.quiet;
+      whole = subst (λ r. ¬ IsSet (first_of (codes "salvage") r)) same.1 h.whole;
     }
 
 -- a name is there where its text is

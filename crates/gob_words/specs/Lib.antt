@@ -6,3 +6,4 @@ pub mod ViewDepths
 pub mod Escaped
 pub mod Shell
 pub mod Paths
+pub mod Splitting

@@ -23,18 +23,21 @@ view_name view.Why = codes "why"
 view_name view.Explain = codes "explain"
 view_name view.Verify = codes "verify"
 view_name view.Salvage = codes "salvage"
+view_name view.Split = codes "split"
+view_name view.Join = codes "join"
 view_name view.Write = codes "write"
 view_name view.Version = codes "version"
 view_name view.ShowGo = codes "show"
 view_name view.CheckGo = codes "check"
 view_name view.RewriteGo = codes "rewrite"
 
--- the command is a view, by clap's values of the flags for Go's encoder: an exact command is one with such a flag alone
-abbrev pub IsAskedFor : ViewCommand → (go hoist : Option Text) → Type 0
-IsAskedFor view.ShowGo go hoist = IsSet go
-IsAskedFor view.CheckGo go hoist = IsSet go
-IsAskedFor view.RewriteGo go hoist = IsSet go ⊎ IsSet hoist
-IsAskedFor _ go hoist = ⊤
+-- the command is a view, by clap's values of the flags for streams of Go's encoder: an exact command is one with such a
+-- flag alone
+abbrev pub IsAskedFor : ViewCommand → (go hoist salvage : Option Text) → Type 0
+IsAskedFor view.ShowGo go hoist salvage = IsSet go ⊎ IsSet salvage
+IsAskedFor view.CheckGo go hoist salvage = IsSet go
+IsAskedFor view.RewriteGo go hoist salvage = IsSet go ⊎ IsSet hoist
+IsAskedFor _ go hoist salvage = ⊤
 
 -- the file that a word names: a minus sign is standard input
 pub record IsFileOf (word file : Option Text) : Type 0 where
@@ -90,6 +93,7 @@ pub record IsViewOf (met : Option (Text × List Row)) (view : View) : Type 0 whe
   pub rows : List Row
   pub command : met ≡ Some (view_name view.command, rows)
   pub asked : IsAskedFor view.command (first_of (codes "go") rows) (first_of (codes "hoist") rows)
+      (first_of (codes "salvage") rows)
   pub input : IsFileOf (first_of (codes "IN") rows) (text_of view.input)
   pub depth : IsNumber (first_of (codes "depth") rows) 1000 view.depth
   pub item : IsNumber (first_of (codes "item") rows) 67108864 view.item
@@ -102,9 +106,11 @@ pub record IsViewOf (met : Option (Text × List Row)) (view : View) : Type 0 whe
   pub kinds : SayKinds (kind_words_in met) view.kinds.items
   pub main : IsGiven (first_of (codes "main") rows) view.main
   pub progress : IsGiven (first_of (codes "progress") rows) view.progress
+  pub salvage : IsGiven (first_of (codes "salvage") rows) view.salvage
   pub hoist : IsHoistFlagOf view.command (first_of (codes "hoist") rows) view.hoist
   pub fault : IsFaultFlagOf view.command (first_of (codes "fault") rows) view.fault
   pub at : IsPlaceOf view.command (first_of (codes "at") rows) view.at
+  pub line : IsNumber (first_of (codes "line") rows) 268435456 view.line
   pub least : 1 ≤ view.depth
   pub most : view.depth ≤ greatest_view_depth
 
@@ -114,6 +120,7 @@ IsVersionView given = (given.command ≡ view.Version) × (given.input ≡ None)
     × (given.item ≡ 67108864) × (given.zeros ≡ false) × (given.raw ≡ false) × (given.tagged ≡ false)
     × (given.typed ≡ false) × (given.only ≡ None) × (given.hoist ≡ false) × (given.fault ≡ false) × (given.at ≡ None)
     × (given.each ≡ false) × (given.kinds.items ≡ []) × (given.main ≡ false) × (given.progress ≡ false)
+    × (given.salvage ≡ false) × (given.line ≡ 268435456)
 
 -- the files that a command's words name, in order, where it takes some
 abbrev pub files_in : Option (Text × List Row) → List Text

@@ -38,6 +38,10 @@ with_input app = with_rule app (new_rule (codes "IN"))
 abbrev pub with_progress : App → App
 with_progress app = with_rule app (flag_rule (codes "progress"))
 
+-- the flag for which what isn't damaged is shown
+abbrev pub with_salvage : App → App
+with_salvage app = with_rule app (flag_rule (codes "salvage"))
+
 -- a command on one stream
 abbrev pub one_stream : Text → App
 one_stream name = with_input (with_options name)
@@ -47,9 +51,17 @@ abbrev pub two_streams : Text → App
 two_streams name =
     with_input (with_rule (with_options name) (record (new_rule (codes "WANTED")) { required = true }))
 
--- a command on one stream, with the flag that says that Go's encoder wrote it
-abbrev pub go_stream : Text → App
-go_stream name = with_input (with_progress (with_rule (with_options name) (flag_rule (codes "go"))))
+-- a command with the flag that says that Go's encoder wrote the stream, and the one for progress
+abbrev pub with_go : Text → App
+with_go name = with_progress (with_rule (with_options name) (flag_rule (codes "go")))
+
+-- the command that shows items
+abbrev pub show : App
+show = with_input (with_salvage (with_go (codes "show")))
+
+-- the command that counts them
+abbrev pub check : App
+check = with_input (with_go (codes "check"))
 
 -- the command that writes a stream anew, which has beside that flag the one for definitions in values
 abbrev pub with_go_flags : App → App
@@ -76,11 +88,11 @@ with_elements app = with_progress (with_rule (with_rule app (flag_rule (codes "e
 
 -- the command that shows values
 abbrev pub values : App
-values = with_input (with_elements (with_types (with_flags (with_options (codes "values")))))
+values = with_input (with_salvage (with_elements (with_types (with_flags (with_options (codes "values"))))))
 
 -- the command that shows types, with the flag for a program
 abbrev pub types : App
-types = with_input (with_progress (with_rule (with_options (codes "types")) (flag_rule (codes "main"))))
+types = with_input (with_salvage (with_progress (with_rule (with_options (codes "types")) (flag_rule (codes "main")))))
 
 -- the flag and the option that say which part of a stream is shown
 abbrev pub with_parts : App → App
@@ -98,21 +110,43 @@ files_rule = record (new_rule (codes "FILE")) { required = true; action = Some A
 abbrev pub verify : App
 verify = with_rule (with_progress (with_options (codes "verify"))) files_rule
 
+-- a file that a command can't do without
+abbrev pub needed_rule : Text → Rule
+needed_rule name = record (new_rule name) { required = true }
+
+-- the options for the size of a part
+abbrev pub with_sizes : App → App
+with_sizes app = with_rule (with_rule app (option_rule (codes "size"))) (option_rule (codes "values"))
+
+-- the command that splits a stream into the files of a directory
+abbrev pub split : App
+split = with_rule (with_rule (with_sizes (with_options (codes "split"))) (needed_rule (codes "IN")))
+    (needed_rule (codes "DIR"))
+
+-- the command that joins some streams
+abbrev pub join : App
+join = with_rule (with_options (codes "join")) files_rule
+
+-- the command that writes the stream of lines, with the option for their greatest length
+abbrev pub write : App
+write = with_input (with_rule (with_options (codes "write")) (option_rule (codes "line")))
+
 -- the commands for people
 abbrev pub people_program : App
 people_program =
     let top = (new_app (codes "gob")).top in
     let bare : App = record { top = record top { has_version = true; subcommand_required = true }; subs = [] } in
-    with_subcommand (with_subcommand (with_subcommand (with_subcommand (with_subcommand (with_subcommand bare
-    values.top) types.top) (one_stream (codes "why")).top) explain.top) verify.top)
-    (one_stream (codes "salvage")).top
+    with_subcommand (with_subcommand
+    (with_subcommand (with_subcommand (with_subcommand (with_subcommand (with_subcommand
+    (with_subcommand bare values.top) types.top) (one_stream (codes "why")).top) explain.top) verify.top)
+    (one_stream (codes "salvage")).top) split.top) join.top
 
 -- and those that write exactly what a stream has
 abbrev pub program : App
 program =
-    with_subcommand (with_subcommand (with_subcommand (with_subcommand (with_subcommand (with_subcommand people_program
-    (go_stream (codes "show")).top) (go_stream (codes "check")).top) rewrite.top) (two_streams (codes "take")).top)
-    (one_stream (codes "write")).top) (new_app (codes "version")).top
+    with_subcommand (with_subcommand (with_subcommand (with_subcommand (with_subcommand (with_subcommand
+    (with_subcommand people_program show.top) check.top) rewrite.top) (two_streams (codes "take")).top)
+    (two_streams (codes "convert")).top) write.top) (new_app (codes "version")).top
 
 -- ---- what they say
 
@@ -121,6 +155,7 @@ name_of chosen.Show = codes "show"
 name_of chosen.Check = codes "check"
 name_of chosen.Rewrite = codes "rewrite"
 name_of chosen.Take = codes "take"
+name_of chosen.Convert = codes "convert"
 
 -- one of the characters 0 to 9
 abbrev pub IsDigit : ℕ → Type 0
@@ -134,6 +169,7 @@ IsNumber (Some word) usual n = (0 < length word) × All IsDigit word × (n ≡ d
 -- the name of the file that has the wanted type
 abbrev pub wanted_in : Chosen → List Row → Option Text
 wanted_in chosen.Take rows = first_of (codes "WANTED") rows
+wanted_in chosen.Convert rows = first_of (codes "WANTED") rows
 wanted_in _ rows = None
 
 -- the text of a word
@@ -145,7 +181,7 @@ abbrev pub IsSet : Option Text → Type 0
 IsSet value = value ≡ Some (codes "true")
 
 -- clap met a subcommand with these rows, and this is the order that they make: none with a flag for Go's encoder, or
--- with the one for progress
+-- with the one for progress or for what isn't damaged
 pub record IsOrderOf (met : Option (Text × List Row)) (order : Order) : Type 0 where
   pub rows : List Row
   pub command : met ≡ Some (name_of order.command, rows)
@@ -153,6 +189,7 @@ pub record IsOrderOf (met : Option (Text × List Row)) (order : Order) : Type 0 
   pub plain : ¬ IsSet (first_of (codes "go") rows)
   pub in_place : ¬ IsSet (first_of (codes "hoist") rows)
   pub quiet : ¬ IsSet (first_of (codes "progress") rows)
+  pub whole : ¬ IsSet (first_of (codes "salvage") rows)
   pub input : text_of order.input ≡ first_of (codes "IN") rows
   pub depth : IsNumber (first_of (codes "depth") rows) 1000 order.depth
   pub item : IsNumber (first_of (codes "item") rows) 67108864 order.item

@@ -4,9 +4,10 @@ ghost use Rattle.std.specs.Prelude.{◌≡◌, IfOk, codes, false};
 ghost use Rattle.clap.specs.Words.{App, app_of, rule_of, with_subcommand};
 ghost use Rattle.clap.specs.declared.builder.Command.TheViews.{out-Command};
 ghost use Rattle.gob_words.specs.Words.{flag_rule, option_rule, with_flags, with_options, with_input, one_stream};
-ghost use Rattle.gob_words.specs.Words.{explain, go_stream, people_program, program, rewrite, two_streams, values};
+ghost use Rattle.gob_words.specs.Words.{check, explain, people_program, program, rewrite, show, two_streams, values};
 ghost use Rattle.gob_words.specs.Words.{kinds_rule, types, verify, with_elements, with_go_flags, with_parts};
-ghost use Rattle.gob_words.specs.Words.{with_progress, with_types};
+ghost use Rattle.gob_words.specs.Words.{files_rule, join, needed_rule, split, with_go, with_progress, with_salvage};
+ghost use Rattle.gob_words.specs.Words.{with_sizes, with_types, write};
 
 use crate::help;
 use clap::{Arg, ArgAction, Command};
@@ -20,15 +21,14 @@ pub(crate) fn program<'a>(alloc: Global) -> Result<Command<'a>, AllocError>
     ensures { IfOk result (λ command. app_of command ≡ program) }
 {
     let people = people_program(alloc)?;
-    let show = go_stream(alloc, "show", help::SHOW, help::DEPTH);
-    let showing = with_command(people, show)?;
-    let check = go_stream(alloc, "check", help::CHECK, help::DEPTH_WITH_GO);
-    let checking = with_command(showing, check)?;
+    let showing = with_command(people, show(alloc))?;
+    let checking = with_command(showing, check(alloc))?;
     let rewriting = with_command(checking, rewrite(alloc))?;
     let take = two_streams(alloc, "take", help::TAKE, help::DEPTH);
     let taking = with_command(rewriting, take)?;
-    let write = one_stream(alloc, "write", help::WRITE, help::DEPTH, help::LINES);
-    let writing = with_command(taking, write)?;
+    let convert = two_streams(alloc, "convert", help::CONVERT, help::DEPTH);
+    let converting = with_command(taking, convert)?;
+    let writing = with_command(converting, write(alloc))?;
     writing.subcommand(Command::new(alloc, "version").about(help::NAME_AND_VERSION))
 }
 
@@ -47,10 +47,10 @@ fn people_program<'a>(alloc: Global) -> Result<Command<'a>, AllocError>
     let telling = with_command(typing, why)?;
     let explaining = with_command(telling, explain(alloc))?;
     let verifying = with_command(explaining, verify(alloc))?;
-    with_command(
-        verifying,
-        one_stream(alloc, "salvage", help::SALVAGE, help::DEPTH, help::FILE),
-    )
+    let salvage = one_stream(alloc, "salvage", help::SALVAGE, help::DEPTH, help::FILE);
+    let salvaging = with_command(verifying, salvage)?;
+    let splitting = with_command(salvaging, split(alloc))?;
+    with_command(splitting, join(alloc))
 }
 
 // The command that shows values, with its options behind those that other commands have too.
@@ -61,7 +61,8 @@ fn values<'a>(alloc: Global) -> Result<Command<'a>, AllocError>
     let options = with_options(alloc, "values", help::VALUES, help::DEPTH)?;
     let flagged = with_flags(alloc, options)?;
     let typed = with_types(alloc, flagged)?;
-    with_input(alloc, with_elements(alloc, typed)?, help::FILE)
+    let spread = with_elements(alloc, typed)?;
+    with_input(alloc, with_salvage(alloc, spread)?, help::FILE)
 }
 
 // The command that shows types, with the flag for a program behind the options that other commands have too.
@@ -71,7 +72,8 @@ fn types<'a>(alloc: Global) -> Result<Command<'a>, AllocError>
 {
     let options = with_options(alloc, "types", help::TYPES, help::DEPTH)?;
     let flagged = options.arg(flag(alloc, "main", help::MAIN))?;
-    with_input(alloc, with_progress(alloc, flagged)?, help::FILE)
+    let telling = with_progress(alloc, flagged, help::PROGRESS)?;
+    with_input(alloc, with_salvage(alloc, telling)?, help::FILE)
 }
 
 // The command that reads some streams, with their names behind the options.
@@ -79,12 +81,64 @@ fn verify<'a>(alloc: Global) -> Result<Command<'a>, AllocError>
     ensures app { IfOk result (λ command. app_of command ≡ verify) }
     ensures local { IfOk result (λ command. (out-Command command).has_globals ≡ false) }
 {
-    let files = Arg::new(alloc, "FILE")
-        .required(true)
-        .action(ArgAction::Append)
-        .help(help::FILES);
     let options = with_options(alloc, "verify", help::VERIFY, help::DEPTH)?;
-    with_progress(alloc, options)?.arg(files)
+    with_progress(alloc, options, help::PROGRESS)?.arg(files(alloc))
+}
+
+// The command that joins some streams, with their names behind the options.
+fn join<'a>(alloc: Global) -> Result<Command<'a>, AllocError>
+    ensures app { IfOk result (λ command. app_of command ≡ join) }
+    ensures local { IfOk result (λ command. (out-Command command).has_globals ≡ false) }
+{
+    with_options(alloc, "join", help::JOIN, help::DEPTH)?.arg(files(alloc))
+}
+
+// The names of one or more streams.
+fn files<'a>(alloc: Global) -> Arg<'a>
+    ensures rule { rule_of result ≡ files_rule }
+    ensures local { result.global ≡ false }
+{
+    needed(alloc, "FILE", help::FILES).action(ArgAction::Append)
+}
+
+// The command that splits a stream, with the options for the size of a part and the directory behind the stream.
+fn split<'a>(alloc: Global) -> Result<Command<'a>, AllocError>
+    ensures app { IfOk result (λ command. app_of command ≡ split) }
+    ensures local { IfOk result (λ command. (out-Command command).has_globals ≡ false) }
+{
+    let options = with_options(alloc, "split", help::SPLIT, help::DEPTH)?;
+    with_sizes(alloc, options)?
+        .arg(needed(alloc, "IN", help::SPLIT_INPUT))?
+        .arg(needed(alloc, "DIR", help::DIRECTORY))
+}
+
+// The command with the options for the size of a part.
+fn with_sizes<'a>(alloc: Global, command: Command<'a>) -> Result<Command<'a>, AllocError>
+    requires { (out-Command command).has_globals ≡ false }
+    ensures app { IfOk result (λ more. app_of more ≡ with_sizes (app_of command.entry)) }
+    ensures local { IfOk result (λ more. (out-Command more).has_globals ≡ false) }
+{
+    command
+        .arg(option(alloc, "size", "SIZE", help::SIZE))?
+        .arg(option(alloc, "values", NUMBER, help::PART_VALUES))
+}
+
+// A file that a command can't do without.
+fn needed<'a>(alloc: Global, name: &'a str, about: &'a str) -> Arg<'a>
+    ensures rule { rule_of result ≡ needed_rule name.now }
+    ensures local { result.global ≡ false }
+{
+    Arg::new(alloc, name).required(true).help(about)
+}
+
+// The command that writes the stream of lines, with the option for their greatest length.
+fn write<'a>(alloc: Global) -> Result<Command<'a>, AllocError>
+    ensures app { IfOk result (λ command. app_of command ≡ write) }
+    ensures local { IfOk result (λ command. (out-Command command).has_globals ≡ false) }
+{
+    let options = with_options(alloc, "write", help::WRITE, help::DEPTH)?;
+    let measured = options.arg(option(alloc, "line", NUMBER, help::LINE))?;
+    with_input(alloc, measured, help::LINES)
 }
 
 // The command that explains bytes, with a flag and an option behind those that other commands have too.
@@ -105,19 +159,40 @@ fn rewrite<'a>(alloc: Global) -> Result<Command<'a>, AllocError>
     with_input(alloc, with_go_flags(alloc, options)?, help::INPUT)
 }
 
-// A command that reads one stream, with the flag for Go's encoder behind the options that other commands have too.
-fn go_stream<'a>(
+// The command that shows items.
+fn show<'a>(alloc: Global) -> Result<Command<'a>, AllocError>
+    ensures app { IfOk result (λ command. app_of command ≡ show) }
+    ensures local { IfOk result (λ command. (out-Command command).has_globals ≡ false) }
+{
+    let flagged = with_go(alloc, "show", help::SHOW, help::DEPTH)?;
+    with_input(alloc, with_salvage(alloc, flagged)?, help::INPUT)
+}
+
+// The command that counts items.
+fn check<'a>(alloc: Global) -> Result<Command<'a>, AllocError>
+    ensures app { IfOk result (λ command. app_of command ≡ check) }
+    ensures local { IfOk result (λ command. (out-Command command).has_globals ≡ false) }
+{
+    with_input(
+        alloc,
+        with_go(alloc, "check", help::CHECK, help::DEPTH_WITH_GO)?,
+        help::INPUT,
+    )
+}
+
+// A command with the flags for Go's encoder and for progress behind the options that each has.
+fn with_go<'a>(
     alloc: Global,
     name: &'a str,
     about: &'a str,
     depth: &'a str,
 ) -> Result<Command<'a>, AllocError>
-    ensures app { IfOk result (λ command. app_of command ≡ go_stream name.now) }
+    ensures app { IfOk result (λ command. app_of command ≡ with_go name.now) }
     ensures local { IfOk result (λ command. (out-Command command).has_globals ≡ false) }
 {
     let options = with_options(alloc, name, about, depth)?;
     let flagged = options.arg(flag(alloc, "go", help::GO))?;
-    with_input(alloc, with_progress(alloc, flagged)?, help::INPUT)
+    with_progress(alloc, flagged, help::PROGRESS_WITH_GO)
 }
 
 // The program with one command more, where that was made. Here alone a program is dropped.
@@ -223,7 +298,7 @@ fn with_elements<'a>(alloc: Global, command: Command<'a>) -> Result<Command<'a>,
     ensures local { IfOk result (λ more. (out-Command more).has_globals ≡ false) }
 {
     let flagged = command.arg(flag(alloc, "each", help::EACH))?;
-    with_progress(alloc, flagged.arg(kinds(alloc))?)
+    with_progress(alloc, flagged.arg(kinds(alloc))?, help::PROGRESS)
 }
 
 // The option that says what the bytes of a type are: of several types where it is given several times.
@@ -235,12 +310,25 @@ fn kinds<'a>(alloc: Global) -> Arg<'a>
 }
 
 // The command with the flag for which it is told how far the reading is.
-fn with_progress<'a>(alloc: Global, command: Command<'a>) -> Result<Command<'a>, AllocError>
+fn with_progress<'a>(
+    alloc: Global,
+    command: Command<'a>,
+    about: &'a str,
+) -> Result<Command<'a>, AllocError>
     requires { (out-Command command).has_globals ≡ false }
     ensures app { IfOk result (λ more. app_of more ≡ with_progress (app_of command.entry)) }
     ensures local { IfOk result (λ more. (out-Command more).has_globals ≡ false) }
 {
-    command.arg(flag(alloc, "progress", help::PROGRESS))
+    command.arg(flag(alloc, "progress", about))
+}
+
+// The command with the flag for which what isn't damaged is shown.
+fn with_salvage<'a>(alloc: Global, command: Command<'a>) -> Result<Command<'a>, AllocError>
+    requires { (out-Command command).has_globals ≡ false }
+    ensures app { IfOk result (λ more. app_of more ≡ with_salvage (app_of command.entry)) }
+    ensures local { IfOk result (λ more. (out-Command more).has_globals ≡ false) }
+{
+    command.arg(flag(alloc, "salvage", help::KEPT))
 }
 
 // The command with the flags that say that Go's encoder wrote the stream, and where definitions are to stand.

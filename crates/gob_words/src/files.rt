@@ -10,8 +10,9 @@ use clap::ArgMatches;
 use clap::error::ErrorKind;
 use std::alloc::{AllocError, Global};
 
-/// The names of the files that the words ask to be verified, in order, the program's name first among the words. Words
-/// for which [`crate::view_of`] gives no [`crate::ViewCommand::Verify`] name none.
+/// The names of the files that the words ask to be verified or joined, in order, the program's name first among the
+/// words. Words for which [`crate::view_of`] gives neither [`crate::ViewCommand::Verify`] nor
+/// [`crate::ViewCommand::Join`] name none.
 pub fn files_of<'a>(alloc: Global, words: &'a [&'a str]) -> Result<Vec<&'a str>, AllocError>
     ensures { let asked = map (λ word. word.now) words.entry.now in
         HasNoFault asked → IfOk result (λ files.

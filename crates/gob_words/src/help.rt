@@ -21,6 +21,10 @@ pub(crate) const VERIFY: &str =
 pub(crate) const SALVAGE: &str =
     "Write what isn't damaged of a stream as one stream, and say what is left out";
 
+pub(crate) const SPLIT: &str = "Write a stream as files of a directory, each a whole stream";
+
+pub(crate) const JOIN: &str = "Write the values of some streams, in order, as one stream";
+
 /// The exact commands.
 pub(crate) const SHOW: &str = "Print each item of a stream as a line of JSON";
 
@@ -30,6 +34,9 @@ pub(crate) const CHECK: &str =
 pub(crate) const REWRITE: &str = "Write a stream anew, without the fields that are zero";
 
 pub(crate) const TAKE: &str = "Print each value as one of the type of the first value in WANTED";
+
+pub(crate) const CONVERT: &str =
+    "Write the stream of the values as those of the type of the first value in WANTED";
 
 pub(crate) const WRITE: &str = "Write the stream that lines of JSON say, as show prints them";
 
@@ -72,6 +79,11 @@ pub(crate) const MAIN: &str = "Print a program that reads the stream and prints 
 
 pub(crate) const PROGRESS: &str = "Say on standard error how far it is";
 
+pub(crate) const PROGRESS_WITH_GO: &str = "With --go, say on standard error how far it is";
+
+pub(crate) const KEPT: &str =
+    "Show what isn't damaged, as salvage keeps it, and say on standard error what is left out";
+
 pub(crate) const FAULT: &str = "Show the item that is refused alone";
 
 pub(crate) const AT: &str = "Show the item around the byte at this offset alone";
@@ -85,6 +97,20 @@ pub(crate) const FILE: &str = "The stream; without it, or where it is -, standar
 pub(crate) const LINES: &str = "The lines; without it, or where it is -, standard input is read";
 
 pub(crate) const FILES: &str = "The streams";
+
+pub(crate) const LINE: &str =
+    "Refuse lines of more bytes: 0 to 18446744073709551615, and 268435456 without it";
+
+pub(crate) const SIZE: &str =
+    "End a file with the value with which it has as many bytes: a number, \
+    or one with K, M or G, for units of 2^10, 2^20 or 2^30 bytes; 64M without it";
+
+pub(crate) const PART_VALUES: &str = "End a file with the value with which it has as many";
+
+pub(crate) const SPLIT_INPUT: &str = "The stream; where it is -, standard input is read";
+
+pub(crate) const DIRECTORY: &str =
+    "Where the files 0000.gob, 0001.gob and so on are made; it is made if it isn't there";
 
 /// How it is used, how it ends, and what to do about the commonest faults.
 pub(crate) const USE: &str = "\

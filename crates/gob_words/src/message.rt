@@ -49,6 +49,26 @@ pub(crate) fn number_line(
     escaped(alloc, line.as_str())
 }
 
+/// Says in clap's words that what was given for `--size` is no size.
+pub(crate) fn size_line(alloc: Global, word: &str) -> Result<String, AllocError>
+    ensures { IfOk result (λ line. IsUnobeyed (string_bytes line)) }
+{
+    let line = format!(in alloc;
+        "invalid value '{word}' for '--size <SIZE>': no number, and no number and K, M or G"
+    )?;
+    escaped(alloc, line.as_str())
+}
+
+/// Says in clap's words that a part has one size.
+pub(crate) fn sizes_line(alloc: Global) -> Result<String, AllocError>
+    ensures { IfOk result (λ line. IsUnobeyed (string_bytes line)) }
+{
+    escaped(
+        alloc,
+        "the argument '--size <SIZE>' cannot be used with '--values <N>'",
+    )
+}
+
 /// Says in clap's words that what was given for `--as` says nothing of a type.
 pub(crate) fn kind_line(alloc: Global, word: &str) -> Result<String, AllocError>
     ensures { IfOk result (λ line. IsUnobeyed (string_bytes line)) }

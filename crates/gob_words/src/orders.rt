@@ -68,7 +68,7 @@ fn order_in<'a>(matches: &ArgMatches<'a>) -> Option<Order<'a>>
     if is_set(matches.get_str("go")) || is_set(matches.get_str("hoist")) {
         return None;
     }
-    if is_set(matches.get_str("progress")) {
+    if is_set(matches.get_str("progress")) || is_set(matches.get_str("salvage")) {
         return None;
     }
     let wanted = wanted_in(command, matches);
@@ -103,6 +103,7 @@ fn command_of(name: &str) -> Option<Chosen>
         "check" => Some(Chosen::Check),
         "rewrite" => Some(Chosen::Rewrite),
         "take" => Some(Chosen::Take),
+        "convert" => Some(Chosen::Convert),
         _ => None,
     }
 }
@@ -113,6 +114,6 @@ fn wanted_in<'a>(command: Chosen, matches: &ArgMatches<'a>) -> Option<&'a str>
 {
     match command {
         Chosen::Show | Chosen::Check | Chosen::Rewrite => None,
-        Chosen::Take => matches.get_str("WANTED"),
+        Chosen::Take | Chosen::Convert => matches.get_str("WANTED"),
     }
 }

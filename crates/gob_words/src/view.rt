@@ -28,6 +28,10 @@ pub enum ViewCommand {
     Verify,
     /// What isn't damaged of a stream, in its own bytes, as one stream.
     Salvage,
+    /// A stream as files of a directory, each a whole stream.
+    Split,
+    /// The values of some streams, in order, as one stream.
+    Join,
     /// The stream that lines of JSON say, as [`ViewCommand::ShowGo`] and `show` alone write them, without `--go`.
     Write,
     /// The program's name and version.
@@ -41,7 +45,8 @@ pub enum ViewCommand {
 }
 
 /// What the words ask to be shown. [`ViewCommand::Version`] reads no file, and its other fields are the usual ones. The
-/// files of [`ViewCommand::Verify`] are those of [`crate::files_of`], and `input` is none of them.
+/// files of [`ViewCommand::Verify`] and [`ViewCommand::Join`] are those of [`crate::files_of`], and `input` is none of
+/// them. The directory of [`ViewCommand::Split`] is that of [`crate::splitting_of`].
 #[derive(Debug, Drop)]
 pub struct View<'a> {
     /// What to show.
@@ -72,6 +77,9 @@ pub struct View<'a> {
     /// Whether it is told on standard error how far the reading is: for [`ViewCommand::Values`], `Types`, `Verify`,
     /// `ShowGo` and `CheckGo` alone.
     pub progress: bool,
+    /// Whether what is shown is what isn't damaged, as [`ViewCommand::Salvage`] keeps it: for [`ViewCommand::Values`],
+    /// `Types` and `ShowGo` alone.
+    pub salvage: bool,
     /// Whether each definition in a value stands in an item of its own before the value's: for
     /// [`ViewCommand::RewriteGo`] alone.
     pub hoist: bool,
@@ -80,6 +88,8 @@ pub struct View<'a> {
     /// The offset in the stream of a byte of the item that is shown alone: for [`ViewCommand::Explain`] alone, where
     /// `fault` isn't asked for.
     pub at: Option<u64>,
+    /// The most bytes of a line, with its line feed: for [`ViewCommand::Write`] alone.
+    pub line: u64,
     pub ghost least: { 1 ≤ depth },
     pub ghost most: { depth ≤ greatest_view_depth },
 }

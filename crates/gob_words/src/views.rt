@@ -43,6 +43,9 @@ pub fn view_of<'a>(alloc: Global, words: &'a [&'a str]) -> Result<View<'a>, View
     }
 }
 
+// The most bytes of a line that is read, with its line feed, where the words don't say it.
+const USUAL_LINE: u64 = 268435456;
+
 // What the option that asks for the version stands for.
 fn version_view<'a>(alloc: Global) -> View<'a>
     ensures { IsVersionView result }
@@ -61,9 +64,11 @@ fn version_view<'a>(alloc: Global) -> View<'a>
         kinds: Vec::new(alloc),
         main: false,
         progress: false,
+        salvage: false,
         hoist: false,
         fault: false,
         at: None,
+        line: USUAL_LINE,
     }
 }
 
@@ -103,12 +108,18 @@ fn view_in<'a>(matches: &ArgMatches<'a>, kinds: Vec<TypeKind>) -> Option<View<'a
 {
     let (name, matches) = matches.subcommand()?;
     let command = command_of(name)?;
-    if !is_asked(command, matches.get_str("go"), matches.get_str("hoist")) {
+    if !is_asked(
+        command,
+        matches.get_str("go"),
+        matches.get_str("hoist"),
+        matches.get_str("salvage"),
+    ) {
         return None;
     }
     let depth = number_of(matches.get_str("depth"), USUAL_DEPTH)?;
     let item = number_of(matches.get_str("item"), USUAL_ITEM)?;
     let at = place_of(command, matches.get_str("at"))?;
+    let line = number_of(matches.get_str("line"), USUAL_LINE)?;
     if depth < 1 || depth > GREATEST_DEPTH {
         return None;
     }
@@ -126,9 +137,11 @@ fn view_in<'a>(matches: &ArgMatches<'a>, kinds: Vec<TypeKind>) -> Option<View<'a
         kinds,
         main: is_set(matches.get_str("main")),
         progress: is_set(matches.get_str("progress")),
+        salvage: is_set(matches.get_str("salvage")),
         hoist: is_hoist_asked(command, matches.get_str("hoist")),
         fault: is_fault_asked(command, matches.get_str("fault")),
         at,
+        line,
     })
 }
 
@@ -144,6 +157,8 @@ fn command_of(name: &str) -> Option<ViewCommand>
         "explain" => Some(ViewCommand::Explain),
         "verify" => Some(ViewCommand::Verify),
         "salvage" => Some(ViewCommand::Salvage),
+        "split" => Some(ViewCommand::Split),
+        "join" => Some(ViewCommand::Join),
         "write" => Some(ViewCommand::Write),
         "version" => Some(ViewCommand::Version),
         "show" => Some(ViewCommand::ShowGo),
@@ -153,14 +168,21 @@ fn command_of(name: &str) -> Option<ViewCommand>
     }
 }
 
-// Whether the command is a view, by clap's values of the flags for Go's encoder: an exact command is one with such a
-// flag alone.
-fn is_asked(command: ViewCommand, go: Option<&str>, hoist: Option<&str>) -> bool
-    ensures { MatchBool result (IsAskedFor command (text_of go.entry) (text_of hoist.entry))
-        (¬ IsAskedFor command (text_of go.entry) (text_of hoist.entry)) }
+// Whether the command is a view, by clap's values of the flags for streams of Go's encoder: an exact command is one
+// with such a flag alone.
+fn is_asked(
+    command: ViewCommand,
+    go: Option<&str>,
+    hoist: Option<&str>,
+    salvage: Option<&str>,
+) -> bool
+    ensures { MatchBool result
+        (IsAskedFor command (text_of go.entry) (text_of hoist.entry) (text_of salvage.entry))
+        (¬ IsAskedFor command (text_of go.entry) (text_of hoist.entry) (text_of salvage.entry)) }
 {
     match command {
-        ViewCommand::ShowGo | ViewCommand::CheckGo => is_set(go),
+        ViewCommand::ShowGo => is_set(go) || is_set(salvage),
+        ViewCommand::CheckGo => is_set(go),
         ViewCommand::RewriteGo => is_set(go) || is_set(hoist),
         ViewCommand::Values
         | ViewCommand::Types
@@ -168,6 +190,8 @@ fn is_asked(command: ViewCommand, go: Option<&str>, hoist: Option<&str>) -> bool
         | ViewCommand::Explain
         | ViewCommand::Verify
         | ViewCommand::Salvage
+        | ViewCommand::Split
+        | ViewCommand::Join
         | ViewCommand::Write
         | ViewCommand::Version => true,
     }
@@ -184,6 +208,8 @@ fn is_fault_asked(command: ViewCommand, value: Option<&str>) -> bool
         | ViewCommand::Why
         | ViewCommand::Verify
         | ViewCommand::Salvage
+        | ViewCommand::Split
+        | ViewCommand::Join
         | ViewCommand::Write
         | ViewCommand::Version
         | ViewCommand::ShowGo
@@ -204,6 +230,8 @@ fn is_hoist_asked(command: ViewCommand, value: Option<&str>) -> bool
         | ViewCommand::Explain
         | ViewCommand::Verify
         | ViewCommand::Salvage
+        | ViewCommand::Split
+        | ViewCommand::Join
         | ViewCommand::Write
         | ViewCommand::Version
         | ViewCommand::ShowGo
@@ -223,6 +251,8 @@ fn place_of(command: ViewCommand, word: Option<&str>) -> Option<Option<u64>>
         | ViewCommand::Why
         | ViewCommand::Verify
         | ViewCommand::Salvage
+        | ViewCommand::Split
+        | ViewCommand::Join
         | ViewCommand::Write
         | ViewCommand::Version
         | ViewCommand::ShowGo
@@ -256,6 +286,8 @@ fn is_given(command: ViewCommand, value: Option<&str>) -> bool
         | ViewCommand::Explain
         | ViewCommand::Verify
         | ViewCommand::Salvage
+        | ViewCommand::Split
+        | ViewCommand::Join
         | ViewCommand::Write
         | ViewCommand::Version
         | ViewCommand::ShowGo
@@ -275,6 +307,8 @@ fn only_of<'a>(command: ViewCommand, word: Option<&'a str>) -> Option<&'a str>
         | ViewCommand::Explain
         | ViewCommand::Verify
         | ViewCommand::Salvage
+        | ViewCommand::Split
+        | ViewCommand::Join
         | ViewCommand::Write
         | ViewCommand::Version
         | ViewCommand::ShowGo
@@ -303,24 +337,29 @@ fn number_fault(alloc: Global, matches: &ArgMatches<'_>) -> ViewFault
     let Some(command) = command_of(name) else {
         return ViewFault::Order(OrderFault::Words);
     };
-    if !is_asked(command, matches.get_str("go"), matches.get_str("hoist")) {
+    if !is_asked(
+        command,
+        matches.get_str("go"),
+        matches.get_str("hoist"),
+        matches.get_str("salvage"),
+    ) {
         return ViewFault::Order(OrderFault::Words);
     }
-    let line = match matches.get_str("depth") {
-        Some(word) if !is_number(word, 1, GREATEST_DEPTH) => {
-            number_line(alloc, "depth", word, 1, GREATEST_DEPTH)
-        }
-        _ => match matches.get_str("item") {
-            Some(word) if !is_number(word, 0, u64::MAX) => {
-                number_line(alloc, "item", word, 0, u64::MAX)
-            }
-            _ => match matches.get_str("at") {
-                Some(word) => number_line(alloc, "at", word, 0, u64::MAX),
-                None => return ViewFault::Order(OrderFault::Words),
-            },
-        },
-    };
-    said(line)
+    if let Some(word) = matches.get_str("depth")
+        && !is_number(word, 1, GREATEST_DEPTH)
+    {
+        return said(number_line(alloc, "depth", word, 1, GREATEST_DEPTH));
+    }
+    if let Some(word) = matches.get_str("item")
+        && !is_number(word, 0, u64::MAX)
+    {
+        return said(number_line(alloc, "item", word, 0, u64::MAX));
+    }
+    match (matches.get_str("at"), matches.get_str("line")) {
+        (Some(word), _) => said(number_line(alloc, "at", word, 0, u64::MAX)),
+        (None, Some(word)) => said(number_line(alloc, "line", word, 0, u64::MAX)),
+        (None, None) => ViewFault::Order(OrderFault::Words),
+    }
 }
 
 fn is_number(word: &str, least: u64, most: u64) -> bool {
@@ -345,7 +384,8 @@ fn word_fault<D: Display>(alloc: Global, words: &[&str], kind: ErrorKind, shown:
 fn names_view(words: &[&str]) -> bool {
     match words.get(1) {
         Some(name) => match command_of(name) {
-            Some(ViewCommand::ShowGo | ViewCommand::CheckGo) => has_flag(words, "--go"),
+            Some(ViewCommand::ShowGo) => has_flag(words, "--go") || has_flag(words, "--salvage"),
+            Some(ViewCommand::CheckGo) => has_flag(words, "--go"),
             Some(ViewCommand::RewriteGo) => has_flag(words, "--go") || has_flag(words, "--hoist"),
             Some(_) => true,
             None => false,

@@ -15,6 +15,8 @@ verify --depth 5 a --item 7 - b
 a - b
 verify a -- --go -
 a --go -
+join a - b
+a - b
 values a
 
 verify

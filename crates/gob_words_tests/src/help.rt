@@ -40,10 +40,13 @@ Usage: gob <COMMAND>
   explain 
   verify 
   salvage 
+  split 
+  join 
   show 
   check 
   rewrite 
   take 
+  convert 
   version 
   help 
   -V, --version

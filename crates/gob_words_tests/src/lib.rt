@@ -10,6 +10,8 @@ mod lines;
 #[cfg(test)]
 mod paths;
 #[cfg(test)]
+mod splits;
+#[cfg(test)]
 mod views;
 #[cfg(test)]
 mod words;

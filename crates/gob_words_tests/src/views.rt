@@ -74,8 +74,26 @@ types --main f
 Types Some("f") 1000 67108864 None main
 types --progress --main
 Types None 1000 67108864 None main progress
+split a b
+Split Some("a") 1000 67108864 None
+split --depth 9 - d --size 3M
+Split None 9 67108864 None
+join --item 7 a b
+Join None 1000 7 None
+write f
+Write Some("f") 1000 67108864 None
+write --line 7
+Write None 1000 67108864 None line 7
 verify --progress a.gob
 Verify None 1000 67108864 None progress
+values --salvage f
+Values Some("f") 1000 67108864 None salvage
+types --main --salvage
+Types None 1000 67108864 None main salvage
+show --salvage f
+ShowGo Some("f") 1000 67108864 None salvage
+show --go --salvage --progress -
+ShowGo None 1000 67108864 None progress salvage
 show --progress --go f
 ShowGo Some("f") 1000 67108864 None progress
 check --go --progress
@@ -117,6 +135,7 @@ fn shown(alloc: Global, view: &View<'_>) -> Result<String, AllocError> {
         (view.each, " each"),
         (view.main, " main"),
         (view.progress, " progress"),
+        (view.salvage, " salvage"),
         (view.hoist, " hoist"),
         (view.fault, " fault"),
     ] {
@@ -127,6 +146,10 @@ fn shown(alloc: Global, view: &View<'_>) -> Result<String, AllocError> {
     if let Some(only) = view.only {
         text.push_str(" only ")?;
         text.push_str(only)?;
+    }
+    let line = view.line;
+    if line != 268435456 {
+        write!(text, " line {line}")?;
     }
     push_kinds(&view.kinds, &mut text)?;
     Ok(text)
@@ -173,6 +196,7 @@ fn words_give_views(rt: HostRuntime) {
 const NO_ORDERS: &str = "\
 show --go
 show --depth 1000 f --go
+show --salvage
 check --go
 check --depth 1000 f --go
 rewrite --go
@@ -182,6 +206,7 @@ rewrite --hoist f";
 // Words that are orders, since a file is named as the flag.
 const FILES: &str = "\
 show -- --go
+show -- --salvage
 check -- --go
 rewrite -- --go
 rewrite -- --hoist";
@@ -262,10 +287,24 @@ show --progress f
 gob: bad arguments
 check --progress f
 gob: bad arguments
+check --go --salvage
+gob: unexpected argument '--salvage' found
+why --salvage f
+gob: unexpected argument '--salvage' found
+show --salvage f g
+gob: unexpected argument 'g' found
 rewrite --go --progress f
 gob: unexpected argument '--progress' found
 verify
 gob: the following required arguments were not provided: <FILE>...
+join
+gob: the following required arguments were not provided: <FILE>...
+split a
+gob: the following required arguments were not provided: <DIR>
+write --line x
+gob: invalid value 'x' for '--line <N>': no number from 0 to 18446744073709551615
+values --line 5
+gob: unexpected argument '--line' found
 verify f --depth 0
 gob: invalid value '0' for '--depth <N>': no number from 1 to 1000
 values --deep 5

@@ -18,6 +18,8 @@ rewrite f --item=0 --depth=65536
 Rewrite None Some("f") 65536 0
 take w --item 18446744073709551615 a
 Take Some("w") Some("a") 1000 18446744073709551615
+convert --depth 7 w
+Convert Some("w") None 7 67108864
 show --depth 007 -- --depth
 Show None Some("--depth") 7 67108864
 "#;
@@ -94,6 +96,9 @@ show --zeros
 take --raw w
 take
 take w a b
+convert
+convert w a b
+convert --depth 1001 w
 --depth 5 show
 help list
 --version
@@ -107,6 +112,7 @@ show --depth 1 a
 show --depth 1000 a
 show --depth 0001000 a
 take --depth 1000 w a
+convert --depth 1000 w a
 check --depth 1001 a
 check --depth 65536 a
 rewrite --depth 65536 a
@@ -122,6 +128,7 @@ help
 help show
 help check
 help take
+help convert
 show --help
 take -h
 check f --help

@@ -11,8 +11,8 @@ use Rattle.json.specs.Word.{is_operator, is_space}
 use Rattle.json.specs.Lex.{Lexeme, Mode, lex, lex_byte, between, in_string, operator, space, other}
 use Rattle.json.specs.Print.{escape_byte}
 use Rattle.json.proofs.Printed.Strings.{escape_byte_plain}
-use Rattle.json_controls.specs.declared.held.Held.{Held}
-use Rattle.json_controls.specs.declared.held.Held.TheVariants as held
+use Rattle.json_controls.specs.declared.held.HeldBack.{HeldBack}
+use Rattle.json_controls.specs.declared.held.HeldBack.TheVariants as held
 use Rattle.json_controls.specs.Controls.{held_bytes, is_control, code, escape_of}
 use Rattle.json_controls.proofs.StepLaws.{are_small, is_small_text}
 
@@ -54,7 +54,7 @@ plain_read x q b l = record {
   lexed = λ r. rw (ne_eqb x 34 q, ne_eqb x 92 b) (stays_inside (is_operator x) (is_space x) x r (λ m. lex m r));
 }
 
-pub held_read : (h : Held) → Reads (held_bytes h) (held_bytes h)
+pub held_read : (h : HeldBack) → Reads (held_bytes h) (held_bytes h)
 unfolding content lex
 held_read held.Nothing = record { read = λ r. sym (prepend_nothing (content plain r)); lexed = λ r. refl }
 held_read held.Latin = plain_read 0xc2 (λ e. omega arith) (λ e. omega arith) (omega arith)
@@ -229,7 +229,7 @@ small_escape x h = small_sound 127 all_small x h
 
 -- ---- control characters
 
-abbrev ControlReads : Held → ℕ → Type 0
+abbrev ControlReads : HeldBack → ℕ → Type 0
 ControlReads h x = Reads (escape_of (code h x)) (held_bytes h ++ x ∷ [])
 
 delete_read : ControlReads held.Nothing 0x7f
@@ -393,7 +393,7 @@ in_range : (P : ℕ → Type 0) (low n x : ℕ) → Each (λ k. P (low + k)) n �
 in_range P low n x h a b =
     let is : low + (x - low) ≡ x = omega arith in subst P is (each_sound (λ k. P (low + k)) n h (x - low) (omega arith))
 
-pub control_read : (h : Held) (x : ℕ) → is_control h x ≡ true → ControlReads h x
+pub control_read : (h : HeldBack) (x : ℕ) → is_control h x ≡ true → ControlReads h x
 control_read held.Nothing x e = subst (ControlReads held.Nothing) (sym (eqb-true x 0x7f e)) delete_read
 control_read held.Latin x e =
     let p = and_parts _ _ e in

@@ -14,8 +14,8 @@ use Rattle.json.specs.Print.{IsPrintable, ArePrintable}
 use Rattle.json.proofs.Printed.Strings.{escape_byte_plain, content-escape, lex-escape}
 use Rattle.json.proofs.Printed.Numbers.{lex-number, in_word-ended}
 use Rattle.json.proofs.Printed.Tokens.{tokens-print}
-use Rattle.json_controls.specs.declared.held.Held.{Held}
-use Rattle.json_controls.specs.declared.held.Held.TheVariants as held
+use Rattle.json_controls.specs.declared.held.HeldBack.{HeldBack}
+use Rattle.json_controls.specs.declared.held.HeldBack.TheVariants as held
 use Rattle.json_controls.specs.Controls.{held_bytes, is_control, code, next, is_nothing, escape_of, shown}
 use Rattle.json_controls.proofs.StepLaws.{shown_control, shown_copied, shown_held, small_shown, next_bytes}
 use Rattle.json_controls.proofs.StepLaws.{nothing_is, smalls_shown, text_shown}
@@ -29,12 +29,12 @@ use Rattle.json_controls.proofs.TokenLaws.{json_printable}
 -- ---- strings
 
 -- the rest of a string, in which s is escaped, reads as those bytes that are held back and s, and ends where it ended
-pub record ReadsRest (h : Held) (s r : List ℕ) : Type 0 where
+pub record ReadsRest (h : HeldBack) (s r : List ℕ) : Type 0 where
   pub read : content plain (shown h (escape s ++ 34 ∷ r)) ≡ Some (held_bytes h ++ s)
   pub lexed : lex in_string (shown h (escape s ++ 34 ∷ r)) ≡ lex between (shown held.Nothing r)
 
 -- bytes that stand for others stand before a rest
-rest_behind : {e b : List ℕ} (h : Held) (s t r : List ℕ) (rest : List ℕ) → Reads e b
+rest_behind : {e b : List ℕ} (h : HeldBack) (s t r : List ℕ) (rest : List ℕ) → Reads e b
     → shown h (escape s ++ 34 ∷ r) ≡ e ++ rest → content plain rest ≡ Some t → b ++ t ≡ held_bytes h ++ s
     → lex in_string rest ≡ lex between (shown held.Nothing r) → ReadsRest h s r
 rest_behind {e = e} {b = b} h s t r rest reads is c same l = record {
@@ -42,12 +42,12 @@ rest_behind {e = e} {b = b} h s t r rest reads is c same l = record {
   lexed = ap (lex in_string) is ∙ reads.lexed rest ∙ l;
 }
 
-string_ends : (h : Held) (r : List ℕ) → ReadsRest h [] r
+string_ends : (h : HeldBack) (r : List ℕ) → ReadsRest h [] r
 unfolding content lex
 string_ends h r =
     rest_behind h [] [] r (34 ∷ shown held.Nothing r) (held_read h) (small_shown h 34 r (omega arith)) refl refl refl
 
-string_goes_on : (x : ℕ) (s : List ℕ) (h : Held) (r : List ℕ) → ((k : Held) → ReadsRest k s r) → ReadsRest h (x ∷ s) r
+string_goes_on : (x : ℕ) (s : List ℕ) (h : HeldBack) (r : List ℕ) → ((k : HeldBack) → ReadsRest k s r) → ReadsRest h (x ∷ s) r
 string_goes_on x s h r behind_it = by (cases_lt x 127)
   where
     rest : List ℕ
@@ -100,7 +100,7 @@ string_goes_on x s h r behind_it = by (cases_lt x 127)
         (append_assoc (held_bytes h) (x ∷ []) s)
     by (inr l) = large l (cases_Bool (is_control h x)) (cases_Bool (is_nothing (next h x)))
 
-pub string_reads : (s : List ℕ) (h : Held) (r : List ℕ) → ReadsRest h s r
+pub string_reads : (s : List ℕ) (h : HeldBack) (r : List ℕ) → ReadsRest h s r
 string_reads [] h r = string_ends h r
 string_reads (x ∷ s) h r = string_goes_on x s h r (λ k. string_reads s k r)
 

@@ -5,8 +5,8 @@ use Rattle.std.proofs.Common.{◌==◌, nat_le, length, get_or, drop}
 use Rattle.std.proofs.lemmas.Bool.{ne_eqb, eqb-true, lt-leb, lt-ltb, ltb-true, and_parts, and_from}
 use Rattle.std.proofs.lemmas.Bool.{cases_Bool, true≢false}
 use Rattle.std.proofs.lemmas.List.{append-nil, at_drop_more}
-use Rattle.json_controls.specs.declared.held.Held.{Held}
-use Rattle.json_controls.specs.declared.held.Held.TheVariants as held
+use Rattle.json_controls.specs.declared.held.HeldBack.{HeldBack}
+use Rattle.json_controls.specs.declared.held.HeldBack.TheVariants as held
 use Rattle.json_controls.specs.Controls.{held_bytes, is_control, code, begun, next, after, is_nothing, escape_of}
 use Rattle.json_controls.specs.Controls.{AreBelowControls, emitted, shown, shown_text}
 
@@ -21,7 +21,7 @@ small_begun x h =
       ne_eqb x 0xef (λ e. omega arith),
     ) refl
 
-small_control : (h : Held) (x : ℕ) → x < 127 → is_control h x ≡ false
+small_control : (h : HeldBack) (x : ℕ) → x < 127 → is_control h x ≡ false
 small_control held.Nothing x l = ne_eqb x 0x7f (λ e. omega arith)
 small_control held.Latin x l = ap (λ b. b && nat_le x 0x9f) (lt-leb 0x80 x (omega arith))
 small_control held.Arabic x l = ne_eqb x 0x9c (λ e. omega arith)
@@ -32,7 +32,7 @@ small_control held.Isolates x l = ap (λ b. b && nat_le x 0xa9) (lt-leb 0xa6 x (
 small_control held.High x l = refl
 small_control held.Forms x l = ne_eqb x 0xbf (λ e. omega arith)
 
-small_next : (h : Held) (x : ℕ) → x < 127 → next h x ≡ held.Nothing
+small_next : (h : HeldBack) (x : ℕ) → x < 127 → next h x ≡ held.Nothing
 small_next held.Nothing x l = small_begun x l
 small_next held.Latin x l = refl
 small_next held.Arabic x l = refl
@@ -44,19 +44,19 @@ small_next held.Forms x l = refl
 
 -- ---- the three ways of a byte
 
-pub shown_control : (h : Held) (x : ℕ) (r : List ℕ) → is_control h x ≡ true
+pub shown_control : (h : HeldBack) (x : ℕ) (r : List ℕ) → is_control h x ≡ true
     → shown h (x ∷ r) ≡ escape_of (code h x) ++ shown held.Nothing r
 shown_control h x r e = rw e refl
 
-pub shown_copied : (h : Held) (x : ℕ) (r : List ℕ) → is_control h x ≡ false → next h x ≡ held.Nothing
+pub shown_copied : (h : HeldBack) (x : ℕ) (r : List ℕ) → is_control h x ≡ false → next h x ≡ held.Nothing
     → shown h (x ∷ r) ≡ held_bytes h ++ (x ∷ shown held.Nothing r)
 shown_copied h x r e n = rw (e, n) (append_assoc (held_bytes h) (x ∷ []) (shown held.Nothing r))
 
-pub shown_held : (h : Held) (x : ℕ) (r : List ℕ) → is_control h x ≡ false → is_nothing (next h x) ≡ false
+pub shown_held : (h : HeldBack) (x : ℕ) (r : List ℕ) → is_control h x ≡ false → is_nothing (next h x) ≡ false
     → shown h (x ∷ r) ≡ shown (next h x) r
 shown_held h x r e n = rw (e, n) refl
 
-pub small_shown : (h : Held) (x : ℕ) (r : List ℕ) → x < 127 → shown h (x ∷ r) ≡ held_bytes h
+pub small_shown : (h : HeldBack) (x : ℕ) (r : List ℕ) → x < 127 → shown h (x ∷ r) ≡ held_bytes h
     ++ (x ∷ shown held.Nothing r)
 small_shown h x r l = shown_copied h x r (small_control h x l) (small_next h x l)
 
@@ -89,7 +89,7 @@ held_high x n = by (cases_Bool (x == 0xbb))
     by (inl a) = rw a (ap (λ y. 0xef ∷ y ∷ []) (sym (eqb-true x 0xbb a)))
     by (inr a) = absurd (true≢false (sym (rw a refl) ∙ n))
 
-pub next_bytes : (h : Held) (x : ℕ) → is_nothing (next h x) ≡ false → held_bytes (next h x) ≡ held_bytes h ++ x ∷ []
+pub next_bytes : (h : HeldBack) (x : ℕ) → is_nothing (next h x) ≡ false → held_bytes (next h x) ≡ held_bytes h ++ x ∷ []
 next_bytes held.Nothing x n = held_begun x n
 next_bytes held.Latin x n = absurd (true≢false n)
 next_bytes held.Arabic x n = absurd (true≢false n)
@@ -99,7 +99,7 @@ next_bytes held.Isolates x n = absurd (true≢false n)
 next_bytes held.High x n = held_high x n
 next_bytes held.Forms x n = absurd (true≢false n)
 
-pub nothing_is : (h : Held) → is_nothing h ≡ true → h ≡ held.Nothing
+pub nothing_is : (h : HeldBack) → is_nothing h ≡ true → h ≡ held.Nothing
 nothing_is held.Nothing e = refl
 nothing_is held.Latin e = absurd (true≢false (sym e))
 nothing_is held.Arabic e = absurd (true≢false (sym e))
@@ -136,7 +136,7 @@ abbrev pub is_small_text : List ℕ → Bool
 is_small_text [] = false
 is_small_text (x ∷ xs) = nat_lt x 127 && are_small xs
 
-pub text_shown : (h : Held) (e r : List ℕ) → is_small_text e ≡ true
+pub text_shown : (h : HeldBack) (e r : List ℕ) → is_small_text e ≡ true
     → shown h (e ++ r) ≡ held_bytes h ++ (e ++ shown held.Nothing r)
 text_shown h [] r s = absurd (true≢false (sym s))
 text_shown h (x ∷ e) r s =
@@ -145,7 +145,7 @@ text_shown h (x ∷ e) r s =
 
 -- ---- the steps of a loop
 
-pub shown_more : (text : List ℕ) (i : ℕ) (h : Held) (now new all : List ℕ) → i < length text
+pub shown_more : (text : List ℕ) (i : ℕ) (h : HeldBack) (now new all : List ℕ) → i < length text
     → now ++ shown h (drop i text) ≡ all → new ≡ now ++ emitted h (get_or text i 0)
     → new ++ shown (after h (get_or text i 0)) (drop (i + 1) text) ≡ all
 shown_more text i h now new all within left adds =

@@ -5,7 +5,7 @@ ghost use Rattle.json_controls.specs.Controls.{after, begun, code, held_bytes, i
 
 /// The bytes that are held back: the first ones of a character.
 #[derive(Clone, Copy)]
-pub(crate) enum Held {
+pub(crate) enum HeldBack {
     /// None.
     Nothing,
     /// c2: U+0080 to U+00BF.
@@ -24,20 +24,20 @@ pub(crate) enum Held {
     Forms,
 }
 
-impl Held {
+impl HeldBack {
     /// The bytes.
     pub(crate) fn bytes(self) -> &'static [u8]
         ensures { result.now ≡ held_bytes self }
     {
         match self {
-            Held::Nothing => b"",
-            Held::Latin => &[0xc2],
-            Held::Arabic => &[0xd8],
-            Held::General => &[0xe2],
-            Held::Punctuation => &[0xe2, 0x80],
-            Held::Isolates => &[0xe2, 0x81],
-            Held::High => &[0xef],
-            Held::Forms => &[0xef, 0xbb],
+            HeldBack::Nothing => b"",
+            HeldBack::Latin => &[0xc2],
+            HeldBack::Arabic => &[0xd8],
+            HeldBack::General => &[0xe2],
+            HeldBack::Punctuation => &[0xe2, 0x80],
+            HeldBack::Isolates => &[0xe2, 0x81],
+            HeldBack::High => &[0xef],
+            HeldBack::Forms => &[0xef, 0xbb],
         }
     }
 
@@ -46,14 +46,15 @@ impl Held {
         ensures { result ≡ is_control self byte }
     {
         match self {
-            Held::Nothing => byte == 0x7f,
-            Held::Latin => 0x80 <= byte && byte <= 0x9f,
-            Held::Arabic => byte == 0x9c,
-            Held::General => false,
-            Held::Punctuation => (0x8b <= byte && byte <= 0x8f) || (0xa8 <= byte && byte <= 0xae),
-            Held::Isolates => 0xa6 <= byte && byte <= 0xa9,
-            Held::High => false,
-            Held::Forms => byte == 0xbf,
+            HeldBack::Nothing => byte == 0x7f,
+            HeldBack::Latin => 0x80 <= byte && byte <= 0x9f,
+            HeldBack::Arabic => byte == 0x9c,
+            HeldBack::General => false,
+            HeldBack::Punctuation => (0x8b <= byte && byte <= 0x8f)
+                || (0xa8 <= byte && byte <= 0xae),
+            HeldBack::Isolates => 0xa6 <= byte && byte <= 0xa9,
+            HeldBack::High => false,
+            HeldBack::Forms => byte == 0xbf,
         }
     }
 
@@ -62,50 +63,50 @@ impl Held {
         ensures { result ≡ code self byte }
     {
         match self {
-            Held::Nothing => byte as u16,
-            Held::Latin => byte as u16,
-            Held::Arabic => 0x600 + (byte as u16).saturating_sub(0x80),
-            Held::General => 0,
-            Held::Punctuation => 0x2000 + (byte as u16).saturating_sub(0x80),
-            Held::Isolates => 0x2040 + (byte as u16).saturating_sub(0x80),
-            Held::High => 0,
-            Held::Forms => 0xfec0 + (byte as u16).saturating_sub(0x80),
+            HeldBack::Nothing => byte as u16,
+            HeldBack::Latin => byte as u16,
+            HeldBack::Arabic => 0x600 + (byte as u16).saturating_sub(0x80),
+            HeldBack::General => 0,
+            HeldBack::Punctuation => 0x2000 + (byte as u16).saturating_sub(0x80),
+            HeldBack::Isolates => 0x2040 + (byte as u16).saturating_sub(0x80),
+            HeldBack::High => 0,
+            HeldBack::Forms => 0xfec0 + (byte as u16).saturating_sub(0x80),
         }
     }
 
     /// What is held back behind this byte.
-    pub(crate) fn after(self, byte: u8) -> Held
+    pub(crate) fn after(self, byte: u8) -> HeldBack
         ensures { result ≡ after self byte }
     {
         if self.is_control(byte) {
-            return Held::Nothing;
+            return HeldBack::Nothing;
         }
         self.next(byte)
     }
 
     /// What is held back behind this byte where no character ends with it that is escaped.
-    pub(crate) fn next(self, byte: u8) -> Held
+    pub(crate) fn next(self, byte: u8) -> HeldBack
         ensures { result ≡ next self byte }
     {
         match self {
-            Held::Nothing => Held::begun(byte),
-            Held::General if byte == 0x80 => Held::Punctuation,
-            Held::General if byte == 0x81 => Held::Isolates,
-            Held::High if byte == 0xbb => Held::Forms,
-            _ => Held::Nothing,
+            HeldBack::Nothing => HeldBack::begun(byte),
+            HeldBack::General if byte == 0x80 => HeldBack::Punctuation,
+            HeldBack::General if byte == 0x81 => HeldBack::Isolates,
+            HeldBack::High if byte == 0xbb => HeldBack::Forms,
+            _ => HeldBack::Nothing,
         }
     }
 
     // What is held back of a character that begins with this byte.
-    fn begun(byte: u8) -> Held
+    fn begun(byte: u8) -> HeldBack
         ensures { result ≡ begun byte }
     {
         match byte {
-            0xc2 => Held::Latin,
-            0xd8 => Held::Arabic,
-            0xe2 => Held::General,
-            0xef => Held::High,
-            _ => Held::Nothing,
+            0xc2 => HeldBack::Latin,
+            0xd8 => HeldBack::Arabic,
+            0xe2 => HeldBack::General,
+            0xef => HeldBack::High,
+            _ => HeldBack::Nothing,
         }
     }
 
@@ -114,7 +115,7 @@ impl Held {
         ensures { result ≡ is_nothing self }
     {
         match self {
-            Held::Nothing => true,
+            HeldBack::Nothing => true,
             _ => false,
         }
     }

@@ -8,7 +8,7 @@ ghost use Rattle.json.specs.Tree.{json_tokens};
 ghost use Rattle.std.specs.Char.{digit_char};
 ghost use Rattle.json_controls.specs.Controls.{AreBelowControls, emitted, escape_of, held_bytes, shown_text};
 
-use crate::held::Held;
+use crate::held::HeldBack;
 use std::alloc::AllocError;
 
 /// Appends JSON text with its control characters escaped. Where the text is the compact text of JSON, and a reader
@@ -38,10 +38,10 @@ fn are_below_controls(bytes: &[u8]) -> bool
 }
 
 // Appends what is known to stand in the text, and gives what is held back at its end.
-fn push_known(text: &[u8], out: &mut Vec<u8>) -> Result<Held, AllocError>
+fn push_known(text: &[u8], out: &mut Vec<u8>) -> Result<HeldBack, AllocError>
     ensures { IfOk result (λ h. out.new.items ++ held_bytes h ≡ out.old.items ++ shown_text text.now) }
 {
-    let mut held = Held::Nothing;
+    let mut held = HeldBack::Nothing;
     for byte in text {
         push_emitted(held, *byte, out)?;
         held = held.after(*byte);
@@ -50,14 +50,14 @@ fn push_known(text: &[u8], out: &mut Vec<u8>) -> Result<Held, AllocError>
 }
 
 // Appends the bytes that are held back.
-fn push_held(held: Held, out: &mut Vec<u8>) -> Result<(), AllocError>
+fn push_held(held: HeldBack, out: &mut Vec<u8>) -> Result<(), AllocError>
     ensures { OnOk result (out.new.items ≡ out.old.items ++ held_bytes held) }
 {
     out.extend_from_slice(held.bytes())
 }
 
 // Appends what is known to stand in the text at this byte, behind the bytes that are held back.
-fn push_emitted(held: Held, byte: u8, out: &mut Vec<u8>) -> Result<(), AllocError>
+fn push_emitted(held: HeldBack, byte: u8, out: &mut Vec<u8>) -> Result<(), AllocError>
     ensures { OnOk result (out.new.items ≡ out.old.items ++ emitted held byte) }
 {
     if held.is_control(byte) {

@@ -1,5 +1,5 @@
 -- What contracts see of a session: the items that it has read of the bytes so far, its types and its limits.
-use Rattle.std.specs.Prelude.{◌≡◌, ℕ, ◌<◌, ◌≤◌, List, [], ◌∷◌, ◌++◌, length, take, Result, Ok, Err}
+use Rattle.std.specs.Prelude.{◌≡◌, ℕ, ◌<◌, ◌≤◌, List, [], ◌∷◌, ◌++◌, length, take, Result, Ok, Err, Bool, true}
 use Rattle.gob_types.specs.declared.reason.Reason.TheVariants as reason
 use Rattle.gob_types.specs.Defined.{Defined, types}
 use Rattle.gob_types.specs.Table.{Table}
@@ -22,8 +22,8 @@ use Rattle.gob_go.specs.Machine.Stages.{count_at}
 use Rattle.gob_go.specs.declared.item.GoItem.{GoItem}
 use Rattle.gob_go.specs.declared.stage.Stage.TheVariants as stage
 -- the items that it has given, of the bytes that it has taken; and what its calls answer
-pub use Rattle.gob_go.specs.Machine.HasRead.{HasRead, HasReadOn}
-pub use Rattle.gob_go.specs.Machine.Stages.{StepAnswers}
+pub use Rattle.gob_go.specs.Machine.HasRead.{HasRead, StandsAfter, StandsSomewhere}
+pub use Rattle.gob_go.specs.Machine.Stages.{StepAnswers, StepAnswersSo}
 
 -- it has met a fault, behind which it reads no more
 abbrev pub HasFailed : SessionState → Type 0
@@ -68,9 +68,12 @@ abbrev pub HasItemNext : SessionState → List ℕ → Type 0
 HasItemNext s z = (i : StreamItem) × IsNext s i z
 
 -- it has read the item that these bytes are
+abbrev pub ReadsOnSo : (keep : Bool) (s s' : SessionState) → List ℕ → Type 0
+ReadsOnSo keep s s' z = (items : List FilledItem) (bytes : List ℕ) (i : StreamItem) → StandsAfter keep s items bytes
+    → IsNext s i z → StandsAfter keep s' (items ++ unfilled_item i ∷ []) (bytes ++ z)
+
 abbrev pub ReadsOn : (s s' : SessionState) → List ℕ → Type 0
-ReadsOn s s' z = (items : List FilledItem) (bytes : List ℕ) (i : StreamItem) → HasRead s items bytes → IsNext s i z
-    → HasRead s' (items ++ unfilled_item i ∷ []) (bytes ++ z)
+ReadsOn s s' z = ReadsOnSo true s s' z
 
 -- ---- items of the profile
 -- the bytes are these items, as the next ones, and they define nothing
@@ -82,18 +85,21 @@ abbrev pub HasItemsNext : SessionState → List ℕ → Type 0
 HasItemsNext s z = (is : List FilledItem) × AreNext s is z
 
 -- it has read the items that these bytes are
-abbrev pub ReadsAll : (s s' : SessionState) → List ℕ → Type 0
-ReadsAll s s' z = (items : List FilledItem) (bytes : List ℕ) (is : List FilledItem) → HasRead s items bytes
-    → AreNext s is z → HasRead s' (items ++ is) (bytes ++ z)
+abbrev pub ReadsAllSo : (keep : Bool) (s s' : SessionState) → List ℕ → Type 0
+ReadsAllSo keep s s' z = (items : List FilledItem) (bytes : List ℕ) (is : List FilledItem)
+    → StandsAfter keep s items bytes → AreNext s is z → StandsAfter keep s' (items ++ is) (bytes ++ z)
 
 -- it stands behind so many items, the first bytes of the piece
-pub record ReadsItems (s s' : SessionState) (count used : ℕ) (piece : List ℕ) : Type 0 where
+pub record ReadsItemsSo (keep : Bool) (s s' : SessionState) (count used : ℕ) (piece : List ℕ) : Type 0 where
   pub given : List FilledItem
   pub counted : count ≡ length given
   pub within : used ≤ length piece
   pub none : count ≡ 0 → used ≡ 0
-  pub passed : (items : List FilledItem) (bytes : List ℕ) → HasRead s items bytes
-      → HasRead s' (items ++ given) (bytes ++ take used piece)
+  pub passed : (items : List FilledItem) (bytes : List ℕ) → StandsAfter keep s items bytes
+      → StandsAfter keep s' (items ++ given) (bytes ++ take used piece)
+
+abbrev pub ReadsItems : (s s' : SessionState) (count used : ℕ) (piece : List ℕ) → Type 0
+ReadsItems s s' count used piece = ReadsItemsSo true s s' count used piece
 
 -- ---- what its calls answer
 -- what feeding a piece answers, where the items were given, to a session that had given the items before, of these

@@ -1,4 +1,5 @@
 -- The open values of the program beside those of the bytes that stand in an item.
+use Rattle.std.specs.Prelude.{Bool, IsTrue}
 use Rattle.std.specs.Prelude.{◌≡◌, ℕ, ◌+◌, ◌≤◌, List, [], ◌∷◌, ◌++◌, length}
 use Rattle.gob_types.specs.declared.id.TypeId.{TypeId}
 use Rattle.gob_types.specs.Table.{Table, Extends}
@@ -26,9 +27,9 @@ pub record LevelIs (U : Table) (l : declared.Level) (lv : Level) (c : List ℕ) 
   pub reads : HasReadBody skip_building U lv.type lv.limit announced l.reader (lv.done ++ c)
   pub clear : NoNilBegun U l.reader
 
--- what fills nils of it is what the bytes say
-abbrev pub FillingsAre : Table → declared.Level → Open → Type 0
-FillingsAre U l o = AreFillings U l.fillings.items o.fillings
+-- what fills nils of it is what the bytes say, where it is kept
+abbrev pub FillingsAre : Bool → Table → declared.Level → Open → Type 0
+FillingsAre keep U l o = IsTrue keep → AreFillings U l.fillings.items o.fillings
 
 -- and so is what stands in front of what fills the nil at hand
 pub record HeldIs (held : Held) (o : Open) : Type 0 where
@@ -65,8 +66,8 @@ pub record LevelUnderWay (U : Table) (l : declared.Level) (lv : Level) (c : List
 
 -- the program's outer levels, the innermost last, are these, the innermost first; each stands at the nil in which the
 -- one before stands
-pub data AreOuter (U : Table) : List declared.Level → List Level → List Open → Type 0 where
-  none_outer : AreOuter U [] [] []
+pub data AreOuter (keep : Bool) (U : Table) : List declared.Level → List Level → List Open → Type 0 where
+  none_outer : AreOuter keep U [] [] []
   outer_then : {l : declared.Level} {outer : List declared.Level} {lv : Level} {levels : List Level} {o : Open}
-      {os : List Open} {d : ℕ} → AreOuter U outer levels os → LevelAtNil U l lv [] d → FillingsAre U l o
-      → HeldIs l.held o → AreOuter U (outer ++ l ∷ []) (lv ∷ levels) (o ∷ os)
+      {os : List Open} {d : ℕ} → AreOuter keep U outer levels os → LevelAtNil U l lv [] d → FillingsAre keep U l o
+      → HeldIs l.held o → AreOuter keep U (outer ++ l ∷ []) (lv ∷ levels) (o ∷ os)

@@ -1,6 +1,6 @@
 -- What the parts of a reader answer: a number, a description, a level.
 use Rattle.std.specs.Prelude.{◌≡◌, ◌≢◌, ℕ, ◌+◌, ◌-◌, ◌<◌, ◌≤◌, List, [], ◌∷◌, ◌++◌, length, min, take, Result, Ok}
-use Rattle.std.specs.Prelude.{Err, Bool, true, false, Some}
+use Rattle.std.specs.Prelude.{Err, Bool, true, false, IsTrue, Some}
 use Rattle.gob_num.specs.Unsigned.{IsUnsigned, IsUnsignedPrefix, IsBadHead, IsNotMinimal}
 use Rattle.gob_types.specs.declared.id.TypeId.{TypeId}
 use Rattle.gob_types.specs.declared.denial.Denial.{Denial}
@@ -181,8 +181,8 @@ pub record LevelIsNew (id : TypeId) (depth end announced : ℕ) (l : Level) : Ty
   pub fillings : l.fillings.items ≡ []
   pub read : (T : Table) → IsReady T id → HasReadBody skip_building T id (min depth 65536) announced l.reader []
 
--- the value fills the nil at hand of the level, of which else nothing has changed
-pub record Holds (value l l' : Level) : Type 0 where
+-- the value fills the nil at hand of the level
+pub record IsHeld (value l l' : Level) : Type 0 where
   pub filling : Filling
   pub fillings : l'.fillings.items ≡ l.fillings.items ++ filling ∷ []
   pub place : (out-Filling filling).place ≡ length l.skeleton.items
@@ -191,6 +191,10 @@ pub record Holds (value l l' : Level) : Type 0 where
   pub id_held : (out-Filling filling).id ≡ value.id
   pub skeleton_held : (out-Filled (out-Filling filling).value).skeleton ≡ value.skeleton
   pub fillings_held : (out-Filled (out-Filling filling).value).fillings ≡ value.fillings
+
+-- it does where what fills nils is kept, and else nothing of the level has changed
+pub record Holds (keep : Bool) (value l l' : Level) : Type 0 where
+  pub kept : IsTrue keep → IsHeld value l l'
   pub id : l'.id ≡ l.id
   pub depth : l'.depth ≡ l.depth
   pub reader : l'.reader ≡ l.reader

@@ -16,7 +16,7 @@ use Rattle.gob_json_writer.specs.declared.held.Held.{Held}
 use Rattle.gob_json_writer.specs.FilledJson.{FilledShows}
 use Rattle.gob_json_writer.specs.declared.go.filling_here.Due.{Due}
 use Rattle.gob_json_writer.specs.declared.go.holding.Holding.{Holding}
-use Rattle.gob_json_writer.specs.declared.go.holding.Level.{Level}
+use Rattle.gob_json_writer.specs.declared.go.holding.FilledTape.{FilledTape}
 
 -- a filling shows this
 pub data FillingShows (T : Table) (kept : Filling) : Data → Type 0 where
@@ -62,7 +62,7 @@ pub record Holds (T : Table) (nils : Holding) (N : ℕ → Data) (n : ℕ) : Typ
   pub due : AreDue T nils.due N n
 
 -- each value that what is kept stands for is that of the tape, and shows what the nils hold
-pub record IsLevelOf (T : Table) (id : TypeId) (value : Filled) (level : Level) : Type 0 where
+pub record IsLevelOf (T : Table) (id : TypeId) (value : Filled) (level : FilledTape) : Type 0 where
   pub each : (w : spelled.Filled) (v : Tree) (N : ℕ → Data) → IsFilled T id value w → FilledShows T id w v N
       → Means level.tape v × Holds T level.nils N 0
 

@@ -5,7 +5,7 @@ ghost use Rattle.gob_types.specs.Defined.{types};
 ghost use Rattle.gob_json_writer.specs.WritesJson.{WritesJsonOf};
 ghost use Rattle.gob_json_writer.specs.FilledJson.{PutShows};
 
-use crate::go::holding::{Level, level_of};
+use crate::go::holding::{FilledTape, level_of};
 use crate::write_filled_tape;
 use gob_go::Filled;
 use gob_types::{Table, TypeId};
@@ -28,7 +28,7 @@ pub fn write_filled(
     ensures { WritesJsonOf result out.old out.new (PutShows (types table.now) id value.now) (λ json. json) }
 {
     match level_of(alloc, table, id, value, LEVELS) {
-        Ok(Level { tape, mut nils }) => {
+        Ok(FilledTape { tape, mut nils }) => {
             write_filled_tape(alloc, id, &tape, &mut nils, table, out)
         }
         Err(_) => Err(AllocError),

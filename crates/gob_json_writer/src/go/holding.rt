@@ -32,7 +32,7 @@ pub(crate) struct Holding<'a> {
 
 /// A value, with what stands in its nils.
 #[derive(Drop)]
-pub(crate) struct Level<'a> {
+pub(crate) struct FilledTape<'a> {
     pub(crate) tape: Tape,
     pub(crate) nils: Holding<'a>,
 }
@@ -44,7 +44,7 @@ pub(crate) fn level_of<'a>(
     id: TypeId,
     value: &'a Filled,
     levels: u64,
-) -> Result<Level<'a>, Memory>
+) -> Result<FilledTape<'a>, Memory>
     ensures level { IfOk result (λ level. IsLevelOf (types table.entry.now) id value.entry.now level) }
     ensures levels { IfOk result (λ level. level.nils.levels ≡ levels) }
 {
@@ -54,7 +54,7 @@ pub(crate) fn level_of<'a>(
     let tape = tape_of(alloc, table, id, &value.skeleton)?;
     let gaps = gaps_of(alloc, table, id, &value.skeleton, &value.fillings)?;
     let due = Due::new(&value.fillings, gaps);
-    Ok(Level {
+    Ok(FilledTape {
         tape,
         nils: Holding { table, due, levels },
     })

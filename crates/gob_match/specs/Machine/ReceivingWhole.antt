@@ -18,7 +18,7 @@ use Rattle.gob_match.specs.declared.matched.Matched.{Matched}
 use Rattle.gob_match.specs.declared.pair.TypePair.{TypePair}
 use Rattle.gob_match.specs.declared.receiving_whole.Length.{Length}
 use Rattle.gob_match.specs.declared.receiving_whole.Length.TheVariants as length_is
-use Rattle.gob_match.specs.declared.places.Place.{Place}
+use Rattle.gob_match.specs.declared.places.FieldPlace.{FieldPlace}
 use Rattle.gob_match.specs.Machine.Receiving.{AreElementsReceived, FieldsReceived, IsReceivableField, IsReceived}
 use Rattle.gob_match.specs.Machine.Receiving.{PairsReceived}
 use Rattle.gob_match.specs.Received.{Receives}
@@ -166,18 +166,18 @@ pub record BeginsValue (T : Table) (t : TypeId) (v : Tree) (piece : List ℕ) : 
   pub whole : piece ≡ bytes ++ rest
 
 -- at these places of the bytes the values of the fields stand
-pub data ArePlaces (T : Table) (types : List Field) (body : List ℕ) : Fields → List Place → Type 0 where
+pub data ArePlaces (T : Table) (types : List Field) (body : List ℕ) : Fields → List FieldPlace → Type 0 where
   no_place : ArePlaces T types body no_field []
-  place : {f : ℕ} {v : Tree} {fs : Fields} {p : Place} {ps : List Place} {e : Field} → slice_get types f ≡ Some e
+  place : {f : ℕ} {v : Tree} {fs : Fields} {p : FieldPlace} {ps : List FieldPlace} {e : Field} → slice_get types f ≡ Some e
       → p.number ≡ f → p.at ≤ length body → BeginsValue T e.id v (drop p.at body) → ArePlaces T types body fs ps
       → ArePlaces T types body (field f v fs) (p ∷ ps)
 
 -- the fields that are present, of which the next has this number or a greater one, and their places, which were kept
-pub record StandPresent (T : Table) (types : List Field) (limit : ℕ) (body : List ℕ) (next : ℕ) (old new : List Place)
+pub record StandPresent (T : Table) (types : List Field) (limit : ℕ) (body : List ℕ) (next : ℕ) (old new : List FieldPlace)
     (piece rest : List ℕ) : Type 0 where
   pub values : Fields
   pub bytes : List ℕ
-  pub places : List Place
+  pub places : List FieldPlace
   pub spelled : SpellsFields T types next values bytes
   pub within : fields_depth values ≤ limit
   pub stand : ArePlaces T types body values places
@@ -185,21 +185,21 @@ pub record StandPresent (T : Table) (types : List Field) (limit : ℕ) (body : L
   pub grown : new ≡ old ++ places
 
 -- their numbers rise
-abbrev pub PlacesRise : List Place → Type 0
-PlacesRise ps = (i j : ℕ) (p q : Place) → i < j → slice_get ps i ≡ Some p → slice_get ps j ≡ Some q
+abbrev pub PlacesRise : List FieldPlace → Type 0
+PlacesRise ps = (i j : ℕ) (p q : FieldPlace) → i < j → slice_get ps i ≡ Some p → slice_get ps j ≡ Some q
     → p.number < q.number
 
 -- one of them is of this number
-pub record HasPlace (ps : List Place) (n at : ℕ) : Type 0 where
+pub record HasPlace (ps : List FieldPlace) (n at : ℕ) : Type 0 where
   pub index : ℕ
-  pub place : Place
+  pub place : FieldPlace
   pub there : slice_get ps index ≡ Some place
   pub numbered : place.number ≡ n
   pub is : place.at ≡ at
 
 -- none is
-abbrev pub LacksPlace : List Place → ℕ → Type 0
-LacksPlace ps n = (k : ℕ) (p : Place) → slice_get ps k ≡ Some p → p.number ≢ n
+abbrev pub LacksPlace : List FieldPlace → ℕ → Type 0
+LacksPlace ps n = (k : ℕ) (p : FieldPlace) → slice_get ps k ≡ Some p → p.number ≢ n
 
 -- of the common fields of these values the next that is received has this number or a greater one
 pub record GivesCommon (T U : Table) (values : Fields) (common : List CommonField) (wanted : ℕ) (old new : List ℕ)

@@ -1,33 +1,41 @@
 //! What fills each nil of a value, where it is known in which parts the fillings stand.
 
 ghost use Rattle.std.specs.Prelude.{◌≡◌, ℕ, [], ◌∷◌, List, Option, IfOk, IsTrue, reverse};
-ghost use Rattle.gob_plain.specs.declared.fillers.Filler as filler;
-ghost use Rattle.gob_plain.specs.Machine.Placing.{AreIn, fillers_left, gaps_left};
+ghost use Rattle.gob_plain.specs.declared.go.level.Held as declared;
+ghost use Rattle.gob_plain.specs.Machine.Placing.{AreIn, ArePlaced, fillers_left, gaps_left};
 
-use crate::Filler;
+use crate::go::level::Held;
+use crate::go::parting::{Parted, part};
 use gob_num::Memory;
+use json::Scratch;
 use std::alloc::Global;
 
-/// What fills each of the nils, which are the parts of these numbers: nothing, or the next of the fillers, of which
-/// each stands so many parts behind the one before. `Memory` also where one stands in none of them.
+/// What fills each of the nils, which are the parts of these numbers, parted: nothing, or the next of the fillers, of
+/// which each stands so many parts behind the one before. `Memory` also where one stands in none of them.
+#[inline(never)]
 pub(crate) fn in_nils<'a>(
     alloc: Global,
     nils: &[u64],
     gaps: &[u64],
-    fillers: Vec<Filler<'a>>,
-) -> Result<Vec<Option<Filler<'a>>>, Memory>
-    ensures { IfOk result (λ all. AreIn 0 nils.now gaps.now fillers.entry.items all.items) }
+    fillers: Vec<Held<'a>>,
+) -> Result<Parted<'a>, Memory>
+    ensures { IfOk result (λ parted. ArePlaced nils.now gaps.now fillers.entry.items parted.texts.items
+        parted.held.items) }
 {
-    let mut all = Vec::with_capacity(alloc, nils.len())?;
+    let mut parted = Parted {
+        texts: Vec::with_capacity(alloc, nils.len())?,
+        held: Vec::new(alloc),
+    };
     let mut left = Left::new(gaps, fillers);
+    let mut scratch = Scratch::new(alloc);
     for nil in nils {
         let filler = left.take(*nil);
-        all.push(filler)?;
+        part(filler, &mut scratch, &mut parted)?;
     }
     if !left.is_empty() {
         return Err(Memory);
     }
-    Ok(all)
+    Ok(parted)
 }
 
 /// The fillers that are left.
@@ -40,12 +48,12 @@ struct Left<'g, 'a> {
     /// The number of the part behind the nil of the filler before.
     behind: u64,
     /// Those that are left, the next one last.
-    fillers: Vec<Filler<'a>>,
+    fillers: Vec<Held<'a>>,
 }
 
 impl<'g, 'a> Left<'g, 'a> {
     // All of them.
-    fn new(gaps: &'g [u64], fillers: Vec<Filler<'a>>) -> Left<'g, 'a>
+    fn new(gaps: &'g [u64], fillers: Vec<Held<'a>>) -> Left<'g, 'a>
         ensures behind { result.behind ≡ 0 }
         ensures gaps { gaps_left result ≡ gaps.entry.now }
         ensures fillers { fillers_left result ≡ fillers.entry.items }
@@ -61,8 +69,8 @@ impl<'g, 'a> Left<'g, 'a> {
     }
 
     // Goes past the nil that is the part of this number. Answers what fills it.
-    fn take(&mut self, nil: u64) -> Option<Filler<'a>>
-        ensures { (nils : List ℕ) (all : List (Option filler.Filler))
+    fn take(&mut self, nil: u64) -> Option<Held<'a>>
+        ensures { (nils : List ℕ) (all : List (Option declared.Held))
             → AreIn self.new.behind nils (gaps_left self.new) (fillers_left self.new) all
             → AreIn self.old.behind (nil ∷ nils) (gaps_left self.old) (fillers_left self.old) (result ∷ all) }
     {

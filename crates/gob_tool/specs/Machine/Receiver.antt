@@ -1,6 +1,6 @@
 -- What a receiver of values keeps, and what it makes of the items of a stream. For private clauses.
 use Rattle.std.specs.Global.{Global}
-use Rattle.std.specs.Prelude.{ℕ, List, [], ◌∷◌, IfSome, Option, Some, None, Vec}
+use Rattle.std.specs.Prelude.{ℕ, ◌<◌, ◌^◌, List, [], ◌∷◌, IfSome, Option, Some, None, Result, Vec}
 use Rattle.gob_types.specs.declared.id.TypeId.{TypeId}
 use Rattle.gob_types.specs.Ready.{IsReady}
 use Rattle.gob_types.specs.Table.{Table}
@@ -19,8 +19,11 @@ use Rattle.gob_stream.specs.Item.{StreamItem, item_view, puts}
 use Rattle.gob_stream.specs.StrictStepping.{strict_stepping}
 use Rattle.gob_stream.specs.declared.item.Item as declared
 use Rattle.gob_stream.specs.declared.item.Item.TheVariants as variant
-use Rattle.gob_tool.specs.Taking.{AreReceived}
-use Rattle.gob_tool.specs.Texts.{IsStopBy, IsTextBy}
+use Rattle.gob_tool.specs.Texts.{AnswersOrStops, IsStopBy, IsTextBy}
+use Rattle.gob_tool.specs.Machine.Received.{AreReceivedIn}
+use Rattle.gob_tool.specs.declared.received_form.ReceivedForm.{ReceivedForm}
+use Rattle.gob_stream.specs.Bounds.{Bounds}
+use Rattle.gob_stream.specs.Outcome.{strict}
 use Rattle.gob_tool.specs.declared.fault.ToolFault.{ToolFault}
 use Rattle.gob_tool.specs.declared.fault.ToolFault.TheVariants as fault
 use Rattle.gob_tool.specs.declared.receiver.LastMatch.{LastMatch}
@@ -39,18 +42,19 @@ StaysKnown T U u kept None = KeepsKnown T U u kept
 StaysKnown T U u kept (Some (variant.Define id described)) = Unit {0}
 StaysKnown T U u kept (Some (variant.Put id value)) = KeepsKnown T U u kept
 
--- and the wanted type is ready
+-- and the wanted type is ready, and has a type number
 pub record KeepsMatch (U : Table) (u : TypeId) (kept : LastMatch) (T : Table) : Type 0 where
   pub ready : IsReady U u
+  pub number : u.0 < 2 ^ 63
   pub known : KeepsKnown T U u kept
 
 -- ---- what is received
--- the text is the line of what u, one of U, receives of it
-abbrev pub is_received_of_item : (U : Table) → TypeId → Table → declared.Item Value → List ℕ → Type 0
-is_received_of_item U u T given text = AreReceived T U u (item_view given ∷ []) text
+-- the text is that of what u, one of U, receives of it
+abbrev pub is_received_of_item : ReceivedForm → (U : Table) → TypeId → Table → declared.Item Value → List ℕ → Type 0
+is_received_of_item how U u T given text = AreReceivedIn how T U u (item_view given ∷ []) text
 
-abbrev pub is_received_of_value : (U : Table) → TypeId → Table → TypeId → Tree → List ℕ → Type 0
-is_received_of_value U u T id v text = AreReceived T U u (puts id v ∷ []) text
+abbrev pub is_received_of_value : ReceivedForm → (U : Table) → TypeId → Table → TypeId → Tree → List ℕ → Type 0
+is_received_of_value how U u T id v text = AreReceivedIn how T U u (puts id v ∷ []) text
 
 -- or it is a value of a type that clashes with u
 pub data Clashes (U : Table) (u : TypeId) (T : Table) : declared.Item Value → ToolFault → Type 0 where
@@ -58,12 +62,18 @@ pub data Clashes (U : Table) (u : TypeId) (T : Table) : declared.Item Value → 
       → IsLeastClash T U id u path.items reason → Clashes U u T (variant.Put id value) (fault.Clash path reason)
 
 -- so a run makes it
-abbrev pub IsReceived : (U : Table) → TypeId → Table → StreamItem → List ℕ → Type 0
-IsReceived U u =
-    IsTextBy (strict_stepping tree_building) (is_received_of_item U u) (is_received_of_value U u)
+abbrev pub IsReceived : ReceivedForm → (U : Table) → TypeId → Table → StreamItem → List ℕ → Type 0
+IsReceived how U u =
+    IsTextBy (strict_stepping tree_building) (is_received_of_item how U u) (is_received_of_value how U u)
 
 abbrev pub IsClash : (U : Table) → TypeId → Table → StreamItem → ToolFault → Type 0
 IsClash U u = IsStopBy (strict_stepping tree_building) (Clashes U u)
+
+-- how a run over an input with these bytes left ends, that writes the texts, or stops at a clash
+abbrev pub TextsOrClash : ReceivedForm → (U : Table) → TypeId → Bounds → (bytes : List ℕ)
+    → (now old new : Option (List ℕ)) → Result (Unit {0}) ToolFault → Type 0
+TextsOrClash how U u L bytes now old new result =
+    AnswersOrStops strict (IsReceived how U u) (IsClash U u) L bytes now old new result
 
 -- why nothing is received of it
 abbrev pub ReceivesNone : (U : Table) → TypeId → Table → declared.Item Value → MatchFault → Type 0

@@ -8,7 +8,7 @@ ghost use Rattle.gob_tool.specs.CheckingGo.{CheckGoAnswers};
 
 use crate::check::run_check_in;
 use crate::fault::ToolFault;
-use gob_go::GoSession;
+use gob_go::PassingSession;
 use gob_stream::{Input, Limits, Output};
 use std::alloc::Global;
 use std::io::{Read, Write};
@@ -16,8 +16,9 @@ use std::io::{Read, Write};
 /// Reads a stream of Go's encoder to its end, and writes one line of it: `ok: I items, T types, B bytes`, of which T
 /// counts the types that it defines, also those in front of what an interface holds. Ok exactly at the end of a whole
 /// stream; before any other answer but `ToolFault::Write` nothing is written, and at that one a prefix of the line may
-/// be. The run ends with a flush. What it takes in memory grows with the types and the largest item alone. No value may
-/// be deeper than `limits.depth()` or than 1000; what an interface holds is one deeper than the interface.
+/// be. The run ends with a flush. What it takes in memory grows with the types and the largest skeleton alone: nothing
+/// is kept of what fills nils. No value may be deeper than `limits.depth()` or than 1000; what an interface holds is
+/// one deeper than the interface.
 pub fn run_check_go<R: Read, W: Write>(
     alloc: Global,
     input: &mut Input<R>,
@@ -31,5 +32,5 @@ pub fn run_check_go<R: Read, W: Write>(
     ensures writes { CountsWriteFaults (failed_writes output.old) (failed_writes output.new) result }
     ensures flushed { IsFlushedSince (failed_writes output.old) output.new }
 {
-    run_check_in::<GoSession, R, W>(alloc, input, output, limits)
+    run_check_in::<PassingSession, R, W>(alloc, input, output, limits)
 }

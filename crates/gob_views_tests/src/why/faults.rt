@@ -30,7 +30,7 @@ where: item 1, Point: a value of type 65, Point, which begins at byte 32
 expected: 0 for the end of the struct, or how far on the next field stands: of X, Y
 found: 02, at byte 37
 cause: These bytes were changed, or something else stands in the file from here on.
-next: Get the file once more from where it comes from, in binary, and compare its size or checksum.
+next: Get the file once more from where it comes from, or read what isn't damaged: gob values --salvage IN
 ",
         ending: Ending::Refused,
     },

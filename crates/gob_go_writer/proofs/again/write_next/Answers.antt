@@ -1,4 +1,4 @@
-use Rattle.std.proofs.Common.{Option, subst, sym}
+use Rattle.std.proofs.Common.{Option, subst, sym, true}
 use Rattle.std.specs.Prelude.{IfSome}
 use Rattle.gob_types.specs.Defined.{Defined, types}
 use Rattle.gob_stream.proofs.FaultSteps.{passed}
@@ -15,7 +15,7 @@ write_item-requires c =
     let h = c.requires.has in
     let w = item_written h c.in_ok-used.ensures.limits
     (subst (λ (o : Option GoItem). IfSome o (λ _. IsBetweenItems s)) c.in-Some.is c.in_ok-used.ensures.between)
-    (subst (λ (o : Option GoItem). AdvancesOver s h.items c.requires.bytes c.args.piece.now c.in_ok-used.field-0.used o)
+    (subst (λ (o : Option GoItem). AdvancesOver true s h.items c.requires.bytes c.args.piece.now c.in_ok-used.field-0.used o)
     c.in-Some.is (c.in_ok-used.ensures.advances h.items c.requires.bytes h.after)) in
     record {
       bytes = w.spelling;
@@ -26,7 +26,7 @@ pub returns-in-None-clause-written : goal.returns-in-None-clause-written
 returns-in-None-clause-written c = λ bytes h.
     let s = c.step.new.self in
     none_written h c.in_ok-used.ensures.limits
-    (subst (λ (o : Option GoItem). AdvancesOver s h.items bytes c.args.piece.now c.in_ok-used.field-0.used o)
+    (subst (λ (o : Option GoItem). AdvancesOver true s h.items bytes c.args.piece.now c.in_ok-used.field-0.used o)
     c.in-None.is (c.in_ok-used.ensures.advances h.items bytes h.after))
 
 pub returns-in-Ok-clause-written : goal.returns-in-Ok-clause-written
@@ -34,7 +34,7 @@ returns-in-Ok-clause-written c = λ bytes h.
     let s = c.step.new.self in
     let w = item_written h c.in_ok-used.ensures.limits
     (subst (λ (o : Option GoItem). IfSome o (λ _. IsBetweenItems s)) c.in-Some.is c.in_ok-used.ensures.between)
-    (subst (λ (o : Option GoItem). AdvancesOver s h.items bytes c.args.piece.now c.in_ok-used.field-0.used o)
+    (subst (λ (o : Option GoItem). AdvancesOver true s h.items bytes c.args.piece.now c.in_ok-used.field-0.used o)
     c.in-Some.is (c.in_ok-used.ensures.advances h.items bytes h.after)) in
     w.written _ (c.in-Ok.ensures.ok w.spelling
     (subst (λ (d : Defined). IsItemOf (types d) c.in-Some.item w.spelling) (sym c.table.ensures) w.is))

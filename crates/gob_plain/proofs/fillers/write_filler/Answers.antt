@@ -9,8 +9,8 @@ use Rattle.gob_plain.proofs.FillerLaws.{says_named, says_bare}
 use Rattle.gob_plain.proofs.SomeLaws.{some_of, some_behind, one_written}
 use Rattle.gob_plain.proofs.fillers.write_filler.Goals as goal
 
-pub returns-in_ok-copy_json-in-Some : goal.returns-in_ok-copy_json-in-Some
-returns-in_ok-copy_json-in-Some c =
+pub returns-in-Some : goal.returns-in-Some
+returns-in-Some c =
     let i = c.requires.0 in
     let name = c.in-Some.name in
     let key = Token.key (name_text name.now) in
@@ -29,8 +29,8 @@ returns-in_ok-copy_json-in-Some c =
       ap (λ (l : List Token). Token.begin_object ∷ l) p,
     ))
 
-pub returns-in-None : goal.returns-in-None
-returns-in-None c =
+pub returns : goal.returns
+returns c =
     let i = c.requires.0 in
     some_of (c.copy_json-in-None.ensures.tokens i (ap tokens c.as_str-in-None.ensures.value ∙ c.requires.1))
     (i, says_bare c.args.filler.now i c.in-None.is c.requires.1, refl)

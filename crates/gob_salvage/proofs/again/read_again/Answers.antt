@@ -1,6 +1,6 @@
 use Rattle.std.proofs.Common.{◌∙◌, [], arith, ap, length, length-drop}
 use Rattle.std.proofs.lemmas.List.{take_rest}
-use Rattle.gob_go.proofs.FeedSteps.{rest_of}
+use Rattle.gob_stream.proofs.Reader.FeedingSteps.{rest_of}
 use Rattle.gob_salvage.proofs.PassingSteps.{read_passed, reads_some, still_read}
 use Rattle.gob_salvage.proofs.TakingSteps.{new_between, read_more}
 use Rattle.gob_salvage.proofs.again.read_again.Goals as goal

@@ -1,11 +1,11 @@
--- A value is received, and its line is made.
+-- A value is received, and its text is made.
 use Rattle.std.proofs.Common.{arith, ◌∷◌, [], subst, sym}
 use Rattle.gob_types.specs.Defined.{types}
 use Rattle.gob_value.specs.View.{view}
 use Rattle.gob_stream.specs.Item.{item_view}
 use Rattle.gob_tool.specs.Machine.Receiver.{is_received_of_item, ReceivesNone}
 use Rattle.gob_tool.specs.Machine.Taken.{AreSent}
-use Rattle.gob_tool.specs.Taking.{definition, no_item}
+use Rattle.gob_tool.specs.Machine.Received.{definition, no_item}
 use Rattle.gob_tool.proofs.EndLaws.{fault_at}
 use Rattle.gob_tool.proofs.TakeRuns.{clash_given, sent_fits, sent_ready, value_received}
 use Rattle.gob_tool.proofs.received.push_received.Goals as goal
@@ -31,10 +31,11 @@ pub returns-in-Define-clause-made : goal.returns-in-Define-clause-made
 returns-in-Define-clause-made g c =
     rw c.in-Define.is (rw c.requires.empty (definition no_item))
 
-pub returns-in_ok-made-in-Put-clause-made : goal.returns-in_ok-made-in-Put-clause-made
-returns-in_ok-made-in-Put-clause-made g c =
+pub returns-in_ok-pushed-in-Put-clause-made : goal.returns-in_ok-pushed-in-Put-clause-made
+returns-in_ok-pushed-in-Put-clause-made g c =
     let x = c.in_ok-value-in-Put in
-    subst (λ i. is_received_of_item (types c.args.receiver.now.wanted.now) c.args.receiver.now.wanted_id
-    (types c.args.stream.now) i c.given_line-made.new.line.items) (sym c.in-Put.is)
+    let receiver = c.args.receiver.now in
+    subst (λ i. is_received_of_item receiver.form (types receiver.wanted.now) receiver.wanted_id
+    (types c.args.stream.now) i c.push-pushed.new.text.items) (sym c.in-Put.is)
     (value_received c.in-Put.id (view c.in-Put.value) (view x.value) x.ensures.matched x.ensures.received
-    c.in_ok-made-in-Put.ensures)
+    c.in_ok-pushed-in-Put.ensures)

@@ -38,3 +38,9 @@ returns-in-Take-clause-does g c = λ wanted_bytes bytes known left.
     let taken = rw (c.limits_of-limits.ensures, within_order c.args.order.now _ c.in-Take.is) at
     c.run_take.ensures.taken in
     rw c.in-Take.is (taken wanted_bytes bytes known left)
+
+pub returns-in-Convert-clause-does : goal.returns-in-Convert-clause-does
+returns-in-Convert-clause-does g c = λ wanted_bytes bytes known left.
+    let converted = rw (c.limits_of-limits.ensures, within_order c.args.order.now _ c.in-Convert.is) at
+    c.run_convert.ensures.converted in
+    rw c.in-Convert.is (converted wanted_bytes bytes known left)

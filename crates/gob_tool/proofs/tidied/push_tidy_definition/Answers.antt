@@ -7,8 +7,8 @@ use Rattle.gob_tool.proofs.tidied.push_tidy_definition.Goals as goal
 pub tidy-requires : goal.tidy-requires
 tidy-requires c = (described_last c.requires.of_stream).fits
 
-pub spell_description-spelled-requires : goal.spell_description-spelled-requires
-spell_description-spelled-requires c =
+pub spell_fitting-spelled-requires : goal.spell_fitting-spelled-requires
+spell_fitting-spelled-requires c =
     form_shallow (described_last c.requires.of_stream).shallow c.in_ok-tidied.ensures.fits
 
 pub overflow_cast-id : goal.overflow_cast-id

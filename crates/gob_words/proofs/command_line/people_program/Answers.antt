@@ -3,7 +3,7 @@ use Rattle.std.proofs.Common.{◌≡◌, ◌∙◌, ap, subst, true}
 use Rattle.std.specs.Result.{IfOk}
 use Rattle.clap.specs.Words.{App, app_of, with_subcommand}
 use Rattle.clap.specs.Simple.{app_of_fields}
-use Rattle.gob_words.specs.Words.{explain, one_stream, types, values, verify}
+use Rattle.gob_words.specs.Words.{explain, join, one_stream, split, types, values, verify}
 use Rattle.std.specs.Prelude.{codes}
 use Rattle.gob_words.proofs.command_line.people_program.Goals as goal
 
@@ -25,6 +25,9 @@ returns c =
     ∙ ap (λ (x : App). with_subcommand x explain.top) telling in
     let verifying = c.in_ok-verifying.ensures verify c.verify.ensures.app
     ∙ ap (λ (x : App). with_subcommand x verify.top) explaining in
-    subst (λ (a : App). IfOk c.with_command-6.result (λ more. app_of more
-    ≡ with_subcommand a (one_stream (codes "salvage")).top)) verifying
-    (c.with_command-6.ensures (one_stream (codes "salvage")) c.one_stream.ensures.app)
+    let salvaging = c.in_ok-salvaging.ensures (one_stream (codes "salvage")) c.one_stream-salvage.ensures.app
+    ∙ ap (λ (x : App). with_subcommand x (one_stream (codes "salvage")).top) verifying in
+    let splitting = c.in_ok-splitting.ensures split c.split.ensures.app
+    ∙ ap (λ (x : App). with_subcommand x split.top) salvaging in
+    subst (λ (a : App). IfOk c.with_command-8.result (λ more. app_of more ≡ with_subcommand a join.top)) splitting
+    (c.with_command-8.ensures join c.join.ensures.app)

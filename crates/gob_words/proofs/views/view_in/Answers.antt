@@ -17,14 +17,15 @@ returns-then-not-is_asked c = λ view h.
     let word = c.get_str.ensures ∙ first_value-rows f (codes "go") in
     let given = view_meets (subcommand_rows_of c.args.matches.now) c.in_ok-command.command (rows_of f) view met h in
     let hoist = c.get_str-2.ensures ∙ first_value-rows f (codes "hoist") in
-    c.if-not-is_asked.ensures (asked_alike _ _ _ _ _ (sym word) (sym hoist) given.asked)
+    let salvage = c.get_str-3.ensures ∙ first_value-rows f (codes "salvage") in
+    c.if-not-is_asked.ensures (asked_alike _ _ _ _ _ _ _ (sym word) (sym hoist) (sym salvage) given.asked)
 
 pub returns-in_err-depth : goal.returns-in_err-depth
 returns-in_err-depth c =
     let f = found_of c.in_ok-name.matches.now in
     let met = views_together _ _ _ _ _ _ c.in_ok-name.ensures.name c.in_ok-name.ensures.rows
     c.in_ok-command.ensures in
-    let word = c.get_str-3.ensures ∙ first_value-rows f (codes "depth") in
+    let word = c.get_str-4.ensures ∙ first_value-rows f (codes "depth") in
     rw c.from_residual-in_err-depth.ensures (λ view h.
     let given = view_meets (subcommand_rows_of c.args.matches.now) c.in_ok-command.command (rows_of f) view met h in
     c.in_err-depth.ensures view.depth (writes_alike _ _ _ _ (sym word) given.depth))
@@ -34,7 +35,7 @@ returns-in_err-item c =
     let f = found_of c.in_ok-name.matches.now in
     let met = views_together _ _ _ _ _ _ c.in_ok-name.ensures.name c.in_ok-name.ensures.rows
     c.in_ok-command.ensures in
-    let word = c.get_str-4.ensures ∙ first_value-rows f (codes "item") in
+    let word = c.get_str-5.ensures ∙ first_value-rows f (codes "item") in
     rw c.from_residual-in_err-item.ensures (λ view h.
     let given = view_meets (subcommand_rows_of c.args.matches.now) c.in_ok-command.command (rows_of f) view met h in
     c.in_err-item.ensures view.item (writes_alike _ _ _ _ (sym word) given.item))
@@ -44,17 +45,27 @@ returns-in_err-at c =
     let f = found_of c.in_ok-name.matches.now in
     let met = views_together _ _ _ _ _ _ c.in_ok-name.ensures.name c.in_ok-name.ensures.rows
     c.in_ok-command.ensures in
-    let word = c.get_str-5.ensures ∙ first_value-rows f (codes "at") in
+    let word = c.get_str-6.ensures ∙ first_value-rows f (codes "at") in
     rw c.from_residual-in_err-at.ensures (λ view h.
     let given = view_meets (subcommand_rows_of c.args.matches.now) c.in_ok-command.command (rows_of f) view met h in
     c.in_err-at.ensures view.at (subst (λ w. IsPlaceOf c.in_ok-command.command w view.at) (sym word) given.at))
+
+pub returns-in_err-line : goal.returns-in_err-line
+returns-in_err-line c =
+    let f = found_of c.in_ok-name.matches.now in
+    let met = views_together _ _ _ _ _ _ c.in_ok-name.ensures.name c.in_ok-name.ensures.rows
+    c.in_ok-command.ensures in
+    let word = c.get_str-7.ensures ∙ first_value-rows f (codes "line") in
+    rw c.from_residual-in_err-line.ensures (λ view h.
+    let given = view_meets (subcommand_rows_of c.args.matches.now) c.in_ok-command.command (rows_of f) view met h in
+    c.in_err-line.ensures view.line (writes_alike _ _ _ _ (sym word) given.line))
 
 pub returns-then-depth-lt1 : goal.returns-then-depth-lt1
 returns-then-depth-lt1 c = λ view h.
     let f = found_of c.in_ok-name.matches.now in
     let met = views_together _ _ _ _ _ _ c.in_ok-name.ensures.name c.in_ok-name.ensures.rows
     c.in_ok-command.ensures in
-    let word = c.get_str-3.ensures ∙ first_value-rows f (codes "depth") in
+    let word = c.get_str-4.ensures ∙ first_value-rows f (codes "depth") in
     let given = view_meets (subcommand_rows_of c.args.matches.now) c.in_ok-command.command (rows_of f) view met h in
     let depth = one_number _ _ _ _ given.depth (writes_alike _ _ _ _ word c.in_ok-depth.ensures) in
     elim c.then-depth-lt1.branch [
@@ -70,23 +81,26 @@ returns c =
       rows = rows_of f;
       command = views_together _ _ _ _ _ _ c.in_ok-name.ensures.name c.in_ok-name.ensures.rows
           c.in_ok-command.ensures;
-      asked = asked_alike _ _ _ _ _ (c.get_str.ensures ∙ first_value-rows f (codes "go"))
-          (c.get_str-2.ensures ∙ first_value-rows f (codes "hoist")) c.if-not-is_asked.ensures;
-      input = rw (← c.get_str-6.ensures ∙ first_value-rows f (codes "IN")) c.file_of.ensures;
-      depth = writes_alike _ _ _ _ (c.get_str-3.ensures ∙ first_value-rows f (codes "depth")) c.in_ok-depth.ensures;
-      item = writes_alike _ _ _ _ (c.get_str-4.ensures ∙ first_value-rows f (codes "item")) c.in_ok-item.ensures;
-      zeros = rw (← c.get_str-7.ensures ∙ first_value-rows f (codes "zeros")) c.is_given.ensures;
-      raw = rw (← c.get_str-8.ensures ∙ first_value-rows f (codes "raw")) c.is_given-2.ensures;
-      tagged = rw (← c.get_str-9.ensures ∙ first_value-rows f (codes "tagged")) c.is_given-3.ensures;
-      typed = rw (← c.get_str-10.ensures ∙ first_value-rows f (codes "typed")) c.is_given-4.ensures;
-      only = rw (← c.get_str-11.ensures ∙ first_value-rows f (codes "only")) c.only_of.ensures;
-      each = given_as_set _ _ _ (c.get_str-12.ensures ∙ first_value-rows f (codes "each")) c.is_set.ensures;
+      asked = asked_alike _ _ _ _ _ _ _ (c.get_str.ensures ∙ first_value-rows f (codes "go"))
+          (c.get_str-2.ensures ∙ first_value-rows f (codes "hoist"))
+          (c.get_str-3.ensures ∙ first_value-rows f (codes "salvage")) c.if-not-is_asked.ensures;
+      input = rw (← c.get_str-8.ensures ∙ first_value-rows f (codes "IN")) c.file_of.ensures;
+      depth = writes_alike _ _ _ _ (c.get_str-4.ensures ∙ first_value-rows f (codes "depth")) c.in_ok-depth.ensures;
+      item = writes_alike _ _ _ _ (c.get_str-5.ensures ∙ first_value-rows f (codes "item")) c.in_ok-item.ensures;
+      zeros = rw (← c.get_str-9.ensures ∙ first_value-rows f (codes "zeros")) c.is_given.ensures;
+      raw = rw (← c.get_str-10.ensures ∙ first_value-rows f (codes "raw")) c.is_given-2.ensures;
+      tagged = rw (← c.get_str-11.ensures ∙ first_value-rows f (codes "tagged")) c.is_given-3.ensures;
+      typed = rw (← c.get_str-12.ensures ∙ first_value-rows f (codes "typed")) c.is_given-4.ensures;
+      only = rw (← c.get_str-13.ensures ∙ first_value-rows f (codes "only")) c.only_of.ensures;
+      each = given_as_set _ _ _ (c.get_str-14.ensures ∙ first_value-rows f (codes "each")) c.is_set.ensures;
       kinds = c.requires;
-      main = given_as_set _ _ _ (c.get_str-13.ensures ∙ first_value-rows f (codes "main")) c.is_set-2.ensures;
-      progress = given_as_set _ _ _ (c.get_str-14.ensures ∙ first_value-rows f (codes "progress")) c.is_set-3.ensures;
-      hoist = rw (← c.get_str-15.ensures ∙ first_value-rows f (codes "hoist")) c.is_hoist_asked.ensures;
-      fault = rw (← c.get_str-16.ensures ∙ first_value-rows f (codes "fault")) c.is_fault_asked.ensures;
-      at = rw (← c.get_str-5.ensures ∙ first_value-rows f (codes "at")) c.in_ok-at.ensures;
+      main = given_as_set _ _ _ (c.get_str-15.ensures ∙ first_value-rows f (codes "main")) c.is_set-2.ensures;
+      progress = given_as_set _ _ _ (c.get_str-16.ensures ∙ first_value-rows f (codes "progress")) c.is_set-3.ensures;
+      salvage = given_as_set _ _ _ (c.get_str-17.ensures ∙ first_value-rows f (codes "salvage")) c.is_set-4.ensures;
+      hoist = rw (← c.get_str-18.ensures ∙ first_value-rows f (codes "hoist")) c.is_hoist_asked.ensures;
+      fault = rw (← c.get_str-19.ensures ∙ first_value-rows f (codes "fault")) c.is_fault_asked.ensures;
+      at = rw (← c.get_str-6.ensures ∙ first_value-rows f (codes "at")) c.in_ok-at.ensures;
+      line = writes_alike _ _ _ _ (c.get_str-7.ensures ∙ first_value-rows f (codes "line")) c.in_ok-line.ensures;
       least = omega (arith, c.if-depth-lt1.false);
       most = omega (arith, c.if-depth-gt-GREATEST_DEPTH.false);
     }

@@ -43,7 +43,7 @@ behind-behind-requires c =
 pub begin_held-requires : goal.begin_held-requires
 begin_held-requires c =
     let w = taken_whole c.take.new.self c.in_ok-take.field-0 c.in-Whole.is c.in_ok-take.ensures.answers in
-    rw c.behind-behind.ensures.limits
+    rw (c.behind-behind.ensures.limits, c.behind-behind.ensures.keeps)
     (held_whole c.take.new.self c.args.piece.now c.requires.has_read w c.in_ok-take.ensures.rest
     c.behind-behind.ensures.taken)
 
@@ -56,7 +56,7 @@ returns-in_err-taken-in-Whole c =
     let p = err_from_is_err_and c.from_residual-in_err-taken-in-Whole.result
     c.from_residual-in_err-taken-in-Whole.ensures.1 in
     let w = taken_whole c.take.new.self c.in_ok-take.field-0 c.in-Whole.is c.in_ok-take.ensures.answers in
-    let steps = rw c.behind-behind.ensures.limits at c.in_err-taken-in-Whole.ensures in
+    let steps = rw (c.behind-behind.ensures.limits, c.behind-behind.ensures.keeps) at c.in_err-taken-in-Whole.ensures in
     rw (p.1, p.2) (record {
       each = λ T offset z h o. held_stopped_behind c.take.new.self c.args.piece.now
           (take (length c.args.piece.now - c.in-Whole.used) (drop c.in-Whole.used c.args.piece.now))
@@ -70,7 +70,7 @@ behind-requires c =
     let w = taken_whole c.take.new.self c.in_ok-take.field-0 c.in-Whole.is c.in_ok-take.ensures.answers in
     let h = held_whole c.take.new.self c.args.piece.now c.requires.has_read w c.in_ok-take.ensures.rest
     c.behind-behind.ensures.taken in
-    let steps = rw c.behind-behind.ensures.limits at c.in_ok-taken-in-Whole.ensures in
+    let steps = rw (c.behind-behind.ensures.limits, c.behind-behind.ensures.keeps) at c.in_ok-taken-in-Whole.ensures in
     let few = held_few c.args.piece.now c.in-Whole.used (slice_rest c.args.piece.now c.in-Whole.used) w.within h
     steps in
     omega arith
@@ -78,7 +78,7 @@ behind-requires c =
 pub returns-in_ok-taken-in-Whole : goal.returns-in_ok-taken-in-Whole
 returns-in_ok-taken-in-Whole c =
     let w = taken_whole c.take.new.self c.in_ok-take.field-0 c.in-Whole.is c.in_ok-take.ensures.answers in
-    let steps = rw c.behind-behind.ensures.limits at c.in_ok-taken-in-Whole.ensures in
+    let steps = rw (c.behind-behind.ensures.limits, c.behind-behind.ensures.keeps) at c.in_ok-taken-in-Whole.ensures in
     rw c.behind.ensures (record {
       each = λ T offset z h o. held_further c.take.new.self c.args.piece.now
           (take (length c.args.piece.now - c.in-Whole.used) (drop c.in-Whole.used c.args.piece.now))

@@ -78,7 +78,8 @@ returns-in_err-open-in-Whole c =
 pub take_value-requires : goal.take_value-requires
 take_value-requires c =
     let w = taken_whole c.take.new.self c.in_ok-take.field-0 c.in-Whole.is c.in_ok-take.ensures.answers in
-    rw c.behind-behind.ensures.limits (held_in_value (held_opens c.take.new.self (omega arith) c.requires.has_read w
+    rw (c.behind-behind.ensures.limits, c.behind-behind.ensures.keeps)
+    (held_in_value (held_opens c.take.new.self (omega arith) c.requires.has_read w
     c.in_ok-take.ensures.rest c.behind-behind.ensures.taken c.in_ok-within-in-Whole.ensures
     c.in_ok-open-in-Whole.ensures) c.requires.has_read
     (bytes_each c.args.piece.now (λ i. omega (arith, c.type_inv.piece i))))
@@ -88,7 +89,8 @@ returns-in_err-taken-in-Whole c =
     let p = err_from_is_err_and c.from_residual-in_err-taken-in-Whole.result
     c.from_residual-in_err-taken-in-Whole.ensures.1 in
     let w = taken_whole c.take.new.self c.in_ok-take.field-0 c.in-Whole.is c.in_ok-take.ensures.answers in
-    let answers = rw c.behind-behind.ensures.limits at c.in_err-taken-in-Whole.ensures in
+    let answers = rw (c.behind-behind.ensures.limits, c.behind-behind.ensures.keeps) at
+    c.in_err-taken-in-Whole.ensures in
     rw (p.1, p.2) (record {
       each = λ T offset z h o. held_fails c.in_err-taken-in-Whole.field-0.0
           (take (length c.args.piece.now - c.in-Whole.used) (drop c.in-Whole.used c.args.piece.now))
@@ -101,7 +103,8 @@ returns-in_err-taken-in-Whole c =
 pub behind-requires : goal.behind-requires
 behind-requires c =
     let w = taken_whole c.take.new.self c.in_ok-take.field-0 c.in-Whole.is c.in_ok-take.ensures.answers in
-    let answers = rw c.behind-behind.ensures.limits at c.in_ok-taken-in-Whole.ensures in
+    let answers = rw (c.behind-behind.ensures.limits, c.behind-behind.ensures.keeps) at
+    c.in_ok-taken-in-Whole.ensures in
     let few = held_few c.in_ok-taken-in-Whole.taken
     (take (length c.args.piece.now - c.in-Whole.used) (drop c.in-Whole.used c.args.piece.now))
     (slice_rest c.args.piece.now c.in-Whole.used)
@@ -113,7 +116,8 @@ behind-requires c =
 pub returns-in_ok-taken-in-Whole : goal.returns-in_ok-taken-in-Whole
 returns-in_ok-taken-in-Whole c =
     let w = taken_whole c.take.new.self c.in_ok-take.field-0 c.in-Whole.is c.in_ok-take.ensures.answers in
-    let answers = rw c.behind-behind.ensures.limits at c.in_ok-taken-in-Whole.ensures in
+    let answers = rw (c.behind-behind.ensures.limits, c.behind-behind.ensures.keeps) at
+    c.in_ok-taken-in-Whole.ensures in
     rw c.behind.ensures (record {
       each = λ T offset z h o. held_goes c.in_ok-taken-in-Whole.taken
           (take (length c.args.piece.now - c.in-Whole.used) (drop c.in-Whole.used c.args.piece.now))

@@ -8,11 +8,11 @@ use Rattle.gob_go.proofs.levels.Levels.end_values.Given as goal
 -- one value after another is whole behind the same bytes
 abbrev pub invariant-loop-outer : goal.invariant-loop-outer
 invariant-loop-outer l = record {
-  is : IsBehindValue (within_trees l.around.limits) l.table l.around.taken l.self;
+  is : IsBehindValue l.around.keeps (within_trees l.around.limits) l.table l.around.taken l.self;
   each : (T : Table) (offset : ℕ) (z : List ℕ)
-      → ValueIsWhole (within_trees l.around.limits) T offset (types l.table) l.fn.self z
+      → ValueIsWhole l.around.keeps (within_trees l.around.limits) T offset (types l.table) l.fn.self z
       → l.around.taken ≡ offset + length z
-      → ValueIsWhole (within_trees l.around.limits) T offset (types l.table) l.self z;
+      → ValueIsWhole l.around.keeps (within_trees l.around.limits) T offset (types l.table) l.self z;
 }
 
 abbrev pub decreases-loop-outer : goal.decreases-loop-outer

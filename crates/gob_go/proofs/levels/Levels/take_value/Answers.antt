@@ -56,7 +56,7 @@ pub take-requires-in-ToNil : goal.take-requires-in-ToNil
 take-requires-in-ToNil c =
     let r = has_come (types c.args.table.now) c.args.around.now.taken c.args.self.now c.take.new.self
     c.args.piece.now (came.ToNil c.in-ToNil.used) c.in-ToNil.is c.in_ok-take.ensures in
-    rw c.behind-behind.ensures.limits (record {
+    rw (c.behind-behind.ensures.limits, c.behind-behind.ensures.keeps) (record {
       has_read = nil_comes c.requires r (bytes_each c.args.piece.now (λ i. omega (arith, c.type_inv.piece i)))
           c.behind-behind.ensures.taken c.new-length.ensures;
     })
@@ -67,7 +67,8 @@ returns-in_err-taken-in-ToNil c =
     c.from_residual-in_err-taken-in-ToNil.ensures.1 in
     let r = has_come (types c.args.table.now) c.args.around.now.taken c.args.self.now c.take.new.self
     c.args.piece.now (came.ToNil c.in-ToNil.used) c.in-ToNil.is c.in_ok-take.ensures in
-    let answers = rw c.behind-behind.ensures.limits at c.in_err-taken-in-ToNil.ensures in
+    let answers = rw (c.behind-behind.ensures.limits, c.behind-behind.ensures.keeps) at
+    c.in_err-taken-in-ToNil.ensures in
     rw (p.1, p.2) (record {
       each = λ T offset z h o. nil_stops c.in_err-taken-in-ToNil.field-0.0
           (take (length c.args.piece.now - c.in-ToNil.used) (drop c.in-ToNil.used c.args.piece.now))
@@ -80,7 +81,8 @@ pub behind-requires : goal.behind-requires
 behind-requires c =
     let r = has_come (types c.args.table.now) c.args.around.now.taken c.args.self.now c.take.new.self
     c.args.piece.now (came.ToNil c.in-ToNil.used) c.in-ToNil.is c.in_ok-take.ensures in
-    let answers = rw c.behind-behind.ensures.limits at c.in_ok-taken-in-ToNil.ensures in
+    let answers = rw (c.behind-behind.ensures.limits, c.behind-behind.ensures.keeps) at
+    c.in_ok-taken-in-ToNil.ensures in
     let few = nil_few c.in_ok-taken-in-ToNil.taken
     (take (length c.args.piece.now - c.in-ToNil.used) (drop c.in-ToNil.used c.args.piece.now))
     (slice_rest c.args.piece.now c.in-ToNil.used) c.requires r c.behind-behind.ensures.taken c.new-length.ensures
@@ -91,7 +93,8 @@ pub returns-in_ok-taken-in-ToNil : goal.returns-in_ok-taken-in-ToNil
 returns-in_ok-taken-in-ToNil c =
     let r = has_come (types c.args.table.now) c.args.around.now.taken c.args.self.now c.take.new.self
     c.args.piece.now (came.ToNil c.in-ToNil.used) c.in-ToNil.is c.in_ok-take.ensures in
-    let answers = rw c.behind-behind.ensures.limits at c.in_ok-taken-in-ToNil.ensures in
+    let answers = rw (c.behind-behind.ensures.limits, c.behind-behind.ensures.keeps) at
+    c.in_ok-taken-in-ToNil.ensures in
     let rest = slice_rest c.args.piece.now c.in-ToNil.used in
     rw c.behind.ensures (record {
       each = λ T offset z h o. nil_further c.in_ok-taken-in-ToNil.taken
@@ -111,7 +114,8 @@ pub end_values-requires : goal.end_values-requires
 end_values-requires c =
     let r = has_come (types c.args.table.now) c.args.around.now.taken c.args.self.now c.take.new.self
     c.args.piece.now (came.PastValue c.in-PastValue.used) c.in-PastValue.is c.in_ok-take.ensures in
-    rw c.behind-in-PastValue.ensures.limits (value_behind c.requires r c.behind-in-PastValue.ensures.taken)
+    rw (c.behind-in-PastValue.ensures.limits, c.behind-in-PastValue.ensures.keeps)
+    (value_behind c.requires r c.behind-in-PastValue.ensures.taken)
 
 pub returns-in_err-goes-in-PastValue : goal.returns-in_err-goes-in-PastValue
 returns-in_err-goes-in-PastValue c =
@@ -119,7 +123,8 @@ returns-in_err-goes-in-PastValue c =
     c.from_residual-in_err-goes-in-PastValue.ensures.1 in
     let r = has_come (types c.args.table.now) c.args.around.now.taken c.args.self.now c.take.new.self
     c.args.piece.now (came.PastValue c.in-PastValue.used) c.in-PastValue.is c.in_ok-take.ensures in
-    let answers = rw c.behind-in-PastValue.ensures.limits at c.in_err-goes-in-PastValue.ensures in
+    let answers = rw (c.behind-in-PastValue.ensures.limits, c.behind-in-PastValue.ensures.keeps) at
+    c.in_err-goes-in-PastValue.ensures in
     rw (p.1, p.2) (record {
       each = λ T offset z h o. past_stops c.in_err-goes-in-PastValue.field-0.0 c.requires r
           c.behind-in-PastValue.ensures.taken answers h o;
@@ -130,7 +135,8 @@ pub returns-in_ok-goes-in-PastValue : goal.returns-in_ok-goes-in-PastValue
 returns-in_ok-goes-in-PastValue c =
     let r = has_come (types c.args.table.now) c.args.around.now.taken c.args.self.now c.take.new.self
     c.args.piece.now (came.PastValue c.in-PastValue.used) c.in-PastValue.is c.in_ok-take.ensures in
-    let answers = rw c.behind-in-PastValue.ensures.limits at c.in_ok-goes-in-PastValue.ensures in
+    let answers = rw (c.behind-in-PastValue.ensures.limits, c.behind-in-PastValue.ensures.keeps) at
+    c.in_ok-goes-in-PastValue.ensures in
     rw c.behind_value.ensures (record {
       each = λ T offset z h o. past_further c.in_ok-goes-in-PastValue.goes c.requires r
           c.behind-in-PastValue.ensures.taken answers h o;

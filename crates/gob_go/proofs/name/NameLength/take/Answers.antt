@@ -62,7 +62,7 @@ fill-requires c =
     let w = taken_whole c.take.new.self c.in_ok-take.field-0 c.in-Whole-eq0-default.is c.in_ok-take.ensures.answers in
     let zero = whole_as w c.in-Whole-eq0-default.number-test in
     let taken = h.taken_is in let behind = c.behind.ensures.taken in
-    rw c.behind.ensures.limits (record {
+    rw (c.behind.ensures.limits, c.behind.ensures.keeps) (record {
       table = h.table;
       offset = h.offset;
       bytes = h.bytes ++ take c.in-Whole-eq0-default.used c.args.piece.now;
@@ -85,7 +85,7 @@ returns-in_err-goes-in-Whole-eq0-default c =
     let zero = whole_as w c.in-Whole-eq0-default.number-test in
     let used = c.in-Whole-eq0-default.used in
     let at = length_at r.has_read r.taken_is in
-    let goes = rw c.behind.ensures.limits at c.in_err-goes-in-Whole-eq0-default.ensures in
+    let goes = rw (c.behind.ensures.limits, c.behind.ensures.keeps) at c.in_err-goes-in-Whole-eq0-default.ensures in
     rw (p.1, p.2) (record {
       each = λ T offset z h o.
           goes_stopped used c.in_err-goes-in-Whole-eq0-default.field-0.0
@@ -102,7 +102,7 @@ returns-in_ok-goes-in-Whole-eq0-default c =
     let zero = whole_as w c.in-Whole-eq0-default.number-test in
     let used = c.in-Whole-eq0-default.used in
     let at = length_at r.has_read r.taken_is in
-    let goes = rw c.behind.ensures.limits at c.in_ok-goes-in-Whole-eq0-default.ensures in
+    let goes = rw (c.behind.ensures.limits, c.behind.ensures.keeps) at c.in_ok-goes-in-Whole-eq0-default.ensures in
     rw c.behind_value.ensures (record {
       each = λ T offset z h o.
           goes_behind c.in_ok-goes-in-Whole-eq0-default.goes

@@ -8,7 +8,7 @@ returns-clause-passed c =
     let between = rw (← c.self.view_is) at c.requires.between in
     let most = c.stream-most.ensures.limits.stream in
     let bytes = bytes_each c.args.items.now (λ i. omega (arith, c.type_inv.items i)) in
-    rw (← c.self.view_is) (passed between (omega arith) bytes c.new.ensures refl)
+    rw (← c.self.view_is) (λ keep. passed between (omega arith) bytes c.new.ensures refl)
 
 pub invariant_of-self : goal.invariant_of-self
 invariant_of-self c =
@@ -16,7 +16,7 @@ invariant_of-self c =
     let items = rw (← c.self.view_is) at c.requires.items in
     let most = c.stream-most.ensures.limits.stream in
     let bytes = bytes_each c.args.items.now (λ i. omega (arith, c.type_inv.items i)) in
-    usable_behind between items (passed between (omega arith) bytes c.new.ensures refl) c.self.invariant
+    usable_behind between items (λ keep. passed between (omega arith) bytes c.new.ensures refl) c.self.invariant
 
 pub overflow_add-self : goal.overflow_add-self
 overflow_add-self c =

@@ -1,4 +1,4 @@
-use Rattle.std.proofs.Common.{ap, arith, length-take-le}
+use Rattle.std.proofs.Common.{ap, arith, length-take-le, true}
 use Rattle.gob_go.proofs.ValuesSteps.{passes_items, prefix_items}
 use Rattle.gob_go.proofs.WholeSteps.{passes_none}
 use Rattle.gob_go.proofs.session.GoSession.pass_values.Goals as goal
@@ -19,12 +19,19 @@ go_past-requires-clause-items c =
     let taken = ap (λ s. s.taken) c.self.view_is in
     prefix_items c.args.self.now c.args.piece.now (rw (limits, table, taken) at c.filled_values-passed.ensures)
 
-pub returns-clause-passed : goal.returns-clause-passed
-returns-clause-passed c =
+pub returns-then-not-is_between-clause-any : goal.returns-then-not-is_between-clause-any
+returns-then-not-is_between-clause-any c = λ keep. passes_none
+
+pub returns-clause-any : goal.returns-clause-any
+returns-clause-any c =
     let limits = ap (λ s. s.limits) c.self.view_is in
     let table = ap (λ s. s.types) c.self.view_is in
     let taken = ap (λ s. s.taken) c.self.view_is in
-    passes_items c.args.piece.now (rw (limits, table, taken) at c.filled_values-passed.ensures) c.go_past.ensures.passed
+    λ keep. passes_items c.args.piece.now (rw (limits, table, taken) at c.filled_values-passed.ensures)
+    (c.go_past.ensures.passed keep)
+
+pub returns-clause-passed : goal.returns-clause-passed
+returns-clause-passed c = returns-clause-any c true
 
 pub returns-clause-taken : goal.returns-clause-taken
 returns-clause-taken c =

@@ -1,13 +1,20 @@
-use Rattle.std.proofs.Common.{arith, refl, ap}
+use Rattle.std.proofs.Common.{arith, refl, ap, true}
 use Rattle.std.proofs.lemmas.Grind.{common_steps}
 use Rattle.gob_num.proofs.PublicLaws.{bytes_each}
 use Rattle.gob_go.specs.Machine.HasRead.{has_failed}
+use Rattle.gob_go.proofs.AdvanceSteps.{kept_advance}
 use Rattle.gob_go.proofs.AdvanceSteps.{item_of, never_read, advance_bound, steps_few, advance_between, advanced}
 use Rattle.gob_go.proofs.AdvanceSteps.{usable_on, stopped_there, within_there, stepped_on, over_nothing, not_read}
 use Rattle.gob_go.proofs.session.GoSession.step.Goals as goal
 
+pub returns-then-has_failed-clause-any : goal.returns-then-has_failed-clause-any
+returns-then-has_failed-clause-any c = λ keep items bytes a. not_read a c.if-has_failed.ensures.failed
+
 pub returns-then-has_failed-clause-advances : goal.returns-then-has_failed-clause-advances
 returns-then-has_failed-clause-advances c = λ items bytes a. not_read a c.if-has_failed.ensures.failed
+
+pub returns-then-is_empty-clause-any : goal.returns-then-is_empty-clause-any
+returns-then-is_empty-clause-any c = λ keep items bytes a. over_nothing (grind (arith, common_steps)) a
 
 pub returns-then-is_empty-clause-advances : goal.returns-then-is_empty-clause-advances
 returns-then-is_empty-clause-advances c = λ items bytes a. over_nothing (grind (arith, common_steps)) a
@@ -36,13 +43,16 @@ invariant_of-self c =
     (λ items bytes a. advanced a b (omega arith) (stepped_on c.replace-stage.ensures.value c.in-Ok.ensures b a)
     (c.in-Ok.ensures.some (grind (arith, common_steps))))
 
-pub returns-in-Ok-clause-advances : goal.returns-in-Ok-clause-advances
-returns-in-Ok-clause-advances c =
+pub returns-in-Ok-clause-any : goal.returns-in-Ok-clause-any
+returns-in-Ok-clause-any c =
     let b = bytes_each c.args.piece.now (λ i. omega (arith, c.type_inv.piece i)) in
     let most = c.stream-most.ensures.limits.stream in
     let some = c.in-Ok.ensures.some (grind (arith, common_steps)) in
-    rw (← c.self.view_is) (λ items bytes a. advanced a b (omega arith) (stepped_on c.replace-stage.ensures.value
-    c.in-Ok.ensures b a) some)
+    rw (← c.self.view_is) (λ keep items bytes a. kept_advance a (λ a. advanced a b (omega arith)
+    (stepped_on c.replace-stage.ensures.value c.in-Ok.ensures b a) some))
+
+pub returns-in-Ok-clause-advances : goal.returns-in-Ok-clause-advances
+returns-in-Ok-clause-advances c = returns-in-Ok-clause-any c true
 
 pub returns-in-Ok-clause-used : goal.returns-in-Ok-clause-used
 returns-in-Ok-clause-used c =
@@ -67,11 +77,14 @@ returns-in-Ok-clause-stays c = λ f. absurd (c.if-has_failed.ensures.failed f)
 pub invariant_of-self-in-Err : goal.invariant_of-self-in-Err
 invariant_of-self-in-Err c = has_failed c.replace-stage.ensures.after
 
-pub returns-in-Err-clause-advances : goal.returns-in-Err-clause-advances
-returns-in-Err-clause-advances c =
+pub returns-in-Err-clause-any : goal.returns-in-Err-clause-any
+returns-in-Err-clause-any c =
     let b = bytes_each c.args.piece.now (λ i. omega (arith, c.type_inv.piece i)) in
-    λ items bytes a. stopped_there (record c.args.self.now { types = c.take.new.table }) c.self.view_is refl
+    λ keep items bytes a. stopped_there (record c.args.self.now { types = c.take.new.table }) c.self.view_is refl
     (λ h. stepped_on c.replace-stage.ensures.value c.in-Err.ensures b h) a
+
+pub returns-in-Err-clause-advances : goal.returns-in-Err-clause-advances
+returns-in-Err-clause-advances c = returns-in-Err-clause-any c true
 
 pub returns-in-Err-clause-failed : goal.returns-in-Err-clause-failed
 returns-in-Err-clause-failed c = c.replace-stage.ensures.after

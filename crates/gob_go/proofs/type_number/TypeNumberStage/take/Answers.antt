@@ -52,7 +52,8 @@ pub returns-in_err-stepped-in-Whole : goal.returns-in_err-stepped-in-Whole
 returns-in_err-stepped-in-Whole c =
     let p = err_from_is_err_and c.from_residual-in_err-stepped-in-Whole.result
     c.from_residual-in_err-stepped-in-Whole.ensures.1 in
-    let steps = rw c.behind-behind.ensures.limits at c.in_err-stepped-in-Whole.ensures in
+    let steps = rw (c.behind-behind.ensures.limits, c.behind-behind.ensures.keeps) at
+    c.in_err-stepped-in-Whole.ensures in
     let w = taken_whole c.take.new.self c.in_ok-take.field-0 c.in-Whole.is c.in_ok-take.ensures.answers in
     rw (p.1, p.2) (record {
       each = λ T offset z h o. type_ends c.take.new.self c.args.piece.now
@@ -65,7 +66,8 @@ returns-in_err-stepped-in-Whole c =
 
 pub returns-in_ok-stepped-in-Whole : goal.returns-in_ok-stepped-in-Whole
 returns-in_ok-stepped-in-Whole c =
-    let steps = rw c.behind-behind.ensures.limits at c.in_ok-stepped-in-Whole.ensures in
+    let steps = rw (c.behind-behind.ensures.limits, c.behind-behind.ensures.keeps) at
+    c.in_ok-stepped-in-Whole.ensures in
     let w = taken_whole c.take.new.self c.in_ok-take.field-0 c.in-Whole.is c.in_ok-take.ensures.answers in
     rw c.behind.ensures (record {
       each = λ T offset z h o. type_further c.take.new.self c.args.piece.now
@@ -83,7 +85,8 @@ slice_bounds-begin_body-count c =
 pub behind-requires : goal.behind-requires
 behind-requires c =
     let w = taken_whole c.take.new.self c.in_ok-take.field-0 c.in-Whole.is c.in_ok-take.ensures.answers in
-    let steps = rw c.behind-behind.ensures.limits at c.in_ok-stepped-in-Whole.ensures in
+    let steps = rw (c.behind-behind.ensures.limits, c.behind-behind.ensures.keeps) at
+    c.in_ok-stepped-in-Whole.ensures in
     let h = type_whole c.take.new.self c.args.piece.now c.requires.has_read w c.in_ok-take.ensures.rest
     c.behind-behind.ensures.taken in
     let few = body_few c.args.piece.now c.in-Whole.used (slice_rest c.args.piece.now c.in-Whole.used) w.within

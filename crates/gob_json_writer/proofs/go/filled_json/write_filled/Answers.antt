@@ -5,11 +5,11 @@ use Rattle.gob_json_writer.specs.Nils as nils
 use Rattle.gob_go.specs.declared.filled.Filled.{Filled}
 use Rattle.gob_json_writer.specs.FilledJson.{PutShows, put_shows}
 use Rattle.gob_json_writer.specs.Machine.Holding.{Holds, IsLevelOf}
-use Rattle.gob_json_writer.specs.declared.go.holding.Level.{Level}
+use Rattle.gob_json_writer.specs.declared.go.holding.FilledTape.{FilledTape}
 use Rattle.gob_json_writer.proofs.go.filled_json.write_filled.Goals as goal
 
 -- what the value shows with its type, the level shows
-put_by_level : {T : Table} {id : TypeId} {value : Filled} {level : Level} {json : Data} → IsLevelOf T id value level
+put_by_level : {T : Table} {id : TypeId} {value : Filled} {level : FilledTape} {json : Data} → IsLevelOf T id value level
     → PutShows T id value json → nils.PutShows T id level.tape (Holds T level.nils) json
 put_by_level l (put_shows {w = w} {v = v} {N = N} f s) =
     let both = l.each w v N f s in nils.put_shows both.0 both.1

@@ -8,10 +8,10 @@ use Rattle.gob_json_writer.specs.declared.held.Held.{Held}
 use Rattle.gob_go.specs.declared.filled.Filling.{Filling, out-Filling}
 use Rattle.gob_json_writer.specs.Machine.Holding.{FillingShows, filling_shows, Holds, IsLevelOf}
 use Rattle.gob_json_writer.specs.declared.go.holding.Holding.{Holding}
-use Rattle.gob_json_writer.specs.declared.go.holding.Level.{Level}
+use Rattle.gob_json_writer.specs.declared.go.holding.FilledTape.{FilledTape}
 use Rattle.gob_json_writer.proofs.go.holding.held_of.Goals as goal
 
-shown_by : {T : Table} {kept : Filling} {level : Level} {json : Data} (held : Held Holding)
+shown_by : {T : Table} {kept : Filling} {level : FilledTape} {json : Data} (held : Held Holding)
     → held.name.items ≡ (out-Filling kept).name.items → held.id ≡ (out-Filling kept).id → held.tape ≡ level.tape
     → held.nils ≡ level.nils
     → IsLevelOf T (out-Filling kept).id (out-Filling kept).value level → FillingShows T kept json

@@ -7,4 +7,4 @@ use Rattle.gob_plain.proofs.go.placing.in_nils.Given as goal
 abbrev pub invariant-loop-nil : goal.invariant-loop-nil
 invariant-loop-nil l =
     InSoFar l.nils l.gaps l.fn.fillers.items l.left.behind (drop l.nil-index l.nils) (gaps_left l.left)
-    (fillers_left l.left) l.all.items
+    (fillers_left l.left) l.parted.texts.items l.parted.held.items

@@ -1,6 +1,6 @@
 use Rattle.std.proofs.Common.{arith, refl}
 use Rattle.std.proofs.lemmas.Result.{on_ok_weaker}
-use Rattle.gob_go.proofs.FeedSteps.{rest_of}
+use Rattle.gob_stream.proofs.Reader.FeedingSteps.{rest_of}
 use Rattle.gob_salvage.proofs.KeepingSteps.{goes_from, pass_few, still_kept, values_kept}
 use Rattle.gob_salvage.proofs.keeping.Keeper.go_on.Goals as goal
 

@@ -14,3 +14,10 @@ returns-clause-shown g c = λ items bytes h.
 
 pub returns-clause-stands : goal.returns-clause-stands
 returns-clause-stands g c = stands g.B.Builder.building c.step.new.self
+
+pub returns-clause-answers : goal.returns-clause-answers
+returns-clause-answers g c = record {
+  advances = c.step.ensures.advances;
+  types = c.step.ensures.types;
+  taken = c.step.ensures.taken;
+}

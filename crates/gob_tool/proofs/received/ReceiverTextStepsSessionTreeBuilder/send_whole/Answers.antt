@@ -1,11 +1,9 @@
--- What is received of the value that waits is made, and its line is sent.
-use Rattle.std.proofs.Common.{arith, refl, subst, sym}
+-- What is received of the value that waits is made, and its text is sent.
+use Rattle.std.proofs.Common.{arith, subst, sym}
 use Rattle.gob_types.specs.Defined.{Defined, types}
 use Rattle.gob_types.specs.Ready.{IsReady}
 use Rattle.gob_match.specs.Matching.{Match}
 use Rattle.gob_match.specs.ReceivedWhole.{ReceivesWhole}
-use Rattle.gob_stream.specs.Item.{puts}
-use Rattle.gob_tool.specs.Line.{line}
 use Rattle.gob_tool.specs.Machine.Receiver.{KeepsKnown}
 use Rattle.gob_tool.proofs.ShowLaws.{next_whole}
 use Rattle.gob_tool.proofs.TakeRuns.{value_received}
@@ -38,16 +36,16 @@ returns-clause-sent g c =
     c.table.ensures (subst (ReceivesWhole T U item.id u depth item.body.now) (sym c.deref.ensures.value)
     (c.receive_whole.ensures.received c.if-not-receive_whole.false)) in
     let m = subst (λ (D : Defined). Match (types D) U item.id u) c.table.ensures
-    (c.receive_whole.ensures.matched c.if-not-receive_whole.false) in (
-      line U (puts u v.made),
+    (c.receive_whole.ensures.matched c.if-not-receive_whole.false) in
+    let sent = c.in_ok-sent.ensures (record { value = v.made; spelled = v.made_spelled; within = v.made_within }) in (
+      sent.0,
       record {
         id = item.id;
         value = v.value;
         item = next_whole (omega (arith, c.line_depth-depth.ensures)) w.between w.next
             (record { value = v.value; spelled = v.spelled; within = v.within });
-        is = value_received item.id v.value v.made m v.receives refl;
+        is = value_received item.id v.value v.made m v.receives sent.1;
       },
-      c.send_item-sent.ensures.sent (record
-          { value = v.made; spelled = v.made_spelled; within = v.made_within }),
-      c.send_item-sent.ensures.counted,
+      sent.2,
+      sent.3,
     )

@@ -47,7 +47,8 @@ returns-in_err-item-clause-made g c = λ read now given h.
     let U = types c.args.self.now.wanted.now in
     let u = c.args.self.now.wanted_id in
     let e = c.in_err-item.field-0.0 in
-    makes_at d (IsReceived U u) (IsClash U u) c.args.reader.now c.step.new.self read now given c.args.text.now.items
+    makes_at d (IsReceived c.args.self.now.form U u) (IsClash U u) c.args.reader.now c.step.new.self read now given
+    c.args.text.now.items
     c.from_residual.result (reading_fault e) c.from_residual.ensures.1
     (stops_reading (types_behind d h) e (c.in_err-item.ensures.stepped read now given h))
 
@@ -66,7 +67,7 @@ push_received-made-requires g c =
         (
           subst (λ (D : Defined). StaysKnown (types D) U u c.args.kept.now (Some c.in-Some.item)) (sym c.table.ensures)
               (step_known so e.stands e.limits st c.in-Some.is U u c.args.kept.now c.requires.fits.known),
-          (c.requires.fits.ready, c.requires.empty),
+          (c.requires.fits.ready, (c.requires.fits.number, c.requires.empty)),
         ),
       ),
     )
@@ -75,8 +76,9 @@ pub returns-in_default-clause-made : goal.returns-in_default-clause-made
 returns-in_default-clause-made g c = λ read now given h.
     step_made d c.in_ok-item.ensures.stands c.in_ok-item.ensures.used c.in_ok-item.ensures.limits
     (c.in_ok-item.ensures.stepped read now given h) c.in_ok-item.ensures.between
-    (subst (λ (o : Option (declared.Item Value)). TextGiven (is_received_of_item (types c.args.self.now.wanted.now)
-    c.args.self.now.wanted_id) (types_of (session_of c.step.new.self)) o c.args.text.now.items) (sym c.in_default.is)
+    (subst (λ (o : Option (declared.Item Value)). TextGiven (is_received_of_item c.args.self.now.form
+    (types c.args.self.now.wanted.now) c.args.self.now.wanted_id) (types_of (session_of c.step.new.self)) o
+    c.args.text.now.items) (sym c.in_default.is)
     c.requires.empty)
 
 pub returns-clause-made : goal.returns-clause-made
@@ -86,9 +88,10 @@ returns-clause-made g c = λ read now given h.
     let text = c.push_received-made.new.text.items in
     step_made d c.in_ok-item.ensures.stands c.in_ok-item.ensures.used c.in_ok-item.ensures.limits
     (c.in_ok-item.ensures.stepped read now given h) c.in_ok-item.ensures.between
-    (subst (λ (o : Option (declared.Item Value)). TextGiven (is_received_of_item U u)
+    (subst (λ (o : Option (declared.Item Value)). TextGiven (is_received_of_item c.args.self.now.form U u)
     (types_of (session_of c.step.new.self)) o text) (sym c.in-Some.is)
-    (subst (λ D. is_received_of_item U u (types D) c.in-Some.item text) c.table.ensures c.in_ok-made.ensures.made))
+    (subst (λ D. is_received_of_item c.args.self.now.form U u (types D) c.in-Some.item text) c.table.ensures
+    c.in_ok-made.ensures.made))
 
 pub returns-in_default-clause-fits : goal.returns-in_default-clause-fits
 returns-in_default-clause-fits g c =
@@ -98,6 +101,7 @@ returns-in_default-clause-fits g c =
     (read_alone tree_building so.has.gave so.has.room) in
     record {
       ready = c.requires.fits.ready;
+      number = c.requires.fits.number;
       known = step_known so e.stands e.limits st c.in_default.is (types c.args.self.now.wanted.now)
           c.args.self.now.wanted_id c.args.kept.now c.requires.fits.known;
     }
@@ -108,7 +112,7 @@ returns-in_err-made-clause-made g c = λ read now given h.
     let u = c.args.self.now.wanted_id in
     let e = c.in_err-made.field-0.0 in
     let so = c.requires.so_far in
-    makes_at d (IsReceived U u) (IsClash U u) c.args.reader.now c.step.new.self read now given
+    makes_at d (IsReceived c.args.self.now.form U u) (IsClash U u) c.args.reader.now c.step.new.self read now given
     c.push_received-made.new.text.items c.from_residual-in_err-made.result (matching_fault e)
     c.from_residual-in_err-made.ensures.1
     (none_received so.stands.gives h (c.in_ok-item.ensures.stepped read now given h) c.in-Some.is
