@@ -11,8 +11,8 @@ use Rattle.gob_stream.specs.declared.fault.Fault.TheVariants as fault
 use Rattle.gob_stream.specs.declared.fault.Refusal.{Refusal}
 use Rattle.gob_stream.specs.declared.session.Step.{Step}
 use Rattle.gob_stream.specs.Bounds.{Bounds, within_trees}
-use Rattle.gob_stream.specs.Feeding.{FeedsBy, ReachesBy, StopsBy, TakesBy, at_item, at_step, had_failed, no_item, no_step}
-use Rattle.gob_stream.specs.Feeding.{one_item}
+use Rattle.gob_stream.specs.Feeding.{FeedsBy, ReachesBy, StopsBy, TakesBy}
+use Rattle.gob_stream.specs.Feeding.{at_item, at_step, had_failed, no_item, no_step, one_item}
 use Rattle.gob_stream.specs.Reading.{Given}
 use Rattle.gob_stream.proofs.Reader.ReadStreamSteps.{given_as}
 use Rattle.gob_filled.specs.Outcome.{RefusesFilled, refused_count, refused_body, refused_value, RefusesAt}

@@ -499,9 +499,9 @@ struct_inside e = cc
 -- ---- fields by their places
 
 -- each place has at least the number that is next
-place_from : {T : Table} {types : List Field} {body : List ℕ} {fs : Fields} {ps : List FieldPlace} {next : ℕ} {b : List ℕ}
-    (j : ℕ) {q : FieldPlace} → SpellsFields T types next fs b → ArePlaces T types body fs ps → slice_get ps j ≡ Some q
-    → next ≤ q.number
+place_from : {T : Table} {types : List Field} {body : List ℕ} {fs : Fields} {ps : List FieldPlace} {next : ℕ}
+    {b : List ℕ} (j : ℕ) {q : FieldPlace} → SpellsFields T types next fs b → ArePlaces T types body fs ps
+    → slice_get ps j ≡ Some q → next ≤ q.number
 place_from j s no_place there = absurd (true≢false (sym (ap is_some there)))
 place_from zero (next_field l t a p ps) (place at is n v r) there =
     let e = ap (λ (p : FieldPlace). p.number) (some_injective there) in omega arith
@@ -528,8 +528,8 @@ record PresentAt (T : Table) (types : List Field) (body : List ℕ) (fs : Fields
   there : slice_get types p.number ≡ Some type
   begins : BeginsValue T type.id value (drop p.at body)
 
-place_present : {T : Table} {types : List Field} {body : List ℕ} {fs : Fields} {ps : List FieldPlace} (k : ℕ) {p : FieldPlace}
-    → ArePlaces T types body fs ps → slice_get ps k ≡ Some p → PresentAt T types body fs p
+place_present : {T : Table} {types : List Field} {body : List ℕ} {fs : Fields} {ps : List FieldPlace} (k : ℕ)
+    {p : FieldPlace} → ArePlaces T types body fs ps → slice_get ps k ≡ Some p → PresentAt T types body fs p
 place_present k no_place there = absurd (true≢false (sym (ap is_some there)))
 place_present {T = T} {types = types} {body = body} zero (place {f = f} {v = v} {fs = fs} {e = e} at is l s r) there =
     subst (PresentAt T types body (field f v fs)) (some_injective there) (record {

@@ -47,7 +47,8 @@ unfolding content lex
 string_ends h r =
     rest_behind h [] [] r (34 ∷ shown held.Nothing r) (held_read h) (small_shown h 34 r (omega arith)) refl refl refl
 
-string_goes_on : (x : ℕ) (s : List ℕ) (h : HeldBack) (r : List ℕ) → ((k : HeldBack) → ReadsRest k s r) → ReadsRest h (x ∷ s) r
+string_goes_on : (x : ℕ) (s : List ℕ) (h : HeldBack) (r : List ℕ) → ((k : HeldBack) → ReadsRest k s r)
+    → ReadsRest h (x ∷ s) r
 string_goes_on x s h r behind_it = by (cases_lt x 127)
   where
     rest : List ℕ

@@ -168,13 +168,13 @@ pub record BeginsValue (T : Table) (t : TypeId) (v : Tree) (piece : List ℕ) : 
 -- at these places of the bytes the values of the fields stand
 pub data ArePlaces (T : Table) (types : List Field) (body : List ℕ) : Fields → List FieldPlace → Type 0 where
   no_place : ArePlaces T types body no_field []
-  place : {f : ℕ} {v : Tree} {fs : Fields} {p : FieldPlace} {ps : List FieldPlace} {e : Field} → slice_get types f ≡ Some e
-      → p.number ≡ f → p.at ≤ length body → BeginsValue T e.id v (drop p.at body) → ArePlaces T types body fs ps
-      → ArePlaces T types body (field f v fs) (p ∷ ps)
+  place : {f : ℕ} {v : Tree} {fs : Fields} {p : FieldPlace} {ps : List FieldPlace} {e : Field}
+      → slice_get types f ≡ Some e → p.number ≡ f → p.at ≤ length body → BeginsValue T e.id v (drop p.at body)
+      → ArePlaces T types body fs ps → ArePlaces T types body (field f v fs) (p ∷ ps)
 
 -- the fields that are present, of which the next has this number or a greater one, and their places, which were kept
-pub record StandPresent (T : Table) (types : List Field) (limit : ℕ) (body : List ℕ) (next : ℕ) (old new : List FieldPlace)
-    (piece rest : List ℕ) : Type 0 where
+pub record StandPresent (T : Table) (types : List Field) (limit : ℕ) (body : List ℕ) (next : ℕ)
+    (old new : List FieldPlace) (piece rest : List ℕ) : Type 0 where
   pub values : Fields
   pub bytes : List ℕ
   pub places : List FieldPlace

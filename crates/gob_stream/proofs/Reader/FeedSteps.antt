@@ -13,8 +13,8 @@ use Rattle.gob_stream.specs.declared.item.Item as declared
 use Rattle.gob_stream.specs.declared.session.Step.{Step}
 use Rattle.gob_stream.specs.Machine.SessionState.{SessionState}
 use Rattle.gob_stream.specs.Bounds.{Bounds, no_deeper}
-use Rattle.gob_stream.specs.Feeding.{FeedsBy, ReachesBy, StopsBy, TakesBy, at_item, at_step, had_failed, no_item, no_step}
-use Rattle.gob_stream.specs.Feeding.{one_item}
+use Rattle.gob_stream.specs.Feeding.{FeedsBy, ReachesBy, StopsBy, TakesBy}
+use Rattle.gob_stream.specs.Feeding.{at_item, at_step, had_failed, no_item, no_step, one_item}
 use Rattle.gob_stream.specs.Item.{StreamItem, ItemMeans, ItemsMean, mean_none, mean_more}
 use Rattle.gob_stream.specs.Stream.{Stream}
 use Rattle.gob_stream.specs.StrictStepping.{StepsSo, strict_stepping}

@@ -89,8 +89,8 @@ module _ {X Item Told : Type 0} (d : Stepping X Item Told) where
   }
 
   -- memory is wanting for the item that a step gave
-  pub stops_at_item : {s t t' s' : X} {out out' out'' : List Item} {piece rest : List ℕ} {step : Step Item} {item : Item}
-      (result : Result (Unit {0}) Fault) (f : Fault) → IsErrAnd result (λ e. e ≡ f) → f ≡ fault.Memory
+  pub stops_at_item : {s t t' s' : X} {out out' out'' : List Item} {piece rest : List ℕ} {step : Step Item}
+      {item : Item} (result : Result (Unit {0}) Fault) (f : Fault) → IsErrAnd result (λ e. e ≡ f) → f ≡ fault.Memory
       → HasFedTo d s t out out' piece rest → TakesBy d t t' rest step → step.item ≡ Some item
       → d.table s' ≡ d.table t' → d.taken s' ≡ d.taken t' → out'' ≡ out'
       → Given out out'' (λ given. FeedsBy d s s' piece given result)

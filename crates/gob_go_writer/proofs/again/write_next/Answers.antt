@@ -15,7 +15,8 @@ write_item-requires c =
     let h = c.requires.has in
     let w = item_written h c.in_ok-used.ensures.limits
     (subst (λ (o : Option GoItem). IfSome o (λ _. IsBetweenItems s)) c.in-Some.is c.in_ok-used.ensures.between)
-    (subst (λ (o : Option GoItem). AdvancesOver true s h.items c.requires.bytes c.args.piece.now c.in_ok-used.field-0.used o)
+    (subst (λ (o : Option GoItem). AdvancesOver true s h.items c.requires.bytes c.args.piece.now
+    c.in_ok-used.field-0.used o)
     c.in-Some.is (c.in_ok-used.ensures.advances h.items c.requires.bytes h.after)) in
     record {
       bytes = w.spelling;

@@ -9,8 +9,8 @@ use Rattle.json_controls.proofs.shown.push_known.Goals as goal
 pub loop-byte-preserved : goal.loop-byte-preserved
 loop-byte-preserved c =
     let all = c.args.out.now.items ++ shown held.Nothing c.args.text.now in
-    subst (λ (h : HeldBack). c.push_emitted.new.out.items ++ shown h (drop (c.loop-byte.byte-index + 1) c.args.text.now) ≡
-    all)
+    subst (λ (h : HeldBack). c.push_emitted.new.out.items ++ shown h (drop (c.loop-byte.byte-index + 1)
+    c.args.text.now) ≡ all)
     (sym c.after-held.ensures)
     (shown_more c.args.text.now c.loop-byte.byte-index c.loop-byte.held c.loop-byte.out.items
     c.push_emitted.new.out.items all

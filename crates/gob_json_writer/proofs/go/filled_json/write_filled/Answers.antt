@@ -9,8 +9,8 @@ use Rattle.gob_json_writer.specs.declared.go.holding.FilledTape.{FilledTape}
 use Rattle.gob_json_writer.proofs.go.filled_json.write_filled.Goals as goal
 
 -- what the value shows with its type, the level shows
-put_by_level : {T : Table} {id : TypeId} {value : Filled} {level : FilledTape} {json : Data} → IsLevelOf T id value level
-    → PutShows T id value json → nils.PutShows T id level.tape (Holds T level.nils) json
+put_by_level : {T : Table} {id : TypeId} {value : Filled} {level : FilledTape} {json : Data}
+    → IsLevelOf T id value level → PutShows T id value json → nils.PutShows T id level.tape (Holds T level.nils) json
 put_by_level l (put_shows {w = w} {v = v} {N = N} f s) =
     let both = l.each w v N f s in nils.put_shows both.0 both.1
 
