@@ -8,6 +8,11 @@ pub passed : {A E : Type 0} (r : Result A E) {e : E} (P : E → Type 0) → IsEr
 passed (Ok a) P is p = absurd is
 passed (Err y) P is p = subst P (sym is) p
 
+-- and what it returns is that fault
+pub is_fault : {A E : Type 0} (r : Result A E) {e : E} → IsErrAnd r (λ y. y ≡ e) → r ≡ Err e
+is_fault (Ok a) is = absurd is
+is_fault (Err y) is = ap (λ z. Err z) is
+
 -- bytes behind bytes that were appended
 pub appends_more : {A E : Type 0} (P : List ℕ → Type 0) {Q : List ℕ → Type 0} (r : Result A E) (x : List ℕ) {y : List ℕ}
     (z a : List ℕ) → y ≡ x ++ a → OnOk r (Appends Q y z)

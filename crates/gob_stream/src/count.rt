@@ -2,9 +2,11 @@
 
 ghost use Rattle.std.specs.Prelude.{◌≡◌, ◌+◌, ◌≤◌, [], length};
 ghost use Rattle.gob_num.specs.Unsigned.{IsUnsignedPrefix};
+ghost use Rattle.gob_types.specs.declared.reason.Reason.TheVariants as reason;
 ghost use Rattle.gob_stream.specs.Bounds.{greatest_stream};
 ghost use Rattle.gob_stream.specs.Refusing.{refuses};
 ghost use Rattle.gob_stream.specs.Machine.ReadParts.{CountAnswers, JudgesCount};
+ghost use Rattle.gob_stream.specs.declared.fault.Fault.TheVariants as fault;
 
 use crate::fault::{Fault, Refusal};
 use crate::limits::Limits;
@@ -94,4 +96,11 @@ pub fn refusal(place: u64, seen: u64, reason: Reason) -> Refusal
         seen,
         reason,
     }
+}
+
+/// The fault of a stream whose bytes come to their end at this offset, where more were to come.
+pub fn ended(offset: u64) -> Fault
+    ensures { result ≡ fault.Refused (refuses offset offset reason.Ended) }
+{
+    Fault::Refused(refusal(offset, offset, Reason::Ended))
 }

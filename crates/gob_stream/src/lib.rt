@@ -50,7 +50,7 @@ mod waiting;
 mod whole;
 mod write_items;
 
-pub use count::{body_of, refusal};
+pub use count::{body_of, ended, refusal};
 pub use denial::{define_admitted, judge_id, judge_type};
 pub use fault::{Fault, Refusal, WriteFault, WriteStop};
 pub use feeding::feed;

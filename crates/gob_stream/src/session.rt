@@ -1,14 +1,14 @@
 //! Reading a stream.
 
-use crate::count::{CountStage, refusal};
+use crate::count::{CountStage, ended};
 use crate::fault::Fault;
 use crate::feeding::feed;
 use crate::item::Item;
 use crate::limits::Limits;
-use crate::stage::{Around, Extent, Stage};
+use crate::stage::{Around, Extent, Stage, Stepped};
 use gob_num::Memory;
 use gob_read::Builder;
-use gob_types::{Reason, Table};
+use gob_types::Table;
 use std::alloc::Global;
 use std::marker::Model;
 use std::mem;
@@ -32,6 +32,20 @@ pub struct Step<I: Drop> {
     pub used: usize,
     /// The item that is whole with them, if one is.
     pub item: Option<I>,
+}
+
+impl<I: Drop> Step<I> {
+    ghost use Rattle.std.specs.Prelude.{◌≡◌, None};
+
+    /// Of an empty piece: no byte was taken.
+    pub fn nothing() -> Step<I>
+        ensures { result ≡ record { used = 0; item = None } }
+    {
+        Step {
+            used: 0,
+            item: None,
+        }
+    }
 }
 
 // Not derived, so that a drop is one call in the proofs of what owns one.
@@ -145,30 +159,19 @@ impl<B: Builder> Session<B> {
             return Err(Fault::Failed);
         }
         if piece.is_empty() {
-            return Ok(Step {
-                used: 0,
-                item: None,
-            });
+            return Ok(Step::nothing());
         }
-        // its contract says that no stream is so long that the sum wraps
-        let _most = self.limits.stream();
+        let _most = self.limits.stream(); // its contract: no stream is so long that the sum wraps
         let around = Around {
             alloc,
             limits: self.limits,
             taken: self.taken,
         };
         let stage = mem::replace(&mut self.stage, Stage::Failed);
-        match stage.take(&around, &mut self.types, piece) {
-            Ok(stepped) => {
-                self.taken += stepped.used as u64;
-                self.stage = stepped.stage;
-                Ok(Step {
-                    used: stepped.used,
-                    item: stepped.item,
-                })
-            }
-            Err(fault) => Err(fault),
-        }
+        let Stepped { used, stage, item } = stage.take(&around, &mut self.types, piece)?;
+        self.taken += used as u64;
+        self.stage = stage;
+        Ok(Step { used, item })
     }
 
     /// Says that no byte follows. Ok exactly between two items, and then nothing has changed; else the refusal
@@ -189,9 +192,9 @@ impl<B: Builder> Session<B> {
             Stage::Failed => Err(Fault::Failed),
             Stage::Count(count) if count.begin == self.taken => Ok(()),
             _ => {
-                let ended = refusal(self.taken, self.taken, Reason::Ended);
+                let fault = ended(self.taken);
                 self.fail();
-                Err(Fault::Refused(ended))
+                Err(fault)
             }
         }
     }

@@ -18,8 +18,8 @@ returns-in_default-clause-finishes g c =
       | in_default-via-in-Count+else-count-self w ↦ w.self-inside-is
       | in_default-via-in_default w ↦ w.self-inside-is
     ] in
-    rw (← c.self.view_is) (λ items bytes a.
+    rw (rw same at c.ended-fault.ensures, ← c.self.view_is) (λ items bytes a.
     ended_within a (λ e. elim c.in_default.branch [
       | in_default-via-in-Count+else-count-self w ↦ w.if-count-self.false (begins_at w.in-Count.is e)
       | in_default-via-in_default w ↦ w.in_default.not-Count _ e
-    ]) (rw same at c.refusal-ended.ensures))
+    ]) refl)
