@@ -3,10 +3,10 @@
 use crate::around::Around;
 use crate::count::ItemCount;
 use crate::item::GoItem;
-use crate::stage::Stage;
+use crate::stage::{Stage, Stepped};
 use gob_num::Memory;
-use gob_stream::{Fault, Limits, Step, feed, refusal};
-use gob_types::{Reason, Table};
+use gob_stream::{Fault, Limits, Step, ended, feed};
+use gob_types::Table;
 use std::alloc::Global;
 use std::marker::Model;
 use std::mem;
@@ -146,13 +146,9 @@ impl GoSession {
             return Err(Fault::Failed);
         }
         if piece.is_empty() {
-            return Ok(Step {
-                used: 0,
-                item: None,
-            });
+            return Ok(Step::nothing());
         }
-        // its contract says that no stream is so long that the sum wraps
-        let _most = self.limits.stream();
+        let _most = self.limits.stream(); // its contract: no stream is so long that the sum wraps
         let around = Around {
             alloc,
             limits: self.limits,
@@ -160,17 +156,25 @@ impl GoSession {
             keeps: self.keeps,
         };
         let stage = mem::replace(&mut self.stage, Stage::Failed);
-        match stage.take(&around, &mut self.types, piece) {
-            Ok(stepped) => {
-                self.taken += stepped.used as u64;
-                self.stage = stepped.stage;
-                Ok(Step {
-                    used: stepped.used,
-                    item: stepped.item,
-                })
-            }
-            Err(fault) => Err(fault),
-        }
+        let Stepped { used, stage, item } = stage.take(&around, &mut self.types, piece)?;
+        self.taken += used as u64;
+        self.stage = stage;
+        Ok(Step { used, item })
+    }
+
+    /// The types of the stream so far, those too that were defined in front of values in interfaces, and those of the
+    /// item under way, or of one that was refused.
+    pub fn table(&self) -> &Table
+        ensures { result.now ≡ table_of self.now }
+    {
+        &self.types
+    }
+
+    /// The limits that it was made with.
+    pub fn limits(&self) -> Limits
+        ensures { result ≡ limits_of self.now }
+    {
+        self.limits
     }
 
     /// Says that no byte follows. Ok exactly where no item is under way, and then nothing has changed; else the refusal
@@ -191,26 +195,11 @@ impl GoSession {
             Stage::Failed => Err(Fault::Failed),
             Stage::Count(count) if count.number.rest.begin == self.taken => Ok(()),
             _ => {
-                let ended = refusal(self.taken, self.taken, Reason::Ended);
+                let fault = ended(self.taken);
                 self.fail();
-                Err(Fault::Refused(ended))
+                Err(fault)
             }
         }
-    }
-
-    /// The types of the stream so far, those too that were defined in front of values in interfaces, and those of the
-    /// item under way, or of one that was refused.
-    pub fn table(&self) -> &Table
-        ensures { result.now ≡ table_of self.now }
-    {
-        &self.types
-    }
-
-    /// The limits that it was made with.
-    pub fn limits(&self) -> Limits
-        ensures { result ≡ limits_of self.now }
-    {
-        self.limits
     }
 
     // Whether there was a fault. If not, it has read some bytes.

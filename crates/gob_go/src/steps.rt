@@ -3,7 +3,9 @@
 use crate::item::GoItem;
 use crate::session::GoSession;
 use gob_num::Memory;
-use gob_stream::{Awaited, Fault, Limits, Passed, ReaderOf, Step, Steps, Whole};
+use gob_stream::{
+    Awaited, Fault, Limits, Passed, ReaderOf, Step, Steps, Whole, awaited_value, whole_value,
+};
 use gob_types::Table;
 use std::alloc::Global;
 
@@ -33,13 +35,20 @@ impl Steps for GoSession {
         self.finish()
     }
 
+    // What comes at once of an item is its first segment.
     fn awaited(&self, piece: &[u8]) -> Option<Awaited> {
-        self.awaited(piece)
+        if !self.is_between() {
+            return None;
+        }
+        awaited_value(&self.types, &self.limits, self.taken, piece)
     }
 
     #[inline(always)]
     fn whole_value<'a>(&self, piece: &'a [u8]) -> Option<Whole<'a>> {
-        self.whole_value(piece)
+        if !self.is_between() {
+            return None;
+        }
+        whole_value(&self.types, &self.limits, self.taken, piece)
     }
 
     fn pass(&mut self, item: &[u8]) {

@@ -1,45 +1,14 @@
-//! Items of values in which no interface holds a value, where they stand whole at the front of a piece.
+//! Items that define nothing, which are gone past where they stand whole at the front of a piece.
 
-ghost use Rattle.std.specs.Prelude.{◌≡◌, ◌+◌, length, IsTrue, IfSome, Bool};
-ghost use Rattle.gob_go.specs.Calls.Session.{HasBodyNext, HasBegunNext, HasItemNext, HasItemsNext, IsBetweenItems};
+ghost use Rattle.std.specs.Prelude.{◌≡◌, ◌+◌, length, IsTrue, Bool};
+ghost use Rattle.gob_go.specs.Calls.Session.{HasItemNext, HasItemsNext, IsBetweenItems};
 ghost use Rattle.gob_go.specs.Calls.Session.{HasFailed, ReadsAllSo, ReadsOn, ReadsOnSo, limits_of, table_of, taken_of};
 
 use crate::count::ItemCount;
 use crate::session::GoSession;
 use crate::stage::Stage;
-use gob_stream::{Awaited, Whole, awaited_value, whole_value};
 
 impl GoSession {
-    /// The item of a value at the front of the piece whose first segment stands whole there, where no byte of an item
-    /// is under way: its type is ready and the limits allow its length. It takes no memory, and looks at no byte of the
-    /// value: where its body is a value of its type in which no interface holds another, the item is whole with that
-    /// segment. None says nothing of the piece, and is the answer after a fault.
-    #[inline(always)]
-    pub fn whole_value<'a>(&self, piece: &'a [u8]) -> Option<Whole<'a>>
-        ensures between { IfSome result (λ whole. IsBetweenItems self.now) }
-        ensures body { IfSome result (λ whole.
-            HasBodyNext self.now whole.id whole.body.now whole.used piece.now) }
-    {
-        if !self.is_between() {
-            return None;
-        }
-        whole_value(&self.types, &self.limits, self.taken, piece)
-    }
-
-    /// The item of a value at the front of the piece, where no byte of an item is under way and more bytes of its first
-    /// segment are to come: its type is ready and the limits allow its length. It takes no memory, and looks at no byte
-    /// of the value. None says nothing of the piece, and is the answer after a fault.
-    pub fn awaited(&self, piece: &[u8]) -> Option<Awaited>
-        ensures between { IfSome result (λ awaited. IsBetweenItems self.now) }
-        ensures begun { IfSome result (λ awaited.
-            HasBegunNext self.now awaited.id awaited.head awaited.size piece.now) }
-    {
-        if !self.is_between() {
-            return None;
-        }
-        awaited_value(&self.types, &self.limits, self.taken, piece)
-    }
-
     /// Whether no byte of an item is under way, and there was no fault.
     #[inline(always)]
     pub(crate) fn is_between(&self) -> bool

@@ -18,6 +18,7 @@ use crate::hands::{Hands, WholeValue};
 use gob_go::{Filled, GoItem, GoSession, push_inner_ids};
 use gob_json_writer::tape_of;
 use gob_num::Memory;
+use gob_stream::Steps;
 use gob_types::{Table, TypeId};
 use std::alloc::Global;
 

@@ -17,7 +17,7 @@ use crate::kept::Kept;
 use gob_explain::LinesOut;
 use gob_go::{GoItem, GoSession};
 use gob_json::TextOut;
-use gob_stream::{Fault, Input, Limits, Waiting, Whole};
+use gob_stream::{Fault, Input, Limits, Steps, Waiting, Whole};
 use gob_value::is_whole;
 use std::alloc::Global;
 use std::io::Read;

@@ -17,11 +17,11 @@ returns-in_default-clause-any c =
       | in_default-via-in-Count+else-count-self w ↦ w.self-inside-is
       | in_default-via-in_default w ↦ w.self-inside-is
     ] in
-    rw (← c.self.view_is) (λ keep items bytes a.
+    rw (rw same at c.ended-fault.ensures, ← c.self.view_is) (λ keep items bytes a.
     ended_within a (λ at e f. elim c.in_default.branch [
       | in_default-via-in-Count+else-count-self w ↦ w.if-count-self.false (sym (one_begin e w.in-Count.is) ∙ f)
       | in_default-via-in_default w ↦ w.in_default.not-Count _ e
-    ]) (rw same at c.refusal-ended.ensures))
+    ]) refl)
 
 pub returns-in-Count-clause-finishes : goal.returns-in-Count-clause-finishes
 returns-in-Count-clause-finishes c = returns-in-Count-clause-any c true

@@ -1,6 +1,8 @@
-use Rattle.std.proofs.Common.{arith, refl, ap, true}
+use Rattle.std.proofs.Common.{◌≢◌, arith, refl, ap, true}
 use Rattle.std.proofs.lemmas.Grind.{common_steps}
 use Rattle.gob_num.proofs.PublicLaws.{bytes_each}
+use Rattle.gob_stream.specs.declared.fault.Fault.TheVariants as faults
+use Rattle.gob_stream.proofs.FaultSteps.{is_fault, passed}
 use Rattle.gob_go.specs.Machine.HasRead.{has_failed}
 use Rattle.gob_go.proofs.AdvanceSteps.{kept_advance}
 use Rattle.gob_go.proofs.AdvanceSteps.{item_of, never_read, advance_bound, steps_few, advance_between, advanced}
@@ -14,10 +16,11 @@ pub returns-then-has_failed-clause-advances : goal.returns-then-has_failed-claus
 returns-then-has_failed-clause-advances c = λ items bytes a. not_read a c.if-has_failed.ensures.failed
 
 pub returns-then-is_empty-clause-any : goal.returns-then-is_empty-clause-any
-returns-then-is_empty-clause-any c = λ keep items bytes a. over_nothing (grind (arith, common_steps)) a
+returns-then-is_empty-clause-any c =
+    rw c.nothing.ensures (λ keep items bytes a. over_nothing (grind (arith, common_steps)) a)
 
 pub returns-then-is_empty-clause-advances : goal.returns-then-is_empty-clause-advances
-returns-then-is_empty-clause-advances c = λ items bytes a. over_nothing (grind (arith, common_steps)) a
+returns-then-is_empty-clause-advances c = returns-then-is_empty-clause-any c true
 
 pub returns-then-is_empty-clause-stays : goal.returns-then-is_empty-clause-stays
 returns-then-is_empty-clause-stays c = λ f. absurd (c.if-has_failed.ensures.failed f)
@@ -30,76 +33,80 @@ take-requires c =
 pub overflow_add-self : goal.overflow_add-self
 overflow_add-self c =
     let a = rw (← c.self.view_is) at (c.has_failed.ensures.has_read c.if-has_failed.ensures.failed) in
-    let b = advance_bound a.after (stepped_on c.replace-stage.ensures.value c.in-Ok.ensures
+    let b = advance_bound a.after (stepped_on c.replace-stage.ensures.value c.in_ok-used.ensures
     (bytes_each c.args.piece.now (λ i. omega (arith, c.type_inv.piece i))) a.after) in
     let most = c.stream-most.ensures.limits.stream in
     omega arith
 
-pub invariant_of-self : goal.invariant_of-self
-invariant_of-self c =
+pub invariant_of-self-2 : goal.invariant_of-self-2
+invariant_of-self-2 c =
     let b = bytes_each c.args.piece.now (λ i. omega (arith, c.type_inv.piece i)) in
     let most = c.stream-most.ensures.limits.stream in
     usable_on (rw (← c.self.view_is) at (c.has_failed.ensures.has_read c.if-has_failed.ensures.failed))
-    (λ items bytes a. advanced a b (omega arith) (stepped_on c.replace-stage.ensures.value c.in-Ok.ensures b a)
-    (c.in-Ok.ensures.some (grind (arith, common_steps))))
+    (λ items bytes a. advanced a b (omega arith) (stepped_on c.replace-stage.ensures.value c.in_ok-used.ensures b a)
+    (c.in_ok-used.ensures.some (grind (arith, common_steps))))
 
-pub returns-in-Ok-clause-any : goal.returns-in-Ok-clause-any
-returns-in-Ok-clause-any c =
+pub returns-clause-any : goal.returns-clause-any
+returns-clause-any c =
     let b = bytes_each c.args.piece.now (λ i. omega (arith, c.type_inv.piece i)) in
     let most = c.stream-most.ensures.limits.stream in
-    let some = c.in-Ok.ensures.some (grind (arith, common_steps)) in
+    let some = c.in_ok-used.ensures.some (grind (arith, common_steps)) in
     rw (← c.self.view_is) (λ keep items bytes a. kept_advance a (λ a. advanced a b (omega arith)
-    (stepped_on c.replace-stage.ensures.value c.in-Ok.ensures b a) some))
+    (stepped_on c.replace-stage.ensures.value c.in_ok-used.ensures b a) some))
 
-pub returns-in-Ok-clause-advances : goal.returns-in-Ok-clause-advances
-returns-in-Ok-clause-advances c = returns-in-Ok-clause-any c true
+pub returns-clause-advances : goal.returns-clause-advances
+returns-clause-advances c = returns-clause-any c true
 
-pub returns-in-Ok-clause-used : goal.returns-in-Ok-clause-used
-returns-in-Ok-clause-used c =
+pub returns-clause-used : goal.returns-clause-used
+returns-clause-used c =
     let a = rw (← c.self.view_is) at (c.has_failed.ensures.has_read c.if-has_failed.ensures.failed) in (
-      c.in-Ok.ensures.some,
-      steps_few (stepped_on c.replace-stage.ensures.value c.in-Ok.ensures
+      c.in_ok-used.ensures.some,
+      steps_few (stepped_on c.replace-stage.ensures.value c.in_ok-used.ensures
           (bytes_each c.args.piece.now (λ i. omega (arith, c.type_inv.piece i))) a.after),
     )
 
-pub returns-in-Ok-clause-between : goal.returns-in-Ok-clause-between
-returns-in-Ok-clause-between c =
+pub returns-clause-between : goal.returns-clause-between
+returns-clause-between c =
     let a = rw (← c.self.view_is) at (c.has_failed.ensures.has_read c.if-has_failed.ensures.failed) in
-    advance_between a.after (stepped_on c.replace-stage.ensures.value c.in-Ok.ensures
+    advance_between a.after (stepped_on c.replace-stage.ensures.value c.in_ok-used.ensures
     (bytes_each c.args.piece.now (λ i. omega (arith, c.type_inv.piece i))) a.after)
 
-pub returns-in-Ok-clause-limits : goal.returns-in-Ok-clause-limits
-returns-in-Ok-clause-limits c = ap (λ s. s.limits) c.self.view_is
+pub returns-clause-limits : goal.returns-clause-limits
+returns-clause-limits c = ap (λ s. s.limits) c.self.view_is
 
-pub returns-in-Ok-clause-stays : goal.returns-in-Ok-clause-stays
-returns-in-Ok-clause-stays c = λ f. absurd (c.if-has_failed.ensures.failed f)
+pub returns-clause-stays : goal.returns-clause-stays
+returns-clause-stays c = λ f. absurd (c.if-has_failed.ensures.failed f)
 
-pub invariant_of-self-in-Err : goal.invariant_of-self-in-Err
-invariant_of-self-in-Err c = has_failed c.replace-stage.ensures.after
+pub invariant_of-self : goal.invariant_of-self
+invariant_of-self c = has_failed c.replace-stage.ensures.after
 
-pub returns-in-Err-clause-any : goal.returns-in-Err-clause-any
-returns-in-Err-clause-any c =
+pub returns-in_err-used-clause-any : goal.returns-in_err-used-clause-any
+returns-in_err-used-clause-any c =
     let b = bytes_each c.args.piece.now (λ i. omega (arith, c.type_inv.piece i)) in
-    λ keep items bytes a. stopped_there (record c.args.self.now { types = c.take.new.table }) c.self.view_is refl
-    (λ h. stepped_on c.replace-stage.ensures.value c.in-Err.ensures b h) a
+    rw (is_fault c.from_residual.result c.from_residual.ensures.1) (λ keep items bytes a.
+    stopped_there (record c.args.self.now { types = c.take.new.table }) c.self.view_is refl
+    (λ h. stepped_on c.replace-stage.ensures.value c.in_err-used.ensures b h) a)
 
-pub returns-in-Err-clause-advances : goal.returns-in-Err-clause-advances
-returns-in-Err-clause-advances c = returns-in-Err-clause-any c true
+pub returns-in_err-used-clause-advances : goal.returns-in_err-used-clause-advances
+returns-in_err-used-clause-advances c = returns-in_err-used-clause-any c true
 
-pub returns-in-Err-clause-failed : goal.returns-in-Err-clause-failed
-returns-in-Err-clause-failed c = c.replace-stage.ensures.after
+pub returns-in_err-used-clause-failed : goal.returns-in_err-used-clause-failed
+returns-in_err-used-clause-failed c =
+    rw (is_fault c.from_residual.result c.from_residual.ensures.1) c.replace-stage.ensures.after
 
-pub returns-in-Err-clause-taken : goal.returns-in-Err-clause-taken
-returns-in-Err-clause-taken c = ap (λ s. s.taken) c.self.view_is
+pub returns-in_err-used-clause-taken : goal.returns-in_err-used-clause-taken
+returns-in_err-used-clause-taken c =
+    rw (is_fault c.from_residual.result c.from_residual.ensures.1) (ap (λ s. s.taken) c.self.view_is)
 
-pub returns-in-Err-clause-limits : goal.returns-in-Err-clause-limits
-returns-in-Err-clause-limits c = ap (λ s. s.limits) c.self.view_is
+pub returns-in_err-used-clause-limits : goal.returns-in_err-used-clause-limits
+returns-in_err-used-clause-limits c = ap (λ s. s.limits) c.self.view_is
 
-pub returns-in-Err-clause-stays : goal.returns-in-Err-clause-stays
-returns-in-Err-clause-stays c = λ f. absurd (c.if-has_failed.ensures.failed f)
+pub returns-in_err-used-clause-stays : goal.returns-in_err-used-clause-stays
+returns-in_err-used-clause-stays c = λ f. absurd (c.if-has_failed.ensures.failed f)
 
-pub returns-in-Err-clause-unread : goal.returns-in-Err-clause-unread
-returns-in-Err-clause-unread c =
+pub returns-in_err-used-clause-unread : goal.returns-in_err-used-clause-unread
+returns-in_err-used-clause-unread c =
     let a = rw (← c.self.view_is) at (c.has_failed.ensures.has_read c.if-has_failed.ensures.failed) in
-    never_read (stepped_on c.replace-stage.ensures.value c.in-Err.ensures
-    (bytes_each c.args.piece.now (λ i. omega (arith, c.type_inv.piece i))) a.after)
+    passed c.from_residual.result (λ fault. fault ≢ faults.Read) c.from_residual.ensures.1
+    (never_read (stepped_on c.replace-stage.ensures.value c.in_err-used.ensures
+    (bytes_each c.args.piece.now (λ i. omega (arith, c.type_inv.piece i))) a.after))

@@ -77,7 +77,8 @@ pub returns-in_err-used-clause-types : goal.returns-in_err-used-clause-types
 returns-in_err-used-clause-types g c =
     let a = rw (← c.self.view_is) at (c.has_failed.ensures.has_read c.if-has_failed.ensures.failed) in let w =
     item_of a.after in
-    rw (is_fault c.from_residual.result c.from_residual.ensures.1, ← c.self.view_is) (stops_alike (takes_on c.replace-stage.ensures.value c.in_err-used.ensures w.in_item).steps)
+    rw (is_fault c.from_residual.result c.from_residual.ensures.1, ← c.self.view_is)
+    (stops_alike (takes_on c.replace-stage.ensures.value c.in_err-used.ensures w.in_item).steps)
 
 pub returns-in_err-used-clause-taken : goal.returns-in_err-used-clause-taken
 returns-in_err-used-clause-taken g c =
