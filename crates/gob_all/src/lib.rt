@@ -23,7 +23,7 @@ pub use gob_match::{ClashReason, KeptMatch, MatchFault, Matched, PathText, match
 pub use gob_num::Memory;
 pub use gob_read::{Builder, CheckBuilder, Counts, SkipBuilder, TreeBuilder};
 pub use gob_stream::{
-    Fault, Input, Item, Limits, Output, Refusal, Session, Step, StreamReader, StreamWriter,
+    Advance, Fault, Input, Item, Limits, Output, Refusal, Session, StreamReader, StreamWriter,
     WriteFault, WriteStop, read_stream, write_stream,
 };
 pub use gob_tape::{Children, Tape, TapeBuilder, ValueKind, View, tidy_tape};

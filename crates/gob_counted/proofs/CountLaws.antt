@@ -15,7 +15,7 @@ use Rattle.gob_stream.specs.Stepping.{AdvancesBy, FinishAnswersBy, GivesItemsOf,
 use Rattle.gob_stream.specs.Stepping.{Stepping, gives_none, gives_one}
 use Rattle.gob_stream.specs.declared.fault.Fault.{Fault}
 use Rattle.gob_stream.specs.declared.fault.Fault.TheVariants as fault
-use Rattle.gob_stream.specs.declared.session.Step.{Step}
+use Rattle.gob_stream.specs.declared.session.Advance.{Advance}
 use Rattle.gob_counted.specs.Apart.{IsCountable, IsDefinition, ValuesIn, a_definition, a_value, no_values}
 use Rattle.gob_counted.specs.Calls.{ChecksBytes, CountsOn, EndsCounting, GoesOn, HasCounted, StepsCounting, Stops}
 use Rattle.gob_counted.specs.Calls.{session_of, tally_of}
@@ -281,8 +281,8 @@ module _ {X I Told : Type 0} (d : Stepping X I Told) where
   no_item e gives_none = refl
   no_item e (gives_one m) = absurd (cc)
 
-  pub steps_item : {c c' : Counter X I} {s' : X} {items : List Told} {bytes piece : List ℕ} {step : Step I} {given : I}
-      {k : ℕ} (b : Bool) → step.used ≤ length piece → step.item ≡ Some given
+  pub steps_item : {c c' : Counter X I} {s' : X} {items : List Told} {bytes piece : List ℕ} {step : Advance I}
+      {given : I} {k : ℕ} (b : Bool) → step.used ≤ length piece → step.item ≡ Some given
       → ((T : Table) (told : Told) → d.means T given told
       → MatchBool b (¬ IsDefinition d told) (IsDefinition d told)) → k ≡ bool_byte b
       → CountsSo c c' s' step.used 1 k → StandsBy d s' → d.between s' → d.limits s' ≡ d.limits (session_of c)
@@ -297,7 +297,7 @@ module _ {X I Told : Type 0} (d : Stepping X I Told) where
             a.onward same_limits stands between h a.after;
       }
 
-  pub steps_none : {c c' : Counter X I} {s' : X} {items : List Told} {bytes piece : List ℕ} {step : Step I}
+  pub steps_none : {c c' : Counter X I} {s' : X} {items : List Told} {bytes piece : List ℕ} {step : Advance I}
       → step.used ≤ length piece → step.item ≡ None → session_of c' ≡ s'
       → c'.taken ≡ min (c.taken + step.used) (2 ^ 64 - 1) → tally_of c' ≡ tally_of c → StandsBy d s'
       → d.limits s' ≡ d.limits (session_of c) → HasCounted d c items bytes

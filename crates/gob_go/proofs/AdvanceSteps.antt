@@ -31,7 +31,7 @@ use Rattle.gob_go.specs.declared.stage.Stepped.{Stepped}
 use Rattle.gob_go.proofs.ItemsLaws.{Grown, grown_on, items_grown, wire_of, item_ends, items_end, one_more, longest}
 use Rattle.gob_go.proofs.SessionSteps.{stands_so, usable}
 use Rattle.gob_go.proofs.UnderWayLaws.{unrefused, stage_grown, stage_bound}
-use Rattle.gob_stream.specs.declared.session.Step.{Step}
+use Rattle.gob_stream.specs.declared.session.Advance.{Advance}
 
 pub item_of : {keep : Bool} {s : SessionState} {items : List FilledItem} {bytes : List ℕ}
     → StandsAfter keep s items bytes
@@ -152,7 +152,7 @@ usable_on {s = s} {s' = s'} {piece = piece} a f =
 
 -- what a step answers where it is known what is kept
 pub kept_step : {keep : Bool} {s : SessionState} {items : List FilledItem} {bytes : List ℕ} (s' : SessionState)
-    (piece : List ℕ) (result : Result (Step GoItem) Fault) → StandsAfter keep s items bytes
+    (piece : List ℕ) (result : Result (Advance GoItem) Fault) → StandsAfter keep s items bytes
     → (StandsAfter s.keeps s items bytes → StepAnswersSo s.keeps s s' items bytes piece result)
     → StepAnswersSo keep s s' items bytes piece result
 kept_step {s = s} {items = items} {bytes = bytes} s' piece result a f =

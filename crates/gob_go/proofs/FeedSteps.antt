@@ -9,7 +9,7 @@ use Rattle.gob_types.specs.Table.{Table}
 use Rattle.gob_stream.specs.declared.fault.Fault.{Fault}
 use Rattle.gob_stream.specs.declared.fault.Fault.TheVariants as fault
 use Rattle.gob_stream.specs.declared.fault.Refusal.{Refusal}
-use Rattle.gob_stream.specs.declared.session.Step.{Step}
+use Rattle.gob_stream.specs.declared.session.Advance.{Advance}
 use Rattle.gob_stream.specs.Bounds.{Bounds, within_trees}
 use Rattle.gob_stream.specs.Feeding.{FeedsBy, ReachesBy, StopsBy, TakesBy}
 use Rattle.gob_stream.specs.Feeding.{at_item, at_step, had_failed, no_item, no_step, one_item}
@@ -110,7 +110,7 @@ record GivesLast (t' : SessionState) (given : List GoItem) (one : GoItem) (all m
   types_are : types t'.types ≡ after.table
 
 gives_last : {t t' : SessionState} {given : List GoItem} {items : List FilledItem} {bytes piece : List ℕ}
-    {step : Step GoItem} {one : GoItem} (before : ReadsTo t given items bytes) → TakesBy go_stepping t t' piece step
+    {step : Advance GoItem} {one : GoItem} (before : ReadsTo t given items bytes) → TakesBy go_stepping t t' piece step
     → step.item ≡ Some one → GivesLast t' given one before.all before.more (bytes ++ take step.used piece)
 gives_last {t' = t'} {given = given} {bytes = bytes} {piece = piece} {step = step} {one = one} before o e =
     let more = take step.used piece in

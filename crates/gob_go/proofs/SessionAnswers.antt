@@ -17,7 +17,7 @@ use Rattle.gob_stream.specs.Stepping.{gives_none, gives_one}
 use Rattle.gob_stream.specs.declared.fault.Fault.{Fault}
 use Rattle.gob_stream.specs.declared.fault.Fault.TheVariants as fault
 use Rattle.gob_stream.specs.declared.fault.Refusal.{Refusal}
-use Rattle.gob_stream.specs.declared.session.Step.{Step}
+use Rattle.gob_stream.specs.declared.session.Advance.{Advance}
 use Rattle.gob_stream.specs.declared.whole.Awaited.{Awaited}
 use Rattle.gob_filled.specs.Outcome.{BeginsFilled, EndsFilled, FilledOutcome, RefusesFilled, at_the_end, next_refused}
 use Rattle.gob_filled.specs.Outcome.{within_an_item, the_end, refused}
@@ -177,7 +177,7 @@ abbrev pub Tells : Bool → Means → Type 0
 Tells keep means = (T : Table) (g : GoItem) (i : FilledItem) → (IsTrue keep → ItemMeans T g i) → means T g i
 
 advances : {keep : Bool} {means : Means} {s s' : SessionState} {items : List FilledItem} {bytes piece : List ℕ}
-    (step : Step GoItem)
+    (step : Advance GoItem)
     {item : Option GoItem} → StandsAfter keep s items bytes → step.item ≡ item
     → AdvancesOver keep s' items bytes piece step.used item
     → Tells keep means → AdvancesBy (stepping_of keep means) s s' items bytes piece step
@@ -210,7 +210,7 @@ advances {means = means} {s' = s'} {bytes = bytes} {piece = piece} step h e
     }
 
 pub steps : {keep : Bool} (means : Means) (s s' : SessionState) (items : List FilledItem) (bytes piece : List ℕ)
-    (result : Result (Step GoItem) Fault)
+    (result : Result (Advance GoItem) Fault)
     → (h : StandsAfter keep s items bytes) → StepAnswersSo keep s s' items bytes piece result
     → Tells keep means → StepAnswersBy (stepping_of keep means) h.table s s' items bytes piece result
 steps means s s' items bytes piece (Ok step) h a tells = advances step h refl a tells
@@ -226,7 +226,7 @@ steps means s s' items bytes piece (Err fault.Failed) h f tells = absurd f
 
 -- what it refuses is shown by bytes of the piece
 pub step_shows : (keep : Bool) (s s' : SessionState) (items : List FilledItem) (bytes piece : List ℕ)
-    (result : Result (Step GoItem) Fault) → StepAnswersSo keep s s' items bytes piece result
+    (result : Result (Advance GoItem) Fault) → StepAnswersSo keep s s' items bytes piece result
     → OfRefusal (λ R. length bytes < R.seen) result
 step_shows keep s s' items bytes piece (Ok step) a = tt
 step_shows keep s s' items bytes piece (Err (fault.Refused R)) a = a.2

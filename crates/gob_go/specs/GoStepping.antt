@@ -4,7 +4,7 @@ use Rattle.gob_types.specs.Table.{Table}
 use Rattle.gob_stream.specs.Bounds.{within_trees}
 use Rattle.gob_stream.specs.Stepping.{Stepping}
 use Rattle.gob_stream.specs.declared.fault.Fault.{Fault}
-use Rattle.gob_stream.specs.declared.session.Step.{Step}
+use Rattle.gob_stream.specs.declared.session.Advance.{Advance}
 use Rattle.gob_filled.specs.Outcome.{profile}
 use Rattle.gob_filled.specs.OutcomeLaws.{unfilled_item}
 use Rattle.gob_filled.specs.Stream.{FilledItem}
@@ -16,7 +16,7 @@ use Rattle.gob_go.specs.Reading.{LeadsBehind}
 use Rattle.gob_go.specs.declared.item.GoItem.{GoItem}
 
 -- what a step answers wherever the session stands; a fault leaves the count of bytes
-pub record StepsSo (keep : Bool) (s s' : SessionState) (piece : List ℕ) (result : Result (Step GoItem) Fault) : Type
+pub record StepsSo (keep : Bool) (s s' : SessionState) (piece : List ℕ) (result : Result (Advance GoItem) Fault) : Type
     0 where
   pub advances : (items : List FilledItem) (bytes : List ℕ) → StandsAfter keep s items bytes
       → StepAnswersSo keep s s' items bytes piece result

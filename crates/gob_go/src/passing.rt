@@ -3,7 +3,7 @@
 use crate::item::GoItem;
 use crate::session::GoSession;
 use gob_num::Memory;
-use gob_stream::{Awaited, Fault, Limits, Passed, Step, Steps, Whole};
+use gob_stream::{Advance, Awaited, Fault, Limits, Passed, Steps, Whole};
 use gob_types::Table;
 use std::alloc::Global;
 use std::marker::Model;
@@ -50,7 +50,7 @@ impl Steps for PassingSession {
         Ok(PassingSession { session })
     }
 
-    fn step(&mut self, alloc: Global, piece: &[u8]) -> Result<Step<GoItem>, Fault> {
+    fn step(&mut self, alloc: Global, piece: &[u8]) -> Result<Advance<GoItem>, Fault> {
         self.session.step(alloc, piece)
     }
 

@@ -5,7 +5,7 @@ use crate::count::ItemCount;
 use crate::item::GoItem;
 use crate::stage::{Stage, Stepped};
 use gob_num::Memory;
-use gob_stream::{Fault, Limits, Step, ended, feed};
+use gob_stream::{Advance, Fault, Limits, ended, feed};
 use gob_types::Table;
 use std::alloc::Global;
 use std::marker::Model;
@@ -129,7 +129,7 @@ impl GoSession {
     /// Takes some bytes from the front of the piece, one at least where it has any, and none behind the end of an item;
     /// the next call is for the rest of them. A refusal comes in the call that is given the last of the bytes that show
     /// it, and never says `Ended`. After a fault each call answers [`Fault::Failed`].
-    pub fn step(&mut self, alloc: Global, piece: &[u8]) -> Result<Step<GoItem>, Fault>
+    pub fn step(&mut self, alloc: Global, piece: &[u8]) -> Result<Advance<GoItem>, Fault>
         ensures advances { (items : List FilledItem) (bytes : List ℕ) → HasRead self.old items bytes
             → StepAnswers self.old self.new items bytes piece.now result }
         ensures any { (keep : Bool) (items : List FilledItem) (bytes : List ℕ) → StandsAfter keep self.old items bytes
@@ -146,7 +146,7 @@ impl GoSession {
             return Err(Fault::Failed);
         }
         if piece.is_empty() {
-            return Ok(Step::nothing());
+            return Ok(Advance::nothing());
         }
         let _most = self.limits.stream(); // its contract: no stream is so long that the sum wraps
         let around = Around {
@@ -159,7 +159,7 @@ impl GoSession {
         let Stepped { used, stage, item } = stage.take(&around, &mut self.types, piece)?;
         self.taken += used as u64;
         self.stage = stage;
-        Ok(Step { used, item })
+        Ok(Advance { used, item })
     }
 
     /// The types of the stream so far, those too that were defined in front of values in interfaces, and those of the

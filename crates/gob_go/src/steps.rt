@@ -4,7 +4,7 @@ use crate::item::GoItem;
 use crate::session::GoSession;
 use gob_num::Memory;
 use gob_stream::{
-    Awaited, Fault, Limits, Passed, ReaderOf, Step, Steps, Whole, awaited_value, whole_value,
+    Advance, Awaited, Fault, Limits, Passed, ReaderOf, Steps, Whole, awaited_value, whole_value,
 };
 use gob_types::Table;
 use std::alloc::Global;
@@ -27,7 +27,7 @@ impl Steps for GoSession {
         GoSession::new(alloc, limits)
     }
 
-    fn step(&mut self, alloc: Global, piece: &[u8]) -> Result<Step<GoItem>, Fault> {
+    fn step(&mut self, alloc: Global, piece: &[u8]) -> Result<Advance<GoItem>, Fault> {
         self.step(alloc, piece)
     }
 

@@ -7,7 +7,7 @@ ghost use Rattle.gob_go_writer.specs.Calls.Again.{HasWritten, HasWrittenOn, IsSt
 
 use crate::item::write_item;
 use gob_go::GoSession;
-use gob_stream::{Fault, Limits, Step};
+use gob_stream::{Advance, Fault, Limits};
 use std::alloc::Global;
 
 /// The items of a whole stream, written again as they were read: its own bytes. It refuses what a session refuses, and
@@ -63,7 +63,7 @@ fn write_next(
         → StopsAgain (within_trees (limits_of session.old)) (bytes ++ piece.now) fault) }
     ensures limits { limits_of session.new ≡ limits_of session.old }
 {
-    let Step { used, item } = session.step(alloc, piece)?;
+    let Advance { used, item } = session.step(alloc, piece)?;
     match item {
         None => Ok(used),
         Some(item) => match write_item(alloc, session.table(), &item, out) {

@@ -9,7 +9,7 @@ use Rattle.gob_tape.proofs.SeeingLaws.{unsigned_signed}
 use Rattle.gob_walk.specs.Event.{Event, leaf}
 use Rattle.gob_walk.specs.Standing.{BeginsElements, EndsAt}
 use Rattle.gob_walk.specs.Told.{Reaches}
-use Rattle.gob_walk.specs.declared.stop.Stop.{Stop}
+use Rattle.gob_walk.specs.declared.walk_end.WalkEnd.{WalkEnd}
 use Rattle.gob_walk.proofs.PublicLaws.{reached_both, reached_prefix}
 use Rattle.gob_walk.proofs.TellLaws.{ElementsLeft}
 use Rattle.gob_handed.specs.Machine.Gathered.{gathered_of, gathers_both, tells_flat, with_part}
@@ -340,11 +340,11 @@ all_elements tells {vs = vs} b counted =
     record { values = vs; begins = b; counted = omega (arith, counted); text = λ new r p. p }
 
 -- ---- events in order, for the walk's own laws
-pub flat_both : {E : Type 0} (a b c : FlatVisitor) (x y : List Event) (r : Result (Unit {0}) (Stop E))
+pub flat_both : {E : Type 0} (a b c : FlatVisitor) (x y : List Event) (r : Result (Unit {0}) (WalkEnd E))
     → Reaches (tells_flat {E = E}) a b x (Ok tt) → Reaches tells_flat b c y r → Reaches tells_flat a c (x ++ y) r
 flat_both a b c x y r p q = reached_both tells_flat
     (λ a b c x y r p q. gathers_both (gathered_of a) (gathered_of b) (gathered_of c) x y r p q) a b c x y r p q
 
-pub flat_cut : {E : Type 0} (a b : FlatVisitor) (x y : List Event) (e : Stop E)
+pub flat_cut : {E : Type 0} (a b : FlatVisitor) (x y : List Event) (e : WalkEnd E)
     → Reaches (tells_flat {E = E}) a b x (Err e) → Reaches tells_flat a b (x ++ y) (Err e)
 flat_cut a b x y e p = reached_prefix tells_flat (λ a b x y e p. tt) a b x y e p

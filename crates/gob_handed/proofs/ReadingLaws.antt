@@ -15,7 +15,7 @@ use Rattle.gob_stream.specs.Stepping.{AdvancesBy, GivesAllBy, GivesItemsOf, give
 use Rattle.gob_stream.specs.Stepping.{ReadsOnBy, StepAnswersBy, Stepping}
 use Rattle.gob_stream.specs.declared.fault.Fault.{Fault}
 use Rattle.gob_stream.specs.declared.fault.Fault.TheVariants as fault
-use Rattle.gob_stream.specs.declared.session.Step.{Step}
+use Rattle.gob_stream.specs.declared.session.Advance.{Advance}
 use Rattle.gob_handed.specs.Reading.{AreUnfolded, none_unfolded, one_more, EndAt, GivesOfFirst, GoesOn, Handouts}
 use Rattle.gob_handed.specs.Reading.{FeedsBy, HasReadTo, IsHandedNext, KeepsBy, RefusesBehind, StandsSo, StaysSo}
 use Rattle.gob_handed.specs.Reading.{StepsBy, TakesSome}
@@ -153,7 +153,7 @@ stepped_on d {handouts = handouts} {old = old} mid {new = new} {items = items} {
 
 -- a step is answered so
 pub steps_well : {X I Told : Type 0} (d : Stepping X I Told) {handouts : Handouts I} {old : Reader X I}
-    (mid : Reader X I) {new : Reader X I} {items : List Told} {used : ℕ} {step : Step I} (bytes piece : List ℕ)
+    (mid : Reader X I) {new : Reader X I} {items : List Told} {used : ℕ} {step : Advance I} (bytes piece : List ℕ)
     → used ≡ step.used → (h : HasReadTo d old items bytes)
     → AdvancesBy d (session_of old) (session_of mid) items bytes piece step
     → step.used ≤ length piece → StandsBy d (session_of mid) → d.limits (session_of mid) ≡ d.limits (session_of old)
@@ -242,7 +242,7 @@ few_more gives_none = omega arith
 few_more (gives_one m) = omega arith
 
 pub keeps_ill : {X I Told : Type 0} (d : Stepping X I Told) {handouts : Handouts I} {old : Reader X I}
-    (mid : Reader X I) {new : Reader X I} {items : List Told} {step : Step I} (bytes piece : List ℕ) (e : Fault)
+    (mid : Reader X I) {new : Reader X I} {items : List Told} {step : Advance I} (bytes piece : List ℕ) (e : Fault)
     → e ≡ fault.Memory → AdvancesBy d (session_of old) (session_of mid) items bytes piece step
     → d.limits (session_of mid) ≡ d.limits (session_of old) → GivesAllBy d (session_of mid)
     → begin_of new ≡ begin_of old → waiting new ≡ waiting old

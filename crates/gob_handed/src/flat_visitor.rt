@@ -10,7 +10,7 @@ use crate::kinds::{BOOL, BYTES, COMPLEX, FLOAT, INT, LIST, MAP, NIL, OPAQUE, STR
 use gob_num::Memory;
 use gob_tape::FlatNode;
 use gob_types::{Field, Fields, Kind, Shape, Table, TypeId};
-use gob_walk::{Stop, Visitor, closed, number_at, walk_whole};
+use gob_walk::{Visitor, WalkEnd, closed, number_at, walk_whole};
 use std::alloc::Global;
 
 /// The nodes and the bytes of the value of the type that the body spells, no deeper than `depth`, in which no interface
@@ -161,7 +161,7 @@ impl FlatVisitor {
 
     // So many ints stand in the body from the place on, and are the elements of the innermost group, which ends with
     // them. It answers where they end.
-    fn push_ints(&mut self, count: u64, body: &[u8], begin: usize) -> Result<usize, Stop<Memory>>
+    fn push_ints(&mut self, count: u64, body: &[u8], begin: usize) -> Result<usize, WalkEnd<Memory>>
         requires { begin ≤ length body.now }
         ensures sent { (T : Types) (e : TypeId) (limit : ℕ) (vs : Trees) (rest : List ℕ)
             → IsOfKind T e (kind.Basic basic.Int) → BeginsElements T e limit vs (drop begin body.now) rest
@@ -180,7 +180,7 @@ impl FlatVisitor {
 
     // An int stands in the body at the place, and is the next part. It answers where it ends.
     #[inline(always)]
-    fn push_int(&mut self, body: &[u8], at: usize) -> Result<usize, Stop<Memory>>
+    fn push_int(&mut self, body: &[u8], at: usize) -> Result<usize, WalkEnd<Memory>>
         requires { at ≤ length body.now }
         ensures sent { (T : Types) (t : TypeId) (v : Tree) (rest : List ℕ)
             → HoldsKind T (kind.Basic basic.Int) v (drop at body.now) rest
@@ -189,7 +189,7 @@ impl FlatVisitor {
             (T : Types) → EndsAt false (BeginsKind T false (kind.Basic basic.Int) 1) body.now at end) }
     {
         let Some((number, end)) = number_at::<false>(body, at) else {
-            return Err(Stop::NotWhole);
+            return Err(WalkEnd::NotWhole);
         };
         closed(self.push(INT, number, 0), end)
     }
@@ -273,7 +273,7 @@ impl Visitor for FlatVisitor {
         body: &[u8],
         begin: usize,
         _known: bool,
-    ) -> Result<usize, Stop<Memory>> {
+    ) -> Result<usize, WalkEnd<Memory>> {
         self.push_ints(count, body, begin)
     }
 

@@ -19,7 +19,7 @@ use Rattle.gob_stream.specs.declared.fault.WriteFault.{WriteFault}
 use Rattle.gob_stream.specs.declared.fault.WriteFault.TheVariants as writing
 use Rattle.gob_stream.specs.declared.fault.Fault.{Fault}
 use Rattle.gob_stream.specs.declared.fault.Fault.TheVariants as reading
-use Rattle.gob_stream.specs.declared.session.Step.{Step}
+use Rattle.gob_stream.specs.declared.session.Advance.{Advance}
 use Rattle.gob_filled.specs.Definition.{defines}
 use Rattle.gob_filled.specs.Filled.{Filled, Fillings}
 use Rattle.gob_filled.specs.Outcome.{FilledOutcome, refused}
@@ -240,7 +240,7 @@ step_taken {w = w} {T = T} {ids = ids} w' old new S (Ok u) e f =
 step_taken w' old new S (Err x) e f = tt
 
 -- some bytes more were taken
-pub reads_on : {r r' : GoReader} {read now : Option (List ℕ)} {step : Step GoItem} (s : ReadsSo r read now)
+pub reads_on : {r r' : GoReader} {read now : Option (List ℕ)} {step : Advance GoItem} (s : ReadsSo r read now)
     → 0 < step.used → StepsOnFrom r r' read now s.given step → ReadsOn r r' read now
 reads_on s some st = record {
   so = record { given = s.given ++ st.more; has = st.takes.after };

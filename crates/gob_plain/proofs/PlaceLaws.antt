@@ -34,7 +34,7 @@ use Rattle.gob_json_writer.specs.WritesJson.{WritesTokens}
 use Rattle.gob_plain.proofs.SomeLaws.{some_of, some_then}
 use Rattle.gob_plain.specs.TellsTokens.{TellsTokens}
 use Rattle.gob_walk.specs.Told.{Reaches}
-use Rattle.gob_walk.specs.declared.stop.Stop.{Stop}
+use Rattle.gob_walk.specs.declared.walk_end.WalkEnd.{WalkEnd}
 use Rattle.gob_walk.proofs.AnswerLaws.{reached_both, reached_prefix}
 
 module _ {style : Style} {T : Table} where
@@ -139,13 +139,13 @@ some_last {xs = xs} {R = R} v w f = some_then v (some_of {P = λ (ts : List Toke
 -- ---- what a writer is told between two parts
 
 module _ (style : Style) (T : Table) where
-  pub tokens_both : (a b c : Written) (x y : List Event) (r : Result (Unit {0}) (Stop AllocError))
+  pub tokens_both : (a b c : Written) (x y : List Event) (r : Result (Unit {0}) (WalkEnd AllocError))
       → Reaches (TellsTokens style T) a b x (Ok tt) → Reaches (TellsTokens style T) b c y r
       → Reaches (TellsTokens style T) a c (x ++ y) r
   tokens_both a b c x y r p q = reached_both (TellsTokens style T)
       (λ a b c x y r p q. some_then p q (λ xs ys u v. said.says_both style T u v)) a b c x y r p q
 
-  pub tokens_cut : (a b : Written) (x y : List Event) (e : Stop AllocError)
+  pub tokens_cut : (a b : Written) (x y : List Event) (e : WalkEnd AllocError)
       → Reaches (TellsTokens style T) a b x (Err e)
       → Reaches (TellsTokens style T) a b (x ++ y) (Err e)
   tokens_cut a b x y e p = reached_prefix (TellsTokens style T)

@@ -10,7 +10,7 @@ ghost use Rattle.gob_plain.specs.Plain.{said_text};
 ghost use Rattle.gob_plain.specs.WritesPlain.{NamesMember, WritesPlain, WritesSome};
 
 use crate::leaf::write_name;
-use crate::nils::Nils;
+use crate::nils::NilTexts;
 use json::{Reader, Scratch, Token, Writer};
 use std::alloc::{AllocError, Global};
 
@@ -33,7 +33,7 @@ pub struct Fillers<'a> {
     pub passed: usize,
 }
 
-impl Nils for Fillers<'_> {
+impl NilTexts for Fillers<'_> {
     ghost says = { λ fillers k. FillerSays (slice_get fillers.all.now (fillers.passed + k)) };
 
     ghost fit = { λ fillers. AreFillers fillers.all.now };

@@ -14,7 +14,7 @@ ghost use Rattle.gob_plain.specs.declared.style.Style.{Style};
 ghost use Rattle.gob_plain.specs.TellsTokens.{TellsTokens};
 
 use gob_num::to_signed;
-use gob_walk::{Stop, closed, number_at};
+use gob_walk::{WalkEnd, closed, number_at};
 use json::Writer;
 use std::alloc::AllocError;
 
@@ -24,7 +24,7 @@ pub(crate) fn write_ints<const KNOWN: bool>(
     body: &[u8],
     begin: usize,
     out: &mut Writer,
-) -> Result<usize, Stop<AllocError>>
+) -> Result<usize, WalkEnd<AllocError>>
     requires { begin ≤ length body.now }
     ensures sent { (style : Style) (U T : Table) (e : TypeId) (limit : ℕ) (vs : Trees) (rest : List ℕ)
         → IsOfKind T e (kind.Basic basic.Int) → BeginsElements T e limit vs (drop begin body.now) rest
@@ -46,7 +46,7 @@ fn write_int<const KNOWN: bool>(
     body: &[u8],
     at: usize,
     out: &mut Writer,
-) -> Result<usize, Stop<AllocError>>
+) -> Result<usize, WalkEnd<AllocError>>
     requires { at ≤ length body.now }
     ensures sent { (style : Style) (U T : Table) (t : TypeId) (v : Tree) (rest : List ℕ)
         → HoldsKind T (kind.Basic basic.Int) v (drop at body.now) rest
@@ -55,7 +55,7 @@ fn write_int<const KNOWN: bool>(
         (T : Table) → EndsAt KNOWN (BeginsKind T false (kind.Basic basic.Int) 1) body.now at end) }
 {
     let Some((number, end)) = number_at::<KNOWN>(body, at) else {
-        return Err(Stop::NotWhole);
+        return Err(WalkEnd::NotWhole);
     };
     closed(out.i64(to_signed(number)), end)
 }

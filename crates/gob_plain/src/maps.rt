@@ -14,7 +14,7 @@ ghost use Rattle.gob_plain.specs.WritesPlain.{Shows};
 
 use crate::distinct::all_differ;
 use crate::leaf::key_name;
-use crate::nils::Nils;
+use crate::nils::NilTexts;
 use gob_tape::{Children, ValueKind, View};
 use gob_types::TypeId;
 use std::alloc::{AllocError, Global};
@@ -32,7 +32,7 @@ pub(crate) enum MapForm {
 }
 
 /// How the entries of a map with keys of this type are written, whose nils are the next of `nils`.
-pub(crate) fn form_of<N: Nils>(
+pub(crate) fn form_of<N: NilTexts>(
     alloc: Global,
     parts: Children<'_>,
     key: TypeId,
@@ -119,7 +119,11 @@ fn key_names(alloc: Global, parts: Children<'_>) -> Result<Vec<String>, AllocErr
 }
 
 // How the entries of a map are written whose keys are interfaces.
-fn held_form<N: Nils>(alloc: Global, parts: Children<'_>, nils: &N) -> Result<MapForm, AllocError>
+fn held_form<N: NilTexts>(
+    alloc: Global,
+    parts: Children<'_>,
+    nils: &N,
+) -> Result<MapForm, AllocError>
     ensures { IfOk result (λ form. (how : style.Style) (T : Table) (k e : id.TypeId) (ps : Pairs)
         → Gives parts.entry (alternating ps) → HeldFormFits form (N.says nils.now) how T k e ps) }
 {
@@ -134,7 +138,7 @@ fn held_form<N: Nils>(alloc: Global, parts: Children<'_>, nils: &N) -> Result<Ma
 }
 
 // The texts that fill the keys, where each key is nil and a text fills it, and no element has parts.
-fn key_texts<N: Nils>(
+fn key_texts<N: NilTexts>(
     alloc: Global,
     parts: Children<'_>,
     nils: &N,
@@ -161,7 +165,7 @@ fn key_texts<N: Nils>(
 
 // The text that fills the key of an entry, where the key is nil, the one with so many others before it, and the element
 // has no parts.
-fn key_text<N: Nils>(
+fn key_text<N: NilTexts>(
     alloc: Global,
     key: View<'_>,
     element: View<'_>,

@@ -4,7 +4,7 @@ use json::Writer;
 use std::alloc::{AllocError, Global};
 
 /// Writes what the nils of a value say, one behind another: `null`, or the JSON of what fills the nil.
-pub trait Nils {
+pub trait NilTexts {
     ghost use Rattle.std.specs.Prelude.{◌≡◌, ℕ, IfOk, OnOk, option_map, string_bytes};
     ghost use Rattle.json.specs.Json.{Json};
     ghost use Rattle.gob_plain.specs.Plain.{said_text};
@@ -41,7 +41,7 @@ pub trait Nils {
 #[derive(Drop)]
 pub(crate) struct Nulls;
 
-impl Nils for Nulls {
+impl NilTexts for Nulls {
     ghost use Rattle.std.specs.Prelude.{⊤};
     ghost use Rattle.gob_plain.specs.Plain.{all_null};
 

@@ -16,7 +16,7 @@ ghost use Rattle.gob_plain.specs.WritesPlain.{WritesNilsOf, WritesPlainOf, Shows
 
 use crate::leaf::{write_key, write_leaf, write_name};
 use crate::maps::{MapForm, form_of};
-use crate::nils::{Nils, Nulls};
+use crate::nils::{NilTexts, Nulls};
 use crate::opaque::write_opaque;
 use crate::style::Style;
 use crate::zeros::write_absent;
@@ -43,7 +43,7 @@ pub fn write_plain(
 
 /// Writes the value that a tape means as one of this type. Each nil of it says what the next of `nils` does, in the
 /// order in which they stand: the elements in theirs, of an entry of a map the key first, the fields by their numbers.
-pub fn write_plain_with<N: Nils>(
+pub fn write_plain_with<N: NilTexts>(
     alloc: Global,
     id: TypeId,
     tape: &Tape,
@@ -80,7 +80,7 @@ fn entry_types<S: Shapes>(table: &S, id: TypeId) -> EntryTypes
 
 // Writes the part as one of this type.
 #[cycle(part)]
-fn write_part<S: Shapes, N: Nils>(
+fn write_part<S: Shapes, N: NilTexts>(
     alloc: Global,
     part: View<'_>,
     id: TypeId,
@@ -136,7 +136,7 @@ fn write_part<S: Shapes, N: Nils>(
 
 // Writes an array of the elements, each of this type.
 #[cycle(part)]
-fn write_elements<S: Shapes, N: Nils>(
+fn write_elements<S: Shapes, N: NilTexts>(
     alloc: Global,
     parts: Children<'_>,
     id: TypeId,
@@ -160,7 +160,7 @@ fn write_elements<S: Shapes, N: Nils>(
 
 // Writes the entries of a map: as an object where the keys or the texts that fill them name them, else as an array.
 #[cycle(part)]
-fn write_map<S: Shapes, N: Nils>(
+fn write_map<S: Shapes, N: NilTexts>(
     alloc: Global,
     parts: Children<'_>,
     types: EntryTypes,
@@ -185,7 +185,7 @@ fn write_map<S: Shapes, N: Nils>(
 
 // Writes an object with a member for each entry, named by its key.
 #[cycle(part)]
-fn write_members<S: Shapes, N: Nils>(
+fn write_members<S: Shapes, N: NilTexts>(
     alloc: Global,
     parts: Children<'_>,
     types: EntryTypes,
@@ -216,7 +216,7 @@ fn write_members<S: Shapes, N: Nils>(
 
 // Writes an object with a member for each entry, named by the text that fills its key.
 #[cycle(part)]
-fn write_texts<S: Shapes, N: Nils>(
+fn write_texts<S: Shapes, N: NilTexts>(
     alloc: Global,
     parts: Children<'_>,
     types: EntryTypes,
@@ -248,7 +248,7 @@ fn write_texts<S: Shapes, N: Nils>(
 
 // Writes an array of the entries, each an array of a key and an element of these types.
 #[cycle(part)]
-fn write_pairs<S: Shapes, N: Nils>(
+fn write_pairs<S: Shapes, N: NilTexts>(
     alloc: Global,
     parts: Children<'_>,
     types: EntryTypes,
@@ -282,7 +282,7 @@ fn write_pairs<S: Shapes, N: Nils>(
 // Writes an object with a member for each field that is present, and for the absent ones that the style shows. The
 // struct's fields tell the names and the types.
 #[cycle(part)]
-fn write_fields<S: Shapes, N: Nils>(
+fn write_fields<S: Shapes, N: NilTexts>(
     alloc: Global,
     parts: Children<'_>,
     types: &[Field],

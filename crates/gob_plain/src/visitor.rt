@@ -13,7 +13,7 @@ use crate::style::Style;
 use crate::zeros::write_absent;
 use gob_json_writer::write_text;
 use gob_types::{Field, Fields, Kind, Shape, Shapes, TypeId};
-use gob_walk::{Stop, Visitor};
+use gob_walk::{Visitor, WalkEnd};
 use json::Writer;
 use std::alloc::{AllocError, Global};
 use std::str;
@@ -199,7 +199,7 @@ impl<S: Shapes> Visitor for Plain<'_, S> {
         body: &[u8],
         begin: usize,
         known: bool,
-    ) -> Result<usize, Stop<AllocError>> {
+    ) -> Result<usize, WalkEnd<AllocError>> {
         self.place.leaves_name();
         if known {
             return write_ints::<true>(count, body, begin, &mut self.out);

@@ -14,7 +14,7 @@ use gob_json_writer::tape_of;
 use gob_num::Memory;
 use gob_types::{Shapes, Table, TypeId};
 use gob_value::is_whole;
-use gob_walk::{Stop, walk_whole};
+use gob_walk::{WalkEnd, walk_whole};
 use json::Writer;
 use std::alloc::{AllocError, Global};
 
@@ -86,8 +86,8 @@ fn told_text_of<S: Shapes>(
     } = plain;
     match told {
         Ok(()) => Ok(text_if_free(place, out)),
-        Err(Stop::NotWhole) => Ok(None),
-        Err(Stop::Out(fault)) => Err(fault),
+        Err(WalkEnd::NotWhole) => Ok(None),
+        Err(WalkEnd::Out(fault)) => Err(fault),
     }
 }
 

@@ -18,7 +18,7 @@ use Rattle.gob_stream.specs.Stepping.{GivesAllBy, GivesItemsOf, gives_none, give
 use Rattle.gob_stream.specs.Whole.{HasBody}
 use Rattle.gob_stream.specs.declared.fault.Fault.{Fault}
 use Rattle.gob_stream.specs.declared.fault.Fault.TheVariants as reading
-use Rattle.gob_stream.specs.declared.session.Step.{Step}
+use Rattle.gob_stream.specs.declared.session.Advance.{Advance}
 use Rattle.gob_stream.proofs.PublicLaws.{counted_some, whole_item}
 use Rattle.gob_filled.specs.Filled.{as_it_stands, filled, Fillings, no_filling, with_fillings}
 use Rattle.gob_filled.specs.Stream.{FilledItem, putting, IsFilledItem, of_value, AreFilledItems, last_counted, no_more}
@@ -101,7 +101,7 @@ pub has_item : {r : GoReader} {id : TypeId} {body : List ℕ} {used : ℕ} → I
 has_item {id = id} w = (puts id w.is.whole.value, whole_item greatest_depth refl w.next w.is.whole)
 
 -- ---- a step
-pub step_taken : {r r' : GoReader} {read now : Option (List ℕ)} {given : List FilledItem} {step : Step GoItem}
+pub step_taken : {r r' : GoReader} {read now : Option (List ℕ)} {given : List FilledItem} {step : Advance GoItem}
     {kept : GoItem} {x : ItemText} → StepsOnFrom r r' read now given step → step.item ≡ Some kept → 0 < step.used
     → IfSome step.item (λ _. IsBetweenItems (session_of r')) → IsMadeOf (types_of (session_of r')) kept x
     → TakesText r r' read now given x
@@ -123,7 +123,7 @@ step_taken {r = r} {r' = r'} {read = read} {now = now} {given = given} {step = s
       onward = omega (arith, some, st.takes.onward);
     }
 
-pub step_none : {r r' : GoReader} {read now : Option (List ℕ)} {given : List FilledItem} {step : Step GoItem}
+pub step_none : {r r' : GoReader} {read now : Option (List ℕ)} {given : List FilledItem} {step : Advance GoItem}
     → StepsOnFrom r r' read now given step → step.item ≡ None → 0 < step.used → TakesNone r r' read now given
 step_none {r = r} {r' = r'} {read = read} {now = now} {given = given} {step = step} st is some =
     by st.takes.after

@@ -13,7 +13,7 @@ ghost use Rattle.gob_split.specs.Machine.Items.{HasReadSome, IsWholeBody, IsWhol
 use crate::item_text::{ItemText, make_text};
 use gob_go::GoReader;
 use gob_num::Memory;
-use gob_stream::{Fault, Limits, Step, Whole};
+use gob_stream::{Advance, Fault, Limits, Whole};
 use gob_types::{Table, TypeId};
 use gob_value::is_whole;
 use std::alloc::Global;
@@ -85,7 +85,7 @@ fn step_on(alloc: Global, reader: &mut GoReader, text: &mut ItemText) -> Result<
     ensures unread { IfErr result (λ fault. fault ≢ Fault.Read) }
     ensures limits { limits_of (session_of reader.new) ≡ limits_of (session_of reader.old) }
 {
-    let Step { item, .. } = reader.step(alloc)?;
+    let Advance { item, .. } = reader.step(alloc)?;
     let Some(item) = item else {
         return Ok(false);
     };

@@ -3,10 +3,10 @@ use Rattle.std.specs.Prelude.{◌≡◌, ℕ, List, [], ◌∷◌, ◌++◌, tak
 use Rattle.gob_stream.specs.Stepping.{Stepping}
 use Rattle.gob_stream.specs.declared.fault.Fault.{Fault}
 use Rattle.gob_stream.specs.declared.fault.Fault.TheVariants as fault
-use Rattle.gob_stream.specs.declared.session.Step.{Step}
+use Rattle.gob_stream.specs.declared.session.Advance.{Advance}
 
 -- a step took bytes from the front of the piece
-pub record TakesBy {X Item Told : Type 0} (d : Stepping X Item Told) (s s' : X) (piece : List ℕ) (step : Step Item)
+pub record TakesBy {X Item Told : Type 0} (d : Stepping X Item Told) (s s' : X) (piece : List ℕ) (step : Advance Item)
     : Type 0 where
   pub answers : d.steps s s' piece (Ok step)
   pub between : IfSome step.item (λ _. d.between s')
@@ -15,9 +15,9 @@ pub record TakesBy {X Item Told : Type 0} (d : Stepping X Item Told) (s s' : X) 
 -- steps gave the items and took the bytes
 pub data ReachesBy {X Item Told : Type 0} (d : Stepping X Item Told) (s : X) : List Item → List ℕ → X → Type 0 where
   no_step : ReachesBy d s [] [] s
-  no_item : {given : List Item} {z piece : List ℕ} {t t' : X} {step : Step Item} → ReachesBy d s given z t
+  no_item : {given : List Item} {z piece : List ℕ} {t t' : X} {step : Advance Item} → ReachesBy d s given z t
       → TakesBy d t t' piece step → step.item ≡ None → ReachesBy d s given (z ++ take step.used piece) t'
-  one_item : {given : List Item} {z piece : List ℕ} {t t' : X} {step : Step Item} {item : Item}
+  one_item : {given : List Item} {z piece : List ℕ} {t t' : X} {step : Advance Item} {item : Item}
       → ReachesBy d s given z t → TakesBy d t t' piece step → step.item ≡ Some item
       → ReachesBy d s (given ++ item ∷ []) (z ++ take step.used piece) t'
 
@@ -28,7 +28,7 @@ pub data StopsBy {X Item Told : Type 0} (d : Stepping X Item Told) (s s' : X) (p
   had_failed : d.failed s → StopsBy d s s' piece given fault.Failed
   at_step : {z rest : List ℕ} {t : X} {f : Fault} → ReachesBy d s given z t → piece ≡ z ++ rest
       → d.steps t s' rest (Err f) → StopsBy d s s' piece given f
-  at_item : {z rest : List ℕ} {t t' : X} {step : Step Item} {item : Item} → ReachesBy d s given z t
+  at_item : {z rest : List ℕ} {t t' : X} {step : Advance Item} {item : Item} → ReachesBy d s given z t
       → piece ≡ z ++ rest → TakesBy d t t' rest step → step.item ≡ Some item → d.table s' ≡ d.table t'
       → d.taken s' ≡ d.taken t' → StopsBy d s s' piece given fault.Memory
 

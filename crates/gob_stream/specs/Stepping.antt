@@ -11,7 +11,7 @@ use Rattle.gob_stream.specs.Stream.{IsItem}
 use Rattle.gob_stream.specs.Whole.{HasBody, HasBegun}
 use Rattle.gob_stream.specs.declared.fault.Fault.{Fault}
 use Rattle.gob_stream.specs.declared.fault.Fault.TheVariants as fault
-use Rattle.gob_stream.specs.declared.session.Step.{Step}
+use Rattle.gob_stream.specs.declared.session.Advance.{Advance}
 
 pub record Stepping (X Item Told : Type 0) : Type 1 where
   -- the grammar of its items, and what that keeps to of the limits of a session: all of that for an item
@@ -36,7 +36,7 @@ pub record Stepping (X Item Told : Type 0) : Type 1 where
   -- these are the types to which the bytes lead behind the items, up to a fault
   pub leads : Bounds → List ℕ → List Told → Table → Type 0
   -- what a step over the piece answers, in its own words
-  pub steps : X → X → List ℕ → Result (Step Item) Fault → Type 0
+  pub steps : X → X → List ℕ → Result (Advance Item) Fault → Type 0
 
 -- the items of what a step gave
 pub data GivesItemsOf {Item Told : Type 0} (means : Item → Told → Type 0) : Option Item → List Told → Type 0 where
@@ -65,7 +65,7 @@ GivesNoMoreBy {Told = Told} d s piece = (items : List Told) (bytes : List ℕ) (
 
 -- ---- what a step and the end answer
 pub record AdvancesBy {X Item Told : Type 0} (d : Stepping X Item Told) (s s' : X) (items : List Told)
-    (bytes piece : List ℕ) (step : Step Item) : Type 0 where
+    (bytes piece : List ℕ) (step : Advance Item) : Type 0 where
   pub more : List Told
   pub gives : GivesItemsOf (d.means (types (d.table s'))) step.item more
   pub after : d.read s' (items ++ more) (bytes ++ take step.used piece)
@@ -74,7 +74,7 @@ pub record AdvancesBy {X Item Told : Type 0} (d : Stepping X Item Told) (s s' : 
 -- a session that had given the items, of the bytes, with these types behind them: what refuses the piece refuses it
 -- whatever follows
 abbrev pub StepAnswersBy : {X Item Told : Type 0} → Stepping X Item Told → Table → (s s' : X) → List Told
-    → (bytes piece : List ℕ) → Result (Step Item) Fault → Type 0
+    → (bytes piece : List ℕ) → Result (Advance Item) Fault → Type 0
 StepAnswersBy d T s s' items bytes piece (Ok step) = AdvancesBy d s s' items bytes piece step
 StepAnswersBy d T s s' items bytes piece (Err (fault.Refused R)) =
     ((rest : List ℕ) → RefusesIn d.grammar (d.within (d.limits s)) T items ((bytes ++ piece) ++ rest) R)

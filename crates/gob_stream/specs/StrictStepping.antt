@@ -11,11 +11,11 @@ use Rattle.gob_stream.specs.Reading.{HasTypesBehind}
 use Rattle.gob_stream.specs.Stepping.{Stepping}
 use Rattle.gob_stream.specs.declared.fault.Fault.{Fault}
 use Rattle.gob_stream.specs.declared.item.Item as declared
-use Rattle.gob_stream.specs.declared.session.Step.{Step}
+use Rattle.gob_stream.specs.declared.session.Advance.{Advance}
 
 -- what a step answers wherever the session stands; a fault changes neither its types nor its count of bytes
 pub record StepsSo {X O : Type 0} {most : ℕ} (building : Building X O most) (s s' : SessionState X O) (piece : List ℕ)
-    (result : Result (Step (declared.Item O)) Fault) : Type 0 where
+    (result : Result (Advance (declared.Item O)) Fault) : Type 0 where
   pub advances : (items : List StreamItem) (bytes : List ℕ) → HasRead building s items bytes
       → StepAnswers building s s' items bytes piece result
   pub types : OnErr result (table_of s' ≡ table_of s)

@@ -17,7 +17,7 @@ ghost use Rattle.gob_types.specs.Base.{base_table};
 use crate::fault::Fault;
 use crate::input::Input;
 use crate::limits::Limits;
-use crate::session::{Session, Step};
+use crate::session::{Advance, Session};
 use crate::steps::Steps;
 use crate::values::Passed;
 use crate::waiting::Waiting;
@@ -275,7 +275,7 @@ impl<S: Steps> ReaderOf<S> {
     }
 
     /// Takes some of the bytes that wait, one at least, and none behind the end of an item.
-    pub fn step(&mut self, alloc: Global) -> Result<Step<S::Item>, Fault>
+    pub fn step(&mut self, alloc: Global) -> Result<Advance<S::Item>, Fault>
         requires some { 0 < length (waits_in self.old) }
         ensures stepped { (read now : Option (List ℕ)) (items : List S.Told)
             (h : HasReadBy S.stepping self.old read now items)

@@ -25,23 +25,23 @@ pub struct Session<B: Builder> {
     pub(crate) stage: Stage<B>,
 }
 
-/// What became of the front of a piece.
+/// How far a session has come in a piece.
 #[derive(Drop)]
-pub struct Step<I: Drop> {
+pub struct Advance<I: Drop> {
     /// How many bytes of the piece were taken, one at least of a piece that has any.
     pub used: usize,
     /// The item that is whole with them, if one is.
     pub item: Option<I>,
 }
 
-impl<I: Drop> Step<I> {
+impl<I: Drop> Advance<I> {
     ghost use Rattle.std.specs.Prelude.{◌≡◌, None};
 
     /// Of an empty piece: no byte was taken.
-    pub fn nothing() -> Step<I>
+    pub fn nothing() -> Advance<I>
         ensures { result ≡ record { used = 0; item = None } }
     {
-        Step {
+        Advance {
             used: 0,
             item: None,
         }
@@ -140,7 +140,7 @@ impl<B: Builder> Session<B> {
     /// Takes some bytes from the front of the piece, one at least where it has any, and none behind the end of an item.
     /// A refusal comes in the call that is given the last of the bytes that show it, and never says `Ended`.
     /// After a fault each call answers [`Fault::Failed`].
-    pub fn step(&mut self, alloc: Global, piece: &[u8]) -> Result<Step<Item<B::Out>>, Fault>
+    pub fn step(&mut self, alloc: Global, piece: &[u8]) -> Result<Advance<Item<B::Out>>, Fault>
         ensures advances { (items : List StreamItem) (bytes : List ℕ)
             → HasRead B.building self.old items bytes
             → StepAnswers B.building self.old self.new items bytes piece.now result }
@@ -159,7 +159,7 @@ impl<B: Builder> Session<B> {
             return Err(Fault::Failed);
         }
         if piece.is_empty() {
-            return Ok(Step::nothing());
+            return Ok(Advance::nothing());
         }
         let _most = self.limits.stream(); // its contract: no stream is so long that the sum wraps
         let around = Around {
@@ -171,7 +171,7 @@ impl<B: Builder> Session<B> {
         let Stepped { used, stage, item } = stage.take(&around, &mut self.types, piece)?;
         self.taken += used as u64;
         self.stage = stage;
-        Ok(Step { used, item })
+        Ok(Advance { used, item })
     }
 
     /// Says that no byte follows. Ok exactly between two items, and then nothing has changed; else the refusal

@@ -3,7 +3,7 @@
 use crate::fault::Fault;
 use crate::item::Item;
 use crate::limits::Limits;
-use crate::session::{Session, Step};
+use crate::session::{Advance, Session};
 use crate::steps::Steps;
 use crate::values::Passed;
 use crate::whole::{Awaited, Whole};
@@ -26,7 +26,7 @@ impl<B: Builder> Steps for Session<B> {
         Session::new(alloc, limits)
     }
 
-    fn step(&mut self, alloc: Global, piece: &[u8]) -> Result<Step<Item<B::Out>>, Fault> {
+    fn step(&mut self, alloc: Global, piece: &[u8]) -> Result<Advance<Item<B::Out>>, Fault> {
         self.step(alloc, piece)
     }
 

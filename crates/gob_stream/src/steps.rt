@@ -2,7 +2,7 @@
 
 use crate::fault::Fault;
 use crate::limits::Limits;
-use crate::session::Step;
+use crate::session::Advance;
 use crate::values::Passed;
 use crate::whole::{Awaited, Whole};
 use gob_num::Memory;
@@ -43,7 +43,7 @@ pub trait Steps: Drop {
 
     /// Takes some bytes from the front of the piece, one at least where it has any, and none behind the end of an item.
     /// After a fault each call answers [`Fault::Failed`].
-    fn step(&mut self, alloc: Global, piece: &[u8]) -> Result<Step<Self::Item>, Fault>
+    fn step(&mut self, alloc: Global, piece: &[u8]) -> Result<Advance<Self::Item>, Fault>
         ensures stepped { (items : List Told) (bytes : List ℕ) (h : stepping.read self.old items bytes)
             → StepAnswersBy stepping (stepping.behind self.old items bytes h) self.old self.new items bytes piece.now
             result }

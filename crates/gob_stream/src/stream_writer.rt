@@ -15,7 +15,7 @@ use crate::item::Item;
 use crate::item_bytes::{begin_item, spell_definition, spell_head, spell_value};
 use crate::limits::Limits;
 use crate::output::Output;
-use crate::place::Place;
+use crate::write_place::WritePlace;
 use gob_num::Memory;
 use gob_types::{Table, TypeId};
 use gob_value::Value;
@@ -29,7 +29,7 @@ pub struct StreamWriter {
     limits: Limits,
     // The types of the stream so far.
     types: Table,
-    place: Place,
+    place: WritePlace,
     // Where the body of an item is spelled, and then the item, both without a spelling that the caller has: kept from
     // one item to the next.
     body: Vec<u8>,
@@ -77,7 +77,7 @@ impl StreamWriter {
         Ok(StreamWriter {
             limits,
             types,
-            place: Place {
+            place: WritePlace {
                 offset: 0,
                 failed: false,
             },

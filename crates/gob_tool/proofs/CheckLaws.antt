@@ -20,7 +20,7 @@ use Rattle.gob_stream.specs.Stream.{AreItems, no_more, and_then, counted}
 use Rattle.gob_stream.specs.declared.fault.Fault.{Fault}
 use Rattle.gob_stream.specs.declared.fault.Fault.TheVariants as reading
 use Rattle.gob_stream.specs.declared.reader_of.ReaderOf.{ReaderOf}
-use Rattle.gob_stream.specs.declared.session.Step.{Step}
+use Rattle.gob_stream.specs.declared.session.Advance.{Advance}
 use Rattle.gob_stream.specs.declared.values.Passed.{Passed}
 use Rattle.gob_stream.proofs.Reader.ReaderOfLaws.{goes_on}
 use Rattle.gob_tool.specs.Checking.{ChecksIn, counts_line, definitions_in, IsCountedIn, IsNoStreamIn, is_accepted}
@@ -98,7 +98,7 @@ module _ {X I Told : Type 0} (d : Stepping X I Told) where
   given_so gives_none = refl
   given_so (gives_one m) = refl
 
-  pub counts_step : {r q r' : ReaderOf X I} {read now : Option (List ℕ)} {given : List Told} {step : Step I}
+  pub counts_step : {r q r' : ReaderOf X I} {read now : Option (List ℕ)} {given : List Told} {step : Advance I}
       (passed : Passed) → d.taken (session_of q) ≡ d.taken (session_of r) → StepsOnBy d q r' read now given step
       → passed.used ≡ step.used → passed.items ≡ given_count step.item → CountsOn d r r' read now given passed
   counts_step passed same st used items = record {

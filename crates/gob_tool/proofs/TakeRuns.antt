@@ -31,7 +31,7 @@ use Rattle.gob_tool.specs.declared.fault.ToolFault.TheVariants as fault
 use Rattle.gob_tool.specs.declared.receiver.LastMatch.{LastMatch}
 use Rattle.gob_stream.specs.Item.{ItemMeans}
 use Rattle.gob_stream.specs.Outcome.{BeginsWithStream, strict}
-use Rattle.gob_stream.specs.declared.session.Step.{Step}
+use Rattle.gob_stream.specs.declared.session.Advance.{Advance}
 use Rattle.gob_tool.specs.Texts.{answers, stops_at, HaveTexts, no_texts, texts_then, OfTexts}
 use Rattle.gob_tool.specs.Texts.{from_item, from_value}
 use Rattle.gob_tool.proofs.ShowLaws.{begins_first, meant, same_behind}
@@ -103,7 +103,7 @@ stays_known {L = L} {bytes = bytes} {items = items} c b U u kept (gives_one {i =
         → KeepsKnown T U u kept → KeepsKnown V U u kept
     by (counted x k s (of_value may deep n q)) h = h
 
-module _ {r r' : Trees} {step : Step (declared.Item Value)} (so : HasReadSome (strict_stepping tree_building) r)
+module _ {r r' : Trees} {step : Advance (declared.Item Value)} (so : HasReadSome (strict_stepping tree_building) r)
     (stands : StandsBy (strict_stepping tree_building) (session_of r'))
     (same : limits_of (session_of r') ≡ limits_of (session_of r))
     (st : StepsOnBy (strict_stepping tree_building) r r' (Some (so.has.taken ++ waits_in r)) (Some []) so.given step)

@@ -24,7 +24,7 @@ use Rattle.gob_stream.specs.declared.fault.Fault.TheVariants as reading
 use Rattle.gob_stream.specs.declared.fault.WriteFault.{WriteFault}
 use Rattle.gob_stream.specs.declared.fault.WriteFault.TheVariants as writing
 use Rattle.gob_stream.specs.declared.reader_of.ReaderOf.{ReaderOf}
-use Rattle.gob_stream.specs.declared.session.Step.{Step}
+use Rattle.gob_stream.specs.declared.session.Advance.{Advance}
 use Rattle.gob_stream.proofs.PublicLaws.{counted_some}
 use Rattle.gob_stream.proofs.Reader.ReaderOfLaws.{ahead_in, read_so}
 use Rattle.gob_tool.specs.Answering.{AppendsPrefix, BeginsOutcome, EndsWhole, RunAnswersIn}
@@ -543,7 +543,7 @@ module _ {X I Told : Type 0} (d : Stepping X I Told) {of_item : Table → I → 
   made_so stands made bytes known h between (gives_one {i = i} m) l =
       next_so stands i made bytes known between refl h (from_item m l)
 
-  pub step_made : {r r' : ReaderOf X I} {read now : Option (List ℕ)} {given : List Told} {step : Step I}
+  pub step_made : {r r' : ReaderOf X I} {read now : Option (List ℕ)} {given : List Told} {step : Advance I}
       {made : List ℕ} → StandsBy d (session_of r') → 0 < step.used → d.limits (session_of r') ≡ d.limits (session_of r)
       → StepsOnBy d r r' read now given step → IfSome step.item (λ _. d.between (session_of r'))
       → TextGiven of_item (types (d.table (session_of r'))) step.item made
@@ -597,7 +597,7 @@ module _ {X I Told : Type 0} (d : Stepping X I Told) {of_item : Table → I → 
 
 -- ---- what a step handed out
 module _ {X I Told : Type 0} (d : Stepping X I Told) where
-  pub item_given : {r r' : ReaderOf X I} {read now : Option (List ℕ)} {given : List Told} {step : Step I} (kept : I)
+  pub item_given : {r r' : ReaderOf X I} {read now : Option (List ℕ)} {given : List Told} {step : Advance I} (kept : I)
       → StepsOnBy d r r' read now given step → step.item ≡ Some kept
       → IfSome step.item (λ _. d.between (session_of r')) → IsGiven d (types (d.table (session_of r'))) kept
   item_given {r' = r'} {read = read} {now = now} {given = given} {step = step} kept st is between =
@@ -618,7 +618,7 @@ module _ {X I Told : Type 0} (d : Stepping X I Told) where
         types = refl;
       }
 
-  pub item_stops : {r r' : ReaderOf X I} {read now : Option (List ℕ)} {given : List Told} {step : Step I}
+  pub item_stops : {r r' : ReaderOf X I} {read now : Option (List ℕ)} {given : List Told} {step : Advance I}
       {stops : Table → I → ToolFault → Type 0} {f : ToolFault} (kept : I) → StepsOnBy d r r' read now given step
       → step.item ≡ Some kept → StandsBy d (session_of r') → IfSome step.item (λ _. d.between (session_of r'))
       → d.limits (session_of r') ≡ d.limits (session_of r) → stops (types (d.table (session_of r'))) kept f

@@ -19,7 +19,7 @@ use Rattle.gob_stream.specs.Reading.{CountsReads}
 use Rattle.gob_stream.specs.declared.fault.Fault.{Fault}
 use Rattle.gob_stream.specs.declared.fault.Fault.TheVariants as reading
 use Rattle.gob_stream.specs.declared.item.Item as declared
-use Rattle.gob_stream.specs.declared.session.Step.{Step}
+use Rattle.gob_stream.specs.declared.session.Advance.{Advance}
 use Rattle.gob_stream.specs.Calls.Reader.{EndsWith, GivesItems, gives_none, gives_one, HasReadFrom, StepsOnFrom}
 use Rattle.gob_stream.specs.Calls.Reader.{Stops, session_of}
 use Rattle.gob_tool.specs.declared.fault.ToolFault.{ToolFault}
@@ -118,7 +118,7 @@ step_last {L = L} {T = T} {bytes = bytes} given (gives_one {given = g} {i = i} m
     (is_last given (subst (λ i. Stream base_table L (given ++ i ∷ []) bytes T) (sym (meant m)) s))
 
 pub finds_step : {r q r' : Trees} {read now next : Option (List ℕ)} {first found : Option TypeId}
-    {definitions more : List ℕ} {step : Step (declared.Item Value)}
+    {definitions more : List ℕ} {step : Advance (declared.Item Value)}
     (p : FindsSo r read now first definitions) → StepsOnFrom tree_building q r' read next p.given step
     → found ≡ first_type_of first (first_type (views_given step.item)) → Notes first step.item definitions more
     → FindsSo r' read next found more

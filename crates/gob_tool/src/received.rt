@@ -15,7 +15,7 @@ use crate::text_steps::TextSteps;
 use crate::texts::Sent;
 use gob_match::MatchFault;
 use gob_read::TreeBuilder;
-use gob_stream::{Item, Output, Session, Step, StreamReader};
+use gob_stream::{Advance, Item, Output, Session, StreamReader};
 use gob_types::Table;
 use gob_value::Value;
 use std::alloc::Global;
@@ -39,7 +39,7 @@ impl<const MOST: usize> TextSteps<Session<TreeBuilder>> for Receiver<'_, MOST> {
         kept: &mut LastMatch,
         text: &mut Vec<u8>,
     ) -> Result<(), ToolFault> {
-        let Step { item, .. } = reader.step(alloc)?;
+        let Advance { item, .. } = reader.step(alloc)?;
         let Some(item) = item else {
             return Ok(());
         };

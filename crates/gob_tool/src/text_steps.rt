@@ -6,7 +6,7 @@ ghost use Rattle.gob_types.specs.Defined.{types};
 use crate::fault::ToolFault;
 use crate::texts::{ItemTexts, Sent};
 use gob_num::Memory;
-use gob_stream::{Output, ReaderOf, Step, Steps};
+use gob_stream::{Advance, Output, ReaderOf, Steps};
 use std::alloc::Global;
 use std::io::Write;
 
@@ -117,7 +117,7 @@ impl<S: Steps, M: ItemTexts<S>> TextSteps<S> for EachAlone<'_, M> {
         _kept: &mut (),
         text: &mut Vec<u8>,
     ) -> Result<(), ToolFault> {
-        let Step { item, .. } = reader.step(alloc)?;
+        let Advance { item, .. } = reader.step(alloc)?;
         let Some(item) = item else {
             return Ok(());
         };

@@ -29,7 +29,7 @@ use Rattle.gob_go.specs.Calls.Session.{HasBodyNext, IsBetweenItems, limits_of, t
 use Rattle.gob_go.specs.Ids.{defined_ids}
 use Rattle.gob_go.specs.Reading.{LeadsBehind}
 use Rattle.gob_go.specs.Calls.Reader.{GoReader}
-use Rattle.gob_stream.specs.declared.session.Step.{Step}
+use Rattle.gob_stream.specs.declared.session.Advance.{Advance}
 use Rattle.gob_go.specs.declared.item.GoItem.{GoItem}
 use Rattle.gob_go.proofs.LeadingLaws.{leads_nowhere}
 use Rattle.gob_tool.specs.declared.fault.ToolFault.{ToolFault}
@@ -83,7 +83,7 @@ gathers_passed {r = r} {read = read} {now = now} {id = id} {used = used} s w p k
       omega (arith, t.onward, some, size),
     )
 
-pub gathers_step : {r r' : GoReader} {read now : Option (List ℕ)} {old new : Gathered} {step : Step GoItem}
+pub gathers_step : {r r' : GoReader} {read now : Option (List ℕ)} {old new : Gathered} {step : Advance GoItem}
     (s : GathersSo r read now old) → 0 < step.used → StepsOnFrom r r' read now s.given step
     → ItemGiven step.item old new
     → GathersSo r' read now new × (taken_of (session_of r) < taken_of (session_of r'))

@@ -16,7 +16,7 @@ ghost use Rattle.gob_views.specs.Values.{AreLinesBehind, form_of, line_jsons, pa
 
 use gob_go::Filled;
 use gob_num::Memory;
-use gob_plain::{Content, Filler, Fillers, Nils, Style, Taken, filled_text};
+use gob_plain::{Content, Filler, Fillers, NilTexts, Style, Taken, filled_text};
 use gob_types::{Kind, Shapes, Table, TypeId};
 use gob_words::{OpaqueKind, TypeKind, number_of};
 use json::{Scratch, Writer};

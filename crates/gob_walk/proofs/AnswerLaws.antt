@@ -3,8 +3,8 @@ use Rattle.std.proofs.Common.{◌≡◌, ℕ, ◌+◌, true, List, ◌++◌, dro
 use Rattle.std.proofs.lemmas.Bool.{lt-ltb}
 use Rattle.std.specs.Result.{IsErrAnd, result_and}
 use Rattle.gob_walk.specs.Told.{Reaches, Sends, as_stop, without_end}
-use Rattle.gob_walk.specs.declared.stop.Stop.{Stop}
-use Rattle.gob_walk.specs.declared.stop.Stop.TheVariants as stops
+use Rattle.gob_walk.specs.declared.walk_end.WalkEnd.{WalkEnd}
+use Rattle.gob_walk.specs.declared.walk_end.WalkEnd.TheVariants as stops
 
 -- a number above another is above 0
 pub later_on : (n : ℕ) → nat_lt 0 (n + 1) ≡ true
@@ -25,7 +25,7 @@ module _ {O E A : Type 0} (tells : O → O → List A → Result (Unit {0}) E �
 
   pub reached_both : ((a b c : O) (x y : List A) (r : Result (Unit {0}) E) → tells a b x (Ok tt) → tells b c y r
       → tells a c (x ++ y) r)
-      → (a b c : O) (x y : List A) (r : Result (Unit {0}) (Stop E)) → Reaches tells a b x (Ok tt)
+      → (a b c : O) (x y : List A) (r : Result (Unit {0}) (WalkEnd E)) → Reaches tells a b x (Ok tt)
       → Reaches tells b c y r
       → Reaches tells a c (x ++ y) r
   reached_both joined a b c x y (Ok u) p q = record { answers = joined a b c x y (Ok u) p.answers q.answers }
@@ -34,7 +34,7 @@ module _ {O E A : Type 0} (tells : O → O → List A → Result (Unit {0}) E �
   reached_both joined a b c x y (Err stops.NotWhole) p q = absurd q.answers
 
   pub reached_prefix : ((a b : O) (x y : List A) (e : E) → tells a b x (Err e) → tells a b (x ++ y) (Err e))
-      → (a b : O) (x y : List A) (e : Stop E) → Reaches tells a b x (Err e) → Reaches tells a b (x ++ y) (Err e)
+      → (a b : O) (x y : List A) (e : WalkEnd E) → Reaches tells a b x (Err e) → Reaches tells a b (x ++ y) (Err e)
   reached_prefix cut a b x y (stops.Out e) p = record { answers = cut a b x y e p.answers }
   reached_prefix cut a b x y stops.NotWhole p = absurd p.answers
 
@@ -133,7 +133,7 @@ module _ {O E A : Type 0} (tells : O → O → List A → Result (Unit {0}) E �
 -- what one relation says of a visitor another says of its output
 pub answers_as : {O P E X Y : Type 0} {tells : O → O → X → Result (Unit {0}) E → Type 0}
     {puts : P → P → Y → Result (Unit {0}) E → Type 0} {old new : O} {a b : P} {x : X} {y : Y} {A : Type 0}
-    → ((r : Result (Unit {0}) E) → tells old new x r → A × puts a b y r) → (r : Result (Unit {0}) (Stop E))
+    → ((r : Result (Unit {0}) E) → tells old new x r → A × puts a b y r) → (r : Result (Unit {0}) (WalkEnd E))
     → Reaches tells old new x r → A × Reaches puts a b y r
 answers_as f (Ok u) p = let q = f (Ok u) p.answers in (q.0, record { answers = q.1 })
 answers_as f (Err (stops.Out e)) p = let q = f (Err e) p.answers in (q.0, record { answers = q.1 })
@@ -141,7 +141,7 @@ answers_as f (Err stops.NotWhole) p = absurd p.answers
 
 pub sends_so : {O P E X Y : Type 0} {tells : O → O → X → Result (Unit {0}) E → Type 0}
     {puts : P → P → Y → Result (Unit {0}) E → Type 0} {old new : O} {a b : P} {x : X} {y : Y} {A : Type 0}
-    {body rest : List ℕ} {r : Result ℕ (Stop E)}
+    {body rest : List ℕ} {r : Result ℕ (WalkEnd E)}
     → ((r : Result (Unit {0}) E) → tells old new x r → A × puts a b y r)
     → Sends (Reaches tells) old new x body rest r → A × Sends (Reaches puts) a b y body rest r
 sends_so {r = r} f p = let q = answers_as f (without_end r) p.put in (q.0, record { put = q.1; behind = p.behind })

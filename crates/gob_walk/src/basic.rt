@@ -12,8 +12,8 @@ ghost use Rattle.gob_walk.specs.Event.{value_told};
 ghost use Rattle.gob_walk.specs.Told.{Reaches, Sends};
 
 use crate::number::{bytes_at, number_at};
-use crate::stop::{Stop, closed};
 use crate::visitor::Visitor;
+use crate::walk_end::{WalkEnd, closed};
 use gob_num::{to_pattern, to_signed};
 use gob_types::{Basic, Shape};
 
@@ -25,7 +25,7 @@ pub(crate) fn walk_basic<V: Visitor, const KNOWN: bool>(
     body: &[u8],
     at: usize,
     out: &mut V,
-) -> Result<usize, Stop<V::Fault>>
+) -> Result<usize, WalkEnd<V::Fault>>
     requires { at ≤ length body.now }
     ensures sent { (T : Table) (t : TypeId) (v : Tree) (rest : List ℕ)
         → HoldsKind T (kind.Basic basic) v (drop at body.now) rest
@@ -34,12 +34,12 @@ pub(crate) fn walk_basic<V: Visitor, const KNOWN: bool>(
         (T : Table) → EndsAt KNOWN (BeginsKind T false (kind.Basic basic) 1) body.now at end) }
 {
     let Some((number, behind)) = number_at::<KNOWN>(body, at) else {
-        return Err(Stop::NotWhole);
+        return Err(WalkEnd::NotWhole);
     };
     match basic {
         Basic::Bool => {
             if number > 1 {
-                return Err(Stop::NotWhole);
+                return Err(WalkEnd::NotWhole);
             }
             closed(out.truth(number == 1), behind)
         }
@@ -48,25 +48,25 @@ pub(crate) fn walk_basic<V: Visitor, const KNOWN: bool>(
         Basic::Float => closed(out.float(to_pattern(number)), behind),
         Basic::Bytes => {
             let Some((bytes, end)) = bytes_at(number, body, behind) else {
-                return Err(Stop::NotWhole);
+                return Err(WalkEnd::NotWhole);
             };
             closed(out.bytes(bytes), end)
         }
         Basic::Str => {
             let Some((bytes, end)) = bytes_at(number, body, behind) else {
-                return Err(Stop::NotWhole);
+                return Err(WalkEnd::NotWhole);
             };
             closed(out.text(bytes), end)
         }
         Basic::Complex => {
             let Some((imaginary, end)) = number_at::<KNOWN>(body, behind) else {
-                return Err(Stop::NotWhole);
+                return Err(WalkEnd::NotWhole);
             };
             closed(out.complex(to_pattern(number), to_pattern(imaginary)), end)
         }
         Basic::Interface => {
             if number > 0 {
-                return Err(Stop::NotWhole);
+                return Err(WalkEnd::NotWhole);
             }
             closed(out.nil(), behind)
         }
@@ -80,7 +80,7 @@ pub(crate) fn walk_raw<V: Visitor, const KNOWN: bool>(
     body: &[u8],
     at: usize,
     out: &mut V,
-) -> Result<usize, Stop<V::Fault>>
+) -> Result<usize, WalkEnd<V::Fault>>
     requires { at ≤ length body.now }
     ensures sent { (T : Table) (t : TypeId) (m : Marshal) (v : Tree) (rest : List ℕ)
         → shape_of T t ≡ Some shape.now → HoldsKind T (kind.Opaque m) v (drop at body.now) rest
@@ -89,10 +89,10 @@ pub(crate) fn walk_raw<V: Visitor, const KNOWN: bool>(
         → EndsAt KNOWN (BeginsKind T false (kind.Opaque m) 1) body.now at end) }
 {
     let Some((count, begin)) = number_at::<KNOWN>(body, at) else {
-        return Err(Stop::NotWhole);
+        return Err(WalkEnd::NotWhole);
     };
     let Some((bytes, end)) = bytes_at(count, body, begin) else {
-        return Err(Stop::NotWhole);
+        return Err(WalkEnd::NotWhole);
     };
     closed(out.raw(shape, bytes), end)
 }

@@ -13,12 +13,12 @@
 
 mod basic;
 mod number;
-mod stop;
 mod visitor;
 mod walk;
+mod walk_end;
 mod whole;
 
 pub use number::number_at;
-pub use stop::{Stop, closed};
 pub use visitor::Visitor;
+pub use walk_end::{WalkEnd, closed};
 pub use whole::walk_whole;

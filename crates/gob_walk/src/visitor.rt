@@ -1,6 +1,6 @@
 //! What is told of the parts of a value.
 
-use crate::stop::Stop;
+use crate::walk_end::WalkEnd;
 use gob_types::{Field, Fields, Kind, Shape, TypeId};
 
 /// Is told of the parts of a value one behind another.
@@ -89,7 +89,7 @@ pub trait Visitor {
         body: &[u8],
         begin: usize,
         known: bool,
-    ) -> Result<usize, Stop<Self::Fault>>
+    ) -> Result<usize, WalkEnd<Self::Fault>>
         requires { begin ≤ length body.now }
         ensures sent { (T : Table) (e : TypeId) (limit : ℕ) (vs : Trees) (rest : List ℕ)
             → IsOfKind T e (kind.Basic basic.Int) → BeginsElements T e limit vs (drop begin body.now) rest

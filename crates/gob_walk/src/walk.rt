@@ -16,8 +16,8 @@ ghost use Rattle.gob_walk.specs.Told.{Reaches, Sends};
 
 use crate::basic::{walk_basic, walk_raw};
 use crate::number::{next_field, number_at};
-use crate::stop::{Stop, closed};
 use crate::visitor::Visitor;
+use crate::walk_end::{WalkEnd, closed};
 use gob_types::{Basic, Field, Fields as Types, Kind, Shape, Shapes, TypeId};
 
 /// Tells of the value of a type of this shape that stands in the body from the place on, and where it ends. It calls
@@ -33,7 +33,7 @@ pub(crate) fn walk_value<S: Shapes, V: Visitor, const KNOWN: bool>(
     at: usize,
     depth: u64,
     out: &mut V,
-) -> Result<usize, Stop<V::Fault>>
+) -> Result<usize, WalkEnd<V::Fault>>
     requires depth { depth ≤ 1000 }
     requires place { at ≤ length body.now }
     requires heads { IfSome heads (λ h. V.heads_of shape.now.kind h.now) }
@@ -44,7 +44,7 @@ pub(crate) fn walk_value<S: Shapes, V: Visitor, const KNOWN: bool>(
         EndsAt KNOWN (BeginsKind (S.table shapes.now) false shape.now.kind depth) body.now at end) }
 {
     if depth == 0 {
-        return Err(Stop::NotWhole);
+        return Err(WalkEnd::NotWhole);
     }
     match &shape.kind {
         Kind::Basic(basic) => walk_basic::<V, KNOWN>(*basic, body, at, out),
@@ -54,22 +54,22 @@ pub(crate) fn walk_value<S: Shapes, V: Visitor, const KNOWN: bool>(
         }
         Kind::Slice { elem } => {
             let Some((count, behind)) = number_at::<KNOWN>(body, at) else {
-                return Err(Stop::NotWhole);
+                return Err(WalkEnd::NotWhole);
             };
             walk_elements::<S, V, KNOWN>(shapes, *elem, count, body, behind, depth - 1, out)
         }
         Kind::Array { elem, len } => {
             let Some((count, behind)) = number_at::<KNOWN>(body, at) else {
-                return Err(Stop::NotWhole);
+                return Err(WalkEnd::NotWhole);
             };
             if count != *len {
-                return Err(Stop::NotWhole);
+                return Err(WalkEnd::NotWhole);
             }
             walk_elements::<S, V, KNOWN>(shapes, *elem, count, body, behind, depth - 1, out)
         }
         Kind::Map { key, elem } => {
             let Some((count, behind)) = number_at::<KNOWN>(body, at) else {
-                return Err(Stop::NotWhole);
+                return Err(WalkEnd::NotWhole);
             };
             walk_pairs::<S, V, KNOWN>(shapes, *key, *elem, count, body, behind, depth - 1, out)
         }
@@ -88,7 +88,7 @@ fn walk_part<S: Shapes, V: Visitor, const KNOWN: bool>(
     at: usize,
     depth: u64,
     out: &mut V,
-) -> Result<usize, Stop<V::Fault>>
+) -> Result<usize, WalkEnd<V::Fault>>
     requires depth { depth ≤ 1000 }
     requires place { at ≤ length body.now }
     requires heads { IfSome heads (λ h. V.heads_of shape.now.kind h.now) }
@@ -116,7 +116,7 @@ fn walk_elements<S: Shapes, V: Visitor, const KNOWN: bool>(
     begin: usize,
     depth: u64,
     out: &mut V,
-) -> Result<usize, Stop<V::Fault>>
+) -> Result<usize, WalkEnd<V::Fault>>
     requires depth { depth ≤ 1000 }
     requires place { begin ≤ length body.now }
     ensures sent { (vs : Trees) (rest : List ℕ)
@@ -131,7 +131,7 @@ fn walk_elements<S: Shapes, V: Visitor, const KNOWN: bool>(
         return closed(out.list_ends(), begin);
     }
     let Some(shape) = shapes.shape_of(elem) else {
-        return Err(Stop::NotWhole);
+        return Err(WalkEnd::NotWhole);
     };
     match &shape.kind {
         Kind::Basic(Basic::Int) if depth > 0 => return out.ints(count, body, begin, KNOWN),
@@ -160,7 +160,7 @@ fn walk_pairs<S: Shapes, V: Visitor, const KNOWN: bool>(
     begin: usize,
     depth: u64,
     out: &mut V,
-) -> Result<usize, Stop<V::Fault>>
+) -> Result<usize, WalkEnd<V::Fault>>
     requires depth { depth ≤ 1000 }
     requires place { begin ≤ length body.now }
     ensures sent { (ps : Pairs) (rest : List ℕ)
@@ -175,10 +175,10 @@ fn walk_pairs<S: Shapes, V: Visitor, const KNOWN: bool>(
         return closed(out.map_ends(key), begin);
     }
     let Some(keys) = shapes.shape_of(key) else {
-        return Err(Stop::NotWhole);
+        return Err(WalkEnd::NotWhole);
     };
     let Some(elems) = shapes.shape_of(elem) else {
-        return Err(Stop::NotWhole);
+        return Err(WalkEnd::NotWhole);
     };
     let made = V::heads(&elems.kind, count, KNOWN);
     let heads = made.as_ref();
@@ -204,7 +204,7 @@ fn walk_pair<S: Shapes, V: Visitor, const KNOWN: bool>(
     at: usize,
     depth: u64,
     out: &mut V,
-) -> Result<usize, Stop<V::Fault>>
+) -> Result<usize, WalkEnd<V::Fault>>
     requires depth { depth ≤ 1000 }
     requires place { at ≤ length body.now }
     requires heads { IfSome heads (λ h. V.heads_of elem.now.kind h.now) }
@@ -233,7 +233,7 @@ fn walk_fields<S: Shapes, V: Visitor, const KNOWN: bool>(
     begin: usize,
     depth: u64,
     out: &mut V,
-) -> Result<usize, Stop<V::Fault>>
+) -> Result<usize, WalkEnd<V::Fault>>
     requires depth { depth ≤ 1000 }
     requires place { begin ≤ length body.now }
     requires heads { IfSome heads (λ h. V.heads_of (kind.Struct types.now) h.now) }
@@ -250,13 +250,13 @@ fn walk_fields<S: Shapes, V: Visitor, const KNOWN: bool>(
     out.struct_begins()?;
     'fields: loop {
         let Some((delta, behind)) = number_at::<KNOWN>(body, at) else {
-            return Err(Stop::NotWhole);
+            return Err(WalkEnd::NotWhole);
         };
         if delta == 0 {
             return closed(out.struct_ends(types, next), behind);
         }
         let Some((number, field)) = next_field(types, next, delta) else {
-            return Err(Stop::NotWhole);
+            return Err(WalkEnd::NotWhole);
         };
         tell_field::<V, KNOWN>(heads, types, next, number, field, out)?;
         at = walk_field::<S, V, KNOWN>(shapes, field.id, none, body, behind, depth, out)?;
@@ -304,7 +304,7 @@ fn walk_field<S: Shapes, V: Visitor, const KNOWN: bool>(
     at: usize,
     depth: u64,
     out: &mut V,
-) -> Result<usize, Stop<V::Fault>>
+) -> Result<usize, WalkEnd<V::Fault>>
     requires depth { depth ≤ 1000 }
     requires place { at ≤ length body.now }
     requires none { (k : AKind) → IfSome none (λ h. V.heads_of k h.now) }
@@ -330,7 +330,7 @@ fn walk_typed<S: Shapes, V: Visitor, const KNOWN: bool>(
     at: usize,
     depth: u64,
     out: &mut V,
-) -> Result<usize, Stop<V::Fault>>
+) -> Result<usize, WalkEnd<V::Fault>>
     requires depth { depth ≤ 1000 }
     requires place { at ≤ length body.now }
     requires none { (k : AKind) → IfSome none (λ h. V.heads_of k h.now) }
@@ -344,7 +344,7 @@ fn walk_typed<S: Shapes, V: Visitor, const KNOWN: bool>(
         Some(basic) if depth > 0 => walk_basic::<V, KNOWN>(basic, body, at, out),
         _ => match shapes.shape_of(id) {
             Some(shape) => walk_value::<S, V, KNOWN>(shapes, shape, none, body, at, depth, out),
-            None => Err(Stop::NotWhole),
+            None => Err(WalkEnd::NotWhole),
         },
     }
 }

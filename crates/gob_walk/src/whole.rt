@@ -8,9 +8,9 @@ ghost use Rattle.gob_walk.specs.Event.{value_told};
 ghost use Rattle.gob_walk.specs.Standing.{IsBehindTag};
 ghost use Rattle.gob_walk.specs.Told.{Reaches};
 
-use crate::stop::Stop;
 use crate::visitor::Visitor;
 use crate::walk::walk_value;
+use crate::walk_end::WalkEnd;
 use gob_types::{Kind, Shapes, TypeId};
 
 /// Tells of the value of the type that the body spells, behind its tag where it isn't a struct. It may be known that
@@ -21,23 +21,23 @@ pub fn walk_whole<S: Shapes, V: Visitor, const KNOWN: bool>(
     body: &[u8],
     depth: u64,
     out: &mut V,
-) -> Result<(), Stop<V::Fault>>
+) -> Result<(), WalkEnd<V::Fault>>
     requires { depth ≤ 1000 }
     ensures sent { (v : Tree) → SpellsTop (S.table shapes.now) id v body.now → DepthOf v ≤ depth
         → Reaches V.tells out.old out.new (value_told (S.table shapes.now) id v) result }
     ensures whole { KNOWN ≡ false → OnOk result (IsWhole (S.table shapes.now) id depth body.now) }
 {
     let Some(shape) = shapes.shape_of(id) else {
-        return Err(Stop::NotWhole);
+        return Err(WalkEnd::NotWhole);
     };
     let Some(begin) = behind_tag(&shape.kind, body) else {
-        return Err(Stop::NotWhole);
+        return Err(WalkEnd::NotWhole);
     };
     let made = V::heads(&shape.kind, 1, KNOWN);
     let heads = made.as_ref();
     let end = walk_value::<S, V, KNOWN>(shapes, shape, heads, body, begin, depth, out)?;
     if end != body.len() {
-        return Err(Stop::NotWhole);
+        return Err(WalkEnd::NotWhole);
     }
     Ok(())
 }

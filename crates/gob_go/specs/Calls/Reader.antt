@@ -8,7 +8,7 @@ use Rattle.gob_stream.specs.Calls.ReaderOf.{PassesOneBy, StepsOnBy, StopsBy}
 use Rattle.gob_stream.specs.Stepping.{GivesItemsOf}
 use Rattle.gob_stream.specs.declared.fault.Fault.{Fault}
 use Rattle.gob_stream.specs.declared.reader_of.ReaderOf.{ReaderOf}
-use Rattle.gob_stream.specs.declared.session.Step.{Step}
+use Rattle.gob_stream.specs.declared.session.Advance.{Advance}
 use Rattle.gob_filled.specs.Outcome.{profile}
 use Rattle.gob_filled.specs.Stream.{FilledItem}
 use Rattle.gob_go.specs.GoStepping.{go_stepping}
@@ -41,7 +41,7 @@ StopsFrom s T read now items e = StopsBy go_stepping s T read now items e
 abbrev pub GivesItems : Table → Option GoItem → List FilledItem → Type 0
 GivesItems T given items = GivesItemsOf (λ g i. ItemMeans T g i) given items
 
-abbrev pub StepsOnFrom : (r r' : GoReader) → (read now : Option (List ℕ)) → List FilledItem → Step GoItem → Type 0
+abbrev pub StepsOnFrom : (r r' : GoReader) → (read now : Option (List ℕ)) → List FilledItem → Advance GoItem → Type 0
 StepsOnFrom r r' read now items step = StepsOnBy go_stepping r r' read now items step
 
 -- the types behind a refusal: those where all that was read leads, with each definition that is whole in it

@@ -37,7 +37,7 @@ use Rattle.gob_go.specs.declared.levels.Goes.TheVariants as goes
 use Rattle.gob_go.specs.declared.part.PutPart.{PutPart}
 use Rattle.gob_go.specs.declared.part.PutPart.TheVariants as part
 use Rattle.gob_go.specs.declared.part.PartTaken.{PartTaken}
-use Rattle.gob_stream.specs.declared.session.Step.{Step}
+use Rattle.gob_stream.specs.declared.session.Advance.{Advance}
 use Rattle.gob_go.specs.declared.stage.Stage.{Stage}
 use Rattle.gob_go.specs.declared.stage.Stage.TheVariants as stage
 use Rattle.gob_go.specs.declared.stage.Stepped.{Stepped}
@@ -317,7 +317,7 @@ pub data AdvancesOver (keep : Bool) (s' : SessionState) (items : List FilledItem
 
 -- what a step over the front of a piece answers, behind these bytes, of which the items were given
 abbrev pub StepAnswersSo : (keep : Bool) (s s' : SessionState) → List FilledItem → (bytes piece : List ℕ)
-    → Result (Step GoItem) Fault → Type 0
+    → Result (Advance GoItem) Fault → Type 0
 StepAnswersSo keep s s' items bytes piece (Ok step) = AdvancesOver keep s' items bytes piece step.used step.item
 StepAnswersSo keep s s' items bytes piece (Err (fault.Refused R)) =
     ShowsRefusal (within_trees s.limits) (bytes ++ piece) items R
@@ -327,6 +327,6 @@ StepAnswersSo keep s s' items bytes piece (Err fault.Memory) =
 StepAnswersSo keep s s' items bytes piece (Err _) = ⊥
 
 -- where what fills nils is kept
-abbrev pub StepAnswers : (s s' : SessionState) → List FilledItem → (bytes piece : List ℕ) → Result (Step GoItem) Fault
-    → Type 0
+abbrev pub StepAnswers : (s s' : SessionState) → List FilledItem → (bytes piece : List ℕ)
+    → Result (Advance GoItem) Fault → Type 0
 StepAnswers s s' items bytes piece result = StepAnswersSo true s s' items bytes piece result

@@ -17,7 +17,7 @@ use super::heads::Heads;
 use super::integers::put_integers;
 use super::leaf::{put_complex, put_hex, put_null, put_opaque, put_truth};
 use gob_types::{Field, Fields, Kind, Shape, Shapes, TypeId};
-use gob_walk::{Stop, Visitor, walk_whole};
+use gob_walk::{Visitor, WalkEnd, walk_whole};
 
 /// Puts out the exact text of what it is told. It is taken apart in the end, and not dropped.
 pub(crate) struct Exact<'a, O: PartOut> {
@@ -107,7 +107,7 @@ impl<O: PartOut> Visitor for Exact<'_, O> {
         body: &[u8],
         begin: usize,
         known: bool,
-    ) -> Result<usize, Stop<O::Fault>> {
+    ) -> Result<usize, WalkEnd<O::Fault>> {
         if known {
             return put_integers::<O, true>(count, body, begin, self.out);
         }
@@ -216,7 +216,7 @@ pub(crate) fn put_value<S: Shapes, O: PartOut, const KNOWN: bool>(
     body: &[u8],
     depth: u64,
     out: &mut O,
-) -> Result<(), Stop<O::Fault>>
+) -> Result<(), WalkEnd<O::Fault>>
     requires { depth ≤ 1000 }
     ensures sent { (v : Tree) → SpellsTop (S.table shapes.now) id v body.now → DepthOf v ≤ depth
         → Reaches O.puts out.old out.new (compact_text (value_json (S.table shapes.now) id v)) result }
@@ -235,7 +235,7 @@ fn tell_value<S: Shapes, O: PartOut, const KNOWN: bool>(
     body: &[u8],
     depth: u64,
     out: &mut Exact<'_, O>,
-) -> Result<(), Stop<O::Fault>>
+) -> Result<(), WalkEnd<O::Fault>>
     requires { depth ≤ 1000 }
     ensures sent { (v : Tree) → SpellsTop (S.table shapes.now) id v body.now → DepthOf v ≤ depth
         → (out.new.out.ghost_name ≡ out.old.out.ghost_name) × Reaches O.puts out.old.out.now out.new.out.now

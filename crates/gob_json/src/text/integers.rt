@@ -15,7 +15,7 @@ ghost use Rattle.gob_walk.specs.Told.{Reaches, Sends};
 use super::block::{comma_at, integer_at};
 use super::gathered::PartOut;
 use gob_num::to_signed;
-use gob_walk::{Stop, closed, number_at};
+use gob_walk::{WalkEnd, closed, number_at};
 
 // The most bytes of an int in a list: a comma, a sign and the digits.
 const PART: usize = 22;
@@ -36,7 +36,7 @@ pub(crate) fn put_integers<O: PartOut, const KNOWN: bool>(
     body: &[u8],
     begin: usize,
     out: &mut O,
-) -> Result<usize, Stop<O::Fault>>
+) -> Result<usize, WalkEnd<O::Fault>>
     requires { begin ≤ length body.now }
     ensures sent { (T : Table) (e : TypeId) (limit : ℕ) (vs : Trees) (rest : List ℕ)
         → IsOfKind T e (kind.Basic basic.Int) → BeginsElements T e limit vs (drop begin body.now) rest
@@ -58,7 +58,7 @@ fn put_in_blocks<O: PartOut, const KNOWN: bool, const BLOCK: usize>(
     body: &[u8],
     begin: usize,
     out: &mut O,
-) -> Result<usize, Stop<O::Fault>>
+) -> Result<usize, WalkEnd<O::Fault>>
     requires place { begin ≤ length body.now }
     requires room { 22 ≤ BLOCK }
     requires most { BLOCK ≤ 4096 }
@@ -78,7 +78,7 @@ fn put_in_blocks<O: PartOut, const KNOWN: bool, const BLOCK: usize>(
             len = 0;
         }
         let Some((number, end)) = number_at::<KNOWN>(body, at) else {
-            return Err(Stop::NotWhole);
+            return Err(WalkEnd::NotWhole);
         };
         let behind = comma_at(index > 0, &mut block, len);
         len = integer_at(to_signed(number), &mut block, behind);

@@ -17,7 +17,7 @@ use super::out::TextOut;
 use super::piece::Piece;
 use gob_num::Memory;
 use gob_types::{Shapes, TypeId};
-use gob_walk::Stop;
+use gob_walk::WalkEnd;
 use std::mem;
 
 // How deep a value may be whose text is written: each level is a call within a call.
@@ -41,8 +41,8 @@ pub fn line_of_whole<S: Shapes>(
 {
     match append_line(shapes, id, body, depth, room, out) {
         Ok(()) => Ok(true),
-        Err(Stop::NotWhole) => Ok(false),
-        Err(Stop::Out(memory)) => Err(memory),
+        Err(WalkEnd::NotWhole) => Ok(false),
+        Err(WalkEnd::Out(memory)) => Err(memory),
     }
 }
 
@@ -54,7 +54,7 @@ fn append_line<S: Shapes>(
     depth: u64,
     room: &mut Vec<u8>,
     out: &mut Vec<u8>,
-) -> Result<(), Stop<Memory>>
+) -> Result<(), WalkEnd<Memory>>
     ensures ok { OnOk result (LineOfWhole (S.table shapes.now) id depth body.now out.old.items out.new.items) }
     ensures err { OnErr result (out.new.items ≡ out.old.items) }
 {
@@ -122,8 +122,8 @@ fn send_gathered<S: Shapes, O: TextOut>(
 {
     match put_line::<S, Gathered<'_, O>, true>(shapes, id, body, depth, out) {
         Ok(()) => out.flush(),
-        Err(Stop::Out(fault)) => Err(fault),
-        Err(Stop::NotWhole) => Ok(()),
+        Err(WalkEnd::Out(fault)) => Err(fault),
+        Err(WalkEnd::NotWhole) => Ok(()),
     }
 }
 
@@ -136,7 +136,7 @@ fn put_line<S: Shapes, O: PartOut, const KNOWN: bool>(
     body: &[u8],
     depth: u64,
     out: &mut O,
-) -> Result<(), Stop<O::Fault>>
+) -> Result<(), WalkEnd<O::Fault>>
     requires { depth ≤ 1000 }
     ensures sent { (v : Tree) → SpellsTop (S.table shapes.now) id v body.now → DepthOf v ≤ depth
         → Reaches O.puts out.old out.new (compact_text (put_json (S.table shapes.now) id v) ++ 10 ∷ []) result }

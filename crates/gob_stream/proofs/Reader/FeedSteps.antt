@@ -10,7 +10,7 @@ use Rattle.gob_read.specs.Building.{Building}
 use Rattle.gob_stream.specs.declared.fault.Fault.{Fault}
 use Rattle.gob_stream.specs.declared.fault.Fault.TheVariants as fault
 use Rattle.gob_stream.specs.declared.item.Item as declared
-use Rattle.gob_stream.specs.declared.session.Step.{Step}
+use Rattle.gob_stream.specs.declared.session.Advance.{Advance}
 use Rattle.gob_stream.specs.Machine.SessionState.{SessionState}
 use Rattle.gob_stream.specs.Bounds.{Bounds, no_deeper}
 use Rattle.gob_stream.specs.Feeding.{FeedsBy, ReachesBy, StopsBy, TakesBy}
@@ -166,7 +166,7 @@ taken_so {prefix = prefix} rest t e g = record { prefix = prefix; rest = rest; w
 
 -- without memory for the item that is whole with a step
 lost : {X O : Type 0} {most : ℕ} (building : Building X O most) {s t t' : SessionState X O}
-    {given : List (declared.Item O)} {z rest piece : List ℕ} {step : Step (declared.Item O)} {one : declared.Item O}
+    {given : List (declared.Item O)} {z rest piece : List ℕ} {step : Advance (declared.Item O)} {one : declared.Item O}
     (s' : SessionState X O) → HasFed building s t given z → piece ≡ z ++ rest
     → TakesBy (strict_stepping building) t t' rest step → step.item ≡ Some one → s'.types ≡ t'.types
     → s'.taken ≡ t'.taken → (items : List StreamItem) (bytes : List ℕ) → HasRead building s items bytes

@@ -8,7 +8,7 @@ use Rattle.gob_stream.specs.Reading.{Given}
 use Rattle.gob_stream.specs.Stepping.{Stepping}
 use Rattle.gob_stream.specs.declared.fault.Fault.{Fault}
 use Rattle.gob_stream.specs.declared.fault.Fault.TheVariants as fault
-use Rattle.gob_stream.specs.declared.session.Step.{Step}
+use Rattle.gob_stream.specs.declared.session.Advance.{Advance}
 
 -- bytes from there on, as a slice
 abbrev pub rest_of : List ℕ → ℕ → List ℕ
@@ -42,7 +42,7 @@ module _ {X Item Told : Type 0} (d : Stepping X Item Told) where
       ∙ sym (append_assoc taken (take used rest) (drop used rest))
       ∙ ap (λ l. (taken ++ take used rest) ++ l) (sym (take_rest rest used))
 
-  pub fed_further : {s t t' : X} {out out' : List Item} {piece rest : List ℕ} {step : Step Item}
+  pub fed_further : {s t t' : X} {out out' : List Item} {piece rest : List ℕ} {step : Advance Item}
       → HasFedTo d s t out out' piece rest → TakesBy d t t' rest step → step.item ≡ None
       → HasFedTo d s t' out out' piece (rest_of rest step.used)
   fed_further {rest = rest} {step = step} h o none = record {
@@ -54,7 +54,7 @@ module _ {X Item Told : Type 0} (d : Stepping X Item Told) where
     limits = o.limits ∙ h.limits;
   }
 
-  pub fed_item : {s t t' u : X} {out out' out'' : List Item} {piece rest : List ℕ} {step : Step Item} {item : Item}
+  pub fed_item : {s t t' u : X} {out out' out'' : List Item} {piece rest : List ℕ} {step : Advance Item} {item : Item}
       → HasFedTo d s t out out' piece rest → TakesBy d t t' rest step → step.item ≡ Some item → u ≡ t'
       → out'' ≡ out' ++ item ∷ [] → HasFedTo d s u out out'' piece (rest_of rest step.used)
   fed_item {s = s} {out = out} {rest = rest} {step = step} {item = item} h o one same more = record {
@@ -89,7 +89,7 @@ module _ {X Item Told : Type 0} (d : Stepping X Item Told) where
   }
 
   -- memory is wanting for the item that a step gave
-  pub stops_at_item : {s t t' s' : X} {out out' out'' : List Item} {piece rest : List ℕ} {step : Step Item}
+  pub stops_at_item : {s t t' s' : X} {out out' out'' : List Item} {piece rest : List ℕ} {step : Advance Item}
       {item : Item} (result : Result (Unit {0}) Fault) (f : Fault) → IsErrAnd result (λ e. e ≡ f) → f ≡ fault.Memory
       → HasFedTo d s t out out' piece rest → TakesBy d t t' rest step → step.item ≡ Some item
       → d.table s' ≡ d.table t' → d.taken s' ≡ d.taken t' → out'' ≡ out'

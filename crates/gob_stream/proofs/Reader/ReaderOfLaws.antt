@@ -24,7 +24,7 @@ use Rattle.gob_stream.specs.Stepping.{ReadsOnBy, StepAnswersBy, Stepping}
 use Rattle.gob_stream.specs.declared.fault.Fault.{Fault}
 use Rattle.gob_stream.specs.declared.fault.Fault.TheVariants as fault
 use Rattle.gob_stream.specs.declared.reader_of.ReaderOf.{ReaderOf}
-use Rattle.gob_stream.specs.declared.session.Step.{Step}
+use Rattle.gob_stream.specs.declared.session.Advance.{Advance}
 use Rattle.gob_stream.specs.declared.values.Passed.{Passed}
 use Rattle.gob_stream.specs.declared.whole.Awaited.{Awaited}
 
@@ -290,7 +290,7 @@ module _ {X I Told : Type 0} (d : Stepping X I Told) where
 
   -- ---- at the error that a `?` returns
   pub steps_at : (r : ReaderOf X I) (T : Table) (r' : ReaderOf X I) (read now : Option (List ℕ)) (items : List Told)
-      (res : Result (Step I) Fault) (e : Fault) → IsErrAnd res (λ x. x ≡ e)
+      (res : Result (Advance I) Fault) (e : Fault) → IsErrAnd res (λ x. x ≡ e)
       → StopsBy d (session_of r) T read now items e → StepsBy d r T r' read now items res
   steps_at r T r' read now items (Ok step) e is h = absurd is
   steps_at r T r' read now items (Err f) e is h =
@@ -327,7 +327,7 @@ module _ {X I Told : Type 0} (d : Stepping X I Told) where
   has_ended s T r' read now items false e f = f
 
   -- a step
-  pub steps_on : {r r' : ReaderOf X I} {read now : Option (List ℕ)} {items : List Told} (T : Table) (step : Step I)
+  pub steps_on : {r r' : ReaderOf X I} {read now : Option (List ℕ)} {items : List Told} (T : Table) (step : Advance I)
       → (h : HasReadBy d r read now items) → waits_in r' ≡ drop step.used (waits_in r) → IsAsWide r r'
       → StepAnswersBy d T (session_of r) (session_of r') items h.taken (waits_in r) (Ok step)
       → StepsOnBy d r r' read now items step

@@ -29,7 +29,7 @@ use Rattle.gob_stream.specs.declared.fault.Fault.{Fault}
 use Rattle.gob_stream.specs.declared.fault.Fault.TheVariants as fault
 use Rattle.gob_stream.specs.declared.fault.Refusal.{Refusal}
 use Rattle.gob_stream.specs.declared.item.Item as declared
-use Rattle.gob_stream.specs.declared.session.Step.{Step}
+use Rattle.gob_stream.specs.declared.session.Advance.{Advance}
 use Rattle.gob_stream.specs.declared.whole.Awaited.{Awaited}
 use Rattle.gob_stream.proofs.Reader.FailedSteps.{not_read}
 use Rattle.gob_stream.proofs.Reader.HasReadLaws.{one_table, stands_within}
@@ -105,8 +105,9 @@ module _ {X O : Type 0} {most : ℕ} (building : Building X O most) where
       let g = begun_gives a between begun in
       record { gives = g; table = table_is s items bytes (bytes ++ piece) piece refl a g.begins }
 
-  advances : {s s' : SessionState X O} {items : List StreamItem} {bytes piece : List ℕ} (step : Step (declared.Item O))
-      {item : Option (declared.Item O)} → HasRead building s items bytes → step.item ≡ item
+  advances : {s s' : SessionState X O} {items : List StreamItem} {bytes piece : List ℕ}
+      (step : Advance (declared.Item O)) {item : Option (declared.Item O)} → HasRead building s items bytes
+      → step.item ≡ item
       → AdvancesOver building s' items bytes piece step.used item
       → AdvancesBy (strict_stepping building) s s' items bytes piece step
   advances {s' = s'} {items = items} {bytes = bytes} {piece = piece} step h e (over_some some within a) = record {
@@ -149,7 +150,7 @@ module _ {X O : Type 0} {most : ℕ} (building : Building X O most) where
 
   -- a step
   pub steps : (s s' : SessionState X O) (items : List StreamItem) (bytes piece : List ℕ)
-      (result : Result (Step (declared.Item O)) Fault) → HasRead building s items bytes
+      (result : Result (Advance (declared.Item O)) Fault) → HasRead building s items bytes
       → OnErr result (table_of s' ≡ table_of s) → StepAnswers building s s' items bytes piece result
       → StepAnswersBy (strict_stepping building) (types_of s) s s' items bytes piece result
   steps s s' items bytes piece (Ok step) h same a = advances step h refl a
@@ -169,7 +170,7 @@ module _ {X O : Type 0} {most : ℕ} (building : Building X O most) where
 
   -- what it refuses is shown by bytes of the piece
   pub step_shows : (s s' : SessionState X O) (items : List StreamItem) (bytes piece : List ℕ)
-      (result : Result (Step (declared.Item O)) Fault) → StepAnswers building s s' items bytes piece result
+      (result : Result (Advance (declared.Item O)) Fault) → StepAnswers building s s' items bytes piece result
       → OfRefusal (λ R. length bytes < R.seen) result
   step_shows s s' items bytes piece (Ok step) a = tt
   step_shows s s' items bytes piece (Err (fault.Refused R)) a = a.1

@@ -19,7 +19,7 @@ use Rattle.gob_stream.specs.declared.fault.Fault.{Fault}
 use Rattle.gob_stream.specs.declared.fault.Fault.TheVariants as fault
 use Rattle.gob_stream.specs.declared.item.Item as declared
 use Rattle.gob_stream.specs.Machine.SessionState.{SessionState}
-use Rattle.gob_stream.specs.declared.session.Step.{Step}
+use Rattle.gob_stream.specs.declared.session.Advance.{Advance}
 use Rattle.gob_stream.specs.declared.stage.Extent.{Extent}
 use Rattle.gob_stream.specs.declared.stage.Stage.{Stage}
 use Rattle.gob_stream.specs.declared.stage.Stage.TheVariants as stage
@@ -381,14 +381,14 @@ piece_consumed {n = n} {buf = buf} mid now tail r c = subst (λ b. Consumes mid 
 
 -- wherever the reading stood, this is what a step over the piece answered
 pub record Stepped {X O : Type 0} {most : ℕ} (building : Building X O most) (s s' : SessionState X O) (piece : List ℕ)
-    (result : Result (Step (declared.Item O)) Fault) : Type 0 where
+    (result : Result (Advance (declared.Item O)) Fault) : Type 0 where
   pub each : (items : List StreamItem) (bytes : List ℕ) → HasRead building s items bytes
       → StepAnswers building s s' items bytes piece result
   pub some : 0 < length piece
   pub few : length piece ≤ bytes_wanted s.stage s.taken
 
 pub stepped : {X O : Type 0} {most : ℕ} (building : Building X O most) (s s' : SessionState X O) {n : ℕ} {buf : List ℕ}
-    (tail : List ℕ) (result : Result (Step (declared.Item O)) Fault)
+    (tail : List ℕ) (result : Result (Advance (declared.Item O)) Fault)
     → IsRead n (bytes_wanted s.stage s.taken) buf
     → ((items : List StreamItem) (bytes : List ℕ) → HasRead building s items bytes
     → StepAnswers building s s' items bytes (take n (buf ++ tail)) result)
@@ -548,7 +548,7 @@ if_some P {o = Some y} p e = p
 if_some P {o = None} p e = cc
 
 pub step_gives : {X O : Type 0} {most : ℕ} {building : Building X O most} {s s' : SessionState X O}
-    {items : List StreamItem} {bytes : List ℕ} (piece : List ℕ) (step : Step (declared.Item O))
+    {items : List StreamItem} {bytes : List ℕ} (piece : List ℕ) (step : Advance (declared.Item O))
     {given : declared.Item O} → Stepped building s s' piece (Ok step) → step.used ≡ length piece
     → IfSome step.item (λ _. IsBetween s') → step.item ≡ Some given → HasRead building s items bytes
     → ReadingGivesNext building s' given items (bytes ++ piece)
@@ -557,7 +557,7 @@ step_gives {s' = s'} {items = items} {bytes = bytes} piece step p u b e a = over
 
 pub gives_taken : {X O : Type 0} {most : ℕ} {building : Building X O most} {s s' : SessionState X O}
     {items : List StreamItem} {bytes rest : List ℕ} {now : Option (List ℕ)} (piece : List ℕ)
-    (step : Step (declared.Item O)) {given : declared.Item O}
+    (step : Advance (declared.Item O)) {given : declared.Item O}
     → Stepped building s s' piece (Ok step) → step.used ≡ length piece
     → IfSome step.item (λ _. IsBetween s') → step.item ≡ Some given
     → SomeTaken rest now (StoodBefore building s items bytes piece)
@@ -586,7 +586,7 @@ over_taken bytes piece used o (over_item k l m a) u = let v = a.taken in
     omega (arith, length-append bytes (take used piece), length-take used piece)
 
 pub step_taken : {X O : Type 0} {most : ℕ} {building : Building X O most} {s s' : SessionState X O} (piece : List ℕ)
-    (step : Step (declared.Item O)) → step.used ≡ length piece
+    (step : Advance (declared.Item O)) → step.used ≡ length piece
     → HasReadOn building s
     → Stepped building s s' piece (Ok step) → s'.taken ≡ s.taken + length piece
 step_taken piece step u w f = let t = w.after.taken in let n = over_taken w.bytes piece step.used step.item
@@ -605,7 +605,7 @@ no_less (inr l) = omega arith
 -- ---- a step that gives no item
 
 pub stood_further : {X O : Type 0} {most : ℕ} {building : Building X O most} {s mid s' : SessionState X O}
-    {old between now : Option (List ℕ)} (piece : List ℕ) (step : Step (declared.Item O))
+    {old between now : Option (List ℕ)} (piece : List ℕ) (step : Advance (declared.Item O))
     → Consumes between now piece
     → Stepped building mid s' piece (Ok step) → step.used ≡ length piece → step.item ≡ None
     → StoodOn building s mid old between → StoodOn building s s' old now

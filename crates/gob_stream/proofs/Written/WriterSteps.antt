@@ -9,7 +9,7 @@ use Rattle.gob_types.specs.Defined.{Defined, types}
 use Rattle.gob_stream.specs.declared.fault.WriteFault.{WriteFault}
 use Rattle.gob_stream.specs.declared.fault.WriteFault.TheVariants as fault
 use Rattle.gob_stream.specs.declared.output.Output.{Output}
-use Rattle.gob_stream.specs.declared.place.Place.{Place}
+use Rattle.gob_stream.specs.declared.write_place.WritePlace.{WritePlace}
 use Rattle.gob_stream.specs.Machine.WriterState.{WriterState}
 use Rattle.gob_types.specs.declared.denial.Denial.{Denial}
 use Rattle.gob_types.specs.declared.denial.Denial.TheVariants as denial
@@ -27,7 +27,7 @@ use Rattle.gob_stream.specs.Calls.Writing.{WritesItem, Leaves, CountsWriterFault
 use Rattle.gob_stream.proofs.Stream.StreamLaws.{one_more, wider_counted}
 
 -- a writer of these fields
-abbrev pub writer_state : Bounds → Defined → Place → WriterState
+abbrev pub writer_state : Bounds → Defined → WritePlace → WriterState
 writer_state limits types place = record { limits = limits; types = types; place = place }
 
 -- what is denied before any byte went out is a fault of the item
@@ -46,7 +46,7 @@ denied_leaves w w' out (denial.Refused r) same = (same, Keeps-refl out)
 denied_leaves w w' out denial.Memory same = (same, Keeps-refl out)
 
 -- a writer whose send failed writes no more
-sent_leaves : (w ready : WriterState) (place : Place) (bytes : List ℕ) (old new : Option (List ℕ))
+sent_leaves : (w ready : WriterState) (place : WritePlace) (bytes : List ℕ) (old new : Option (List ℕ))
     (r : Result (Unit {0}) WriteFault) → SendAnswers ready.place place bytes old new r
     → Leaves w (record ready { place = place }) old new r
 sent_leaves w ready place bytes old new (Ok u) sent = ap (λ p. p.failed) sent.1
@@ -71,7 +71,7 @@ module _ {W : Type 0} (contents : W → Option (List ℕ)) where
   }
 
   -- its bytes were sent
-  pub sent_effects : (w ready : WriterState) (place : Place) (bytes : List ℕ) (output output' : Output W)
+  pub sent_effects : (w ready : WriterState) (place : WritePlace) (bytes : List ℕ) (output output' : Output W)
       (r : Result (Unit {0}) WriteFault) → IsUsableWriter w → w.place.failed ≡ false
       → SendAnswers ready.place place bytes (contents (writer_of output)) (contents (writer_of output')) r
       → CountsWriterFaults (failed_writes output) (failed_writes output') r
@@ -116,7 +116,7 @@ pub record HasItem (L : Bounds) (w ready : WriterState) (all : List ℕ) (i : St
   pub item : IsItem base_table L (types w.types) w.place.offset i all U
 
 -- the item's bytes went out, or a prefix of them
-pub sent_writes : (L : Bounds) (w ready : WriterState) (place : Place) (all : List ℕ) (items : List StreamItem)
+pub sent_writes : (L : Bounds) (w ready : WriterState) (place : WritePlace) (all : List ℕ) (items : List StreamItem)
     (bytes : List ℕ) (T U : Table) (i : StreamItem) (old new : Option (List ℕ))
     (r : Result (Unit {0}) WriteFault) → HasWritten w items bytes T → HasItem L w ready all i U
     → SendAnswers ready.place place all old new r
@@ -154,8 +154,8 @@ sent_writes L w ready place all items bytes T U i old new (Err f) written has se
     })
 
 -- behind it the writer has written some items again, or a write failed
-pub usable_behind : (L : Bounds) (w ready : WriterState) (place : Place) (all : List ℕ) (U : Table) (i : StreamItem)
-    (old new : Option (List ℕ)) (r : Result (Unit {0}) WriteFault)
+pub usable_behind : (L : Bounds) (w ready : WriterState) (place : WritePlace) (all : List ℕ) (U : Table)
+    (i : StreamItem) (old new : Option (List ℕ)) (r : Result (Unit {0}) WriteFault)
     → IsUsableWriter w → w.place.failed ≡ false → (HasWrittenSome w → HasItem L w ready all i U)
     → SendAnswers ready.place place all old new r
     → IsUsableWriter (record ready { place = place })

@@ -14,7 +14,7 @@ use Rattle.gob_stream.specs.StrictStepping.{strict_stepping}
 use Rattle.gob_stream.specs.declared.fault.Fault.{Fault}
 use Rattle.gob_stream.specs.declared.item.Item as declared
 use Rattle.gob_stream.specs.declared.reader_of.ReaderOf.{ReaderOf}
-use Rattle.gob_stream.specs.declared.session.Step.{Step}
+use Rattle.gob_stream.specs.declared.session.Advance.{Advance}
 pub use Rattle.gob_stream.specs.Calls.ReaderOf.{IsShort, left_to_read, most_ahead, room_in, session_of, waits_in}
 pub use Rattle.gob_stream.specs.Stepping.{gives_none, gives_one}
 
@@ -42,5 +42,5 @@ abbrev pub GivesItems : {O : Type 0} → (means : O → Tree → Type 0) → Opt
 GivesItems means given items = GivesItemsOf (λ g i. ItemMeans means g i) given items
 
 abbrev pub StepsOnFrom : {X O : Type 0} {most : ℕ} → Building X O most → (r r' : StreamReader X O)
-    → (read now : Option (List ℕ)) → List StreamItem → Step (declared.Item O) → Type 0
+    → (read now : Option (List ℕ)) → List StreamItem → Advance (declared.Item O) → Type 0
 StepsOnFrom building r r' read now items step = StepsOnBy (strict_stepping building) r r' read now items step

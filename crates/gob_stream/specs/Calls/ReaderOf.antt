@@ -14,7 +14,7 @@ use Rattle.gob_stream.specs.Stepping.{GivesItemsOf, GivesNoMoreBy, HasBegunNextB
 use Rattle.gob_stream.specs.declared.fault.Fault.{Fault}
 use Rattle.gob_stream.specs.declared.fault.Fault.TheVariants as fault
 use Rattle.gob_stream.specs.declared.reader_of.ReaderOf.{ReaderOf}
-use Rattle.gob_stream.specs.declared.session.Step.{Step}
+use Rattle.gob_stream.specs.declared.session.Advance.{Advance}
 use Rattle.gob_stream.specs.declared.values.Passed.{Passed}
 
 -- ---- what contracts see of a reader
@@ -103,13 +103,13 @@ pub record TakesBy {X I Told : Type 0} (d : Stepping X I Told) (r r' : ReaderOf 
   pub onward : d.taken (session_of r') ≡ d.taken (session_of r) + used
 
 pub record StepsOnBy {X I Told : Type 0} (d : Stepping X I Told) (r r' : ReaderOf X I) (read now : Option (List ℕ))
-    (items : List Told) (step : Step I) : Type 0 where
+    (items : List Told) (step : Advance I) : Type 0 where
   pub more : List Told
   pub gives : GivesItemsOf (d.means (types (d.table (session_of r')))) step.item more
   pub takes : TakesBy d r r' read now items more step.used
 
 abbrev pub StepsBy : {X I Told : Type 0} → Stepping X I Told → ReaderOf X I → Table → (r' : ReaderOf X I)
-    → (read now : Option (List ℕ)) → List Told → Result (Step I) Fault → Type 0
+    → (read now : Option (List ℕ)) → List Told → Result (Advance I) Fault → Type 0
 StepsBy d r T r' read now items (Ok step) = StepsOnBy d r r' read now items step
 StepsBy d r T r' read now items (Err e) = StopsBy d (session_of r) T read now items e
 

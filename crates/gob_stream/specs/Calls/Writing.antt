@@ -17,7 +17,7 @@ use Rattle.gob_stream.specs.declared.fault.WriteFault.{WriteFault}
 use Rattle.gob_stream.specs.declared.fault.WriteFault.TheVariants as fault
 use Rattle.gob_stream.specs.declared.fault.WriteStop.{WriteStop}
 use Rattle.gob_stream.specs.declared.output.Output.{Output}
-use Rattle.gob_stream.specs.declared.place.Place.{Place}
+use Rattle.gob_stream.specs.declared.write_place.WritePlace.{WritePlace}
 use Rattle.gob_stream.specs.Machine.WriterState.{WriterState}
 use Rattle.gob_stream.specs.Bounds.{Bounds}
 use Rattle.gob_stream.specs.Devices.{counts_up}
@@ -156,7 +156,8 @@ pub record SentPrefix (bytes : List ℕ) (old new : Option (List ℕ)) : Type 0 
   pub out : Appends old new prefix
 
 -- what sending these bytes answers: the place is behind them, or no more is written, and a prefix of them is out
-abbrev pub SendAnswers : (p p' : Place) → List ℕ → (old new : Option (List ℕ)) → Result (Unit {0}) WriteFault → Type 0
+abbrev pub SendAnswers : (p p' : WritePlace) → List ℕ → (old new : Option (List ℕ))
+    → Result (Unit {0}) WriteFault → Type 0
 SendAnswers p p' bytes old new (Ok _) = Appends old new bytes
     × (p' ≡ record p { offset = p.offset + length bytes; failed = false })
 SendAnswers p p' bytes old new (Err f) = SentPrefix bytes old new × (p' ≡ record p { failed = true })

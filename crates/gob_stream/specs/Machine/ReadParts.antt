@@ -36,7 +36,7 @@ use Rattle.gob_stream.specs.declared.stage.Extent.{Extent}
 use Rattle.gob_types.specs.Denial.{IsDenial}
 use Rattle.gob_stream.specs.Machine.Stages.{count_at, type_number_in, value_in, description_in}
 use Rattle.gob_stream.specs.Machine.SessionState.{SessionState}
-use Rattle.gob_stream.specs.declared.session.Step.{Step}
+use Rattle.gob_stream.specs.declared.session.Advance.{Advance}
 use Rattle.gob_stream.specs.Bounds.{Bounds, no_deeper}
 use Rattle.gob_stream.specs.Item.{StreamItem, ItemMeans}
 use Rattle.gob_stream.specs.Stream.{IsItem}
@@ -237,7 +237,7 @@ pub data AdvancesOver {X O : Type 0} {most : ℕ} (building : Building X O most)
 
 -- what a step over the front of a piece answers, behind these bytes, of which the items were given
 abbrev pub StepAnswers : {X O : Type 0} {most : ℕ} → Building X O most → (s s' : SessionState X O) → List StreamItem
-    → (bytes piece : List ℕ) → Result (Step (declared.Item O)) Fault → Type 0
+    → (bytes piece : List ℕ) → Result (Advance (declared.Item O)) Fault → Type 0
 StepAnswers building s s' items bytes piece (Ok step) =
     AdvancesOver building s' items bytes piece step.used step.item
 StepAnswers {most = most} building s s' items bytes piece (Err (fault.Refused R)) =

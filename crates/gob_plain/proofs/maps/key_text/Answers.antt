@@ -13,7 +13,7 @@ use Rattle.gob_plain.proofs.maps.key_text.Goals.{else-is_nil-via-else-is_nil}
 pub returns-then-not-has_parts : goal.returns-then-not-has_parts
 returns-then-not-has_parts g c =
     IfOk-weaker c.text_ahead.result _ _
-    (λ text says x v s t. fits_text _ (g.N.Nils.says c.args.nils.now c.args.ahead) x v
+    (λ text says x v s t. fits_text _ (g.N.NilTexts.says c.args.nils.now c.args.ahead) x v
     (ap (λ b. b && not (has_parts v)) (sym (nil_by_kind x) ∙ ap nil_kind (sym (c.kind.ensures s.0 x s.1))
     ∙ sym c.is_nil.ensures ∙ c.if-is_nil.true)
     ∙ ap not (sym (parts_by_kind v) ∙ ap parts_kind (sym (c.kind-then-is_nil.ensures t.0 v t.1))

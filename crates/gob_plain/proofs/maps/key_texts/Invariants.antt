@@ -14,5 +14,5 @@ invariant-keys g l = record {
   next : (goal.iterator-keys g).can_next l.parts;
   finite : (goal.iterator-keys g).is_finite l.parts;
   left : (style : Style) (T : Table) (k e : TypeId) (ps : Pairs) → Gives l.fn.parts (alternating ps)
-      → TextsSeen (g.N.Nils.says l.nils) style T k e ps l.parts l.ahead (map string_bytes l.texts.items);
+      → TextsSeen (g.N.NilTexts.says l.nils) style T k e ps l.parts l.ahead (map string_bytes l.texts.items);
 }

@@ -46,7 +46,7 @@ write_elements-loop-part-init g t c =
       fewer = none_fewer same;
       fit = c.requires;
       written = λ vs h.
-          elements_begun (g.N.Nils.says c.args.nils.now) vs (one_written c.in_ok-begin_array.ensures)
+          elements_begun (g.N.NilTexts.says c.args.nils.now) vs (one_written c.in_ok-begin_array.ensures)
           (subst (λ p. Gives p (elements vs)) (sym same) h);
     }
 
@@ -57,8 +57,8 @@ write_elements-loop-part-preserved g t c = record {
   before = c.in_ok-write_part.ensures.said.written.before ∙ c.loop-part.invariant.before;
   fewer = still_fewer c.next.ensures.steps c.in-Some.is c.loop-part.invariant.fewer;
   fit = c.in_ok-write_part.ensures.fit;
-  written = λ vs h. elements_on (g.N.Nils.says c.args.nils.now) (g.N.Nils.says c.loop-part.nils)
-      (g.N.Nils.says c.write_part.new.nils) (c.loop-part.invariant.written vs h)
+  written = λ vs h. elements_on (g.N.NilTexts.says c.args.nils.now) (g.N.NilTexts.says c.loop-part.nils)
+      (g.N.NilTexts.says c.write_part.new.nils) (c.loop-part.invariant.written vs h)
       (next_is c.next.ensures.steps c.in-Some.is) c.in_ok-write_part.ensures.said;
 }
 
@@ -66,12 +66,12 @@ pub write_elements-returns-clause-said : goal.write_elements-returns-clause-said
 write_elements-returns-clause-said g t c = record {
   written = record {
     before = c.end_array.ensures.room.0 ∙ c.loop-part.invariant.before;
-    each = λ vs h. elements_end (g.N.Nils.says c.args.nils.now) (g.N.Nils.says c.loop-part.nils)
+    each = λ vs h. elements_end (g.N.NilTexts.says c.args.nils.now) (g.N.NilTexts.says c.loop-part.nils)
         (c.loop-part.invariant.written vs h) (next_is c.next.ensures.steps c.in-None.is)
         (one_written c.end_array.ensures);
   };
   passed = λ vs h. on_ok_weaker c.end_array.result
-      (λ _. elements_passed (g.N.Nils.says c.args.nils.now) (g.N.Nils.says c.loop-part.nils)
+      (λ _. elements_passed (g.N.NilTexts.says c.args.nils.now) (g.N.NilTexts.says c.loop-part.nils)
       (c.loop-part.invariant.written vs h) (next_is c.next.ensures.steps c.in-None.is)) c.end_array.ensures.ok;
 }
 
@@ -83,7 +83,7 @@ write_pairs-loop-part-init g t c =
       before = c.in_ok-begin_array.ensures.room.0;
       fewer = none_fewer same;
       fit = c.requires;
-      written = λ ps h. pairs_begun (g.N.Nils.says c.args.nils.now) ps (one_written c.in_ok-begin_array.ensures)
+      written = λ ps h. pairs_begun (g.N.NilTexts.says c.args.nils.now) ps (one_written c.in_ok-begin_array.ensures)
           (subst (λ p. Gives p (alternating ps))
           (sym same) h);
     }
@@ -103,21 +103,21 @@ write_pairs-loop-part-preserved g t c = record {
   fewer = still_fewer c.next.ensures.steps c.in-Some.is c.loop-part.invariant.fewer;
   fit = elim c.if-is_key.branch [
     | write_pairs-then-is_key+in_ok-begin_array-2+in_ok-write_part w ↦
-        subst g.N.Nils.fit (sym w.nils-is) w.in_ok-write_part.ensures.fit
+        subst g.N.NilTexts.fit (sym w.nils-is) w.in_ok-write_part.ensures.fit
     | write_pairs-else-is_key+in_ok-write_part-2+in_ok-end_array w ↦
-        subst g.N.Nils.fit (sym w.nils-is) w.in_ok-write_part-2.ensures.fit
+        subst g.N.NilTexts.fit (sym w.nils-is) w.in_ok-write_part-2.ensures.fit
   ];
   written = λ ps h. elim c.if-is_key.branch [
     | write_pairs-then-is_key+in_ok-begin_array-2+in_ok-write_part w ↦
-        pairs_say g.N.Nils.says (g.N.Nils.says c.args.nils.now) w.nils-is
-        (key_turn (g.N.Nils.says c.args.nils.now) (g.N.Nils.says c.loop-part.nils)
-        (g.N.Nils.says w.write_part.new.nils) w.out-is w.if-is_key.true (c.loop-part.invariant.written ps h)
+        pairs_say g.N.NilTexts.says (g.N.NilTexts.says c.args.nils.now) w.nils-is
+        (key_turn (g.N.NilTexts.says c.args.nils.now) (g.N.NilTexts.says c.loop-part.nils)
+        (g.N.NilTexts.says w.write_part.new.nils) w.out-is w.if-is_key.true (c.loop-part.invariant.written ps h)
         (next_is c.next.ensures.steps c.in-Some.is)
         (one_written w.in_ok-begin_array-2.ensures) w.in_ok-write_part.ensures.said)
     | write_pairs-else-is_key+in_ok-write_part-2+in_ok-end_array w ↦
-        pairs_say g.N.Nils.says (g.N.Nils.says c.args.nils.now) w.nils-is
-        (element_turn (g.N.Nils.says c.args.nils.now) (g.N.Nils.says c.loop-part.nils)
-        (g.N.Nils.says w.write_part-else-is_key.new.nils) w.out-is w.if-is_key.false
+        pairs_say g.N.NilTexts.says (g.N.NilTexts.says c.args.nils.now) w.nils-is
+        (element_turn (g.N.NilTexts.says c.args.nils.now) (g.N.NilTexts.says c.loop-part.nils)
+        (g.N.NilTexts.says w.write_part-else-is_key.new.nils) w.out-is w.if-is_key.false
         (c.loop-part.invariant.written ps h)
         (next_is c.next.ensures.steps c.in-Some.is)
         w.in_ok-write_part-2.ensures.said (one_written w.in_ok-end_array.ensures))
@@ -128,12 +128,12 @@ pub write_pairs-returns-clause-said : goal.write_pairs-returns-clause-said
 write_pairs-returns-clause-said g t c = record {
   written = record {
     before = c.end_array-2.ensures.room.0 ∙ c.loop-part.invariant.before;
-    each = λ ps h. pairs_end (g.N.Nils.says c.args.nils.now) (g.N.Nils.says c.loop-part.nils)
+    each = λ ps h. pairs_end (g.N.NilTexts.says c.args.nils.now) (g.N.NilTexts.says c.loop-part.nils)
         (c.loop-part.invariant.written ps h) (next_is c.next.ensures.steps c.in-None.is)
         (one_written c.end_array-2.ensures);
   };
   passed = λ ps h. on_ok_weaker c.end_array-2.result
-      (λ _. pairs_passed (g.N.Nils.says c.args.nils.now) (g.N.Nils.says c.loop-part.nils)
+      (λ _. pairs_passed (g.N.NilTexts.says c.args.nils.now) (g.N.NilTexts.says c.loop-part.nils)
       (c.loop-part.invariant.written ps h) (next_is c.next.ensures.steps c.in-None.is)) c.end_array-2.ensures.ok;
 }
 
@@ -145,7 +145,7 @@ write_members-loop-part-init g t c =
       before = c.in_ok-begin_object.ensures.room.0;
       fewer = none_fewer same;
       fit = c.requires;
-      written = λ ps h. members_begun (g.N.Nils.says c.args.nils.now) ps (one_written c.in_ok-begin_object.ensures)
+      written = λ ps h. members_begun (g.N.NilTexts.says c.args.nils.now) ps (one_written c.in_ok-begin_object.ensures)
           (subst (λ p. Gives p (alternating ps)) (sym same) h);
     }
 
@@ -162,20 +162,20 @@ write_members-loop-part-preserved g t c = record {
   fewer = still_fewer c.next.ensures.steps c.in-Some.is c.loop-part.invariant.fewer;
   fit = elim c.if-is_key.branch [
     | write_members-then-is_key+in_ok-write_key w ↦
-        subst g.N.Nils.fit (sym w.nils-is) c.loop-part.invariant.fit
+        subst g.N.NilTexts.fit (sym w.nils-is) c.loop-part.invariant.fit
     | write_members-else-is_key+in_ok-write_part w ↦
-        subst g.N.Nils.fit (sym w.nils-is) w.in_ok-write_part.ensures.fit
+        subst g.N.NilTexts.fit (sym w.nils-is) w.in_ok-write_part.ensures.fit
   ];
   written = λ ps h. elim c.if-is_key.branch [
     | write_members-then-is_key+in_ok-write_key w ↦
-        members_say g.N.Nils.says (g.N.Nils.says c.args.nils.now) w.nils-is
-        (name_turn (g.N.Nils.says c.args.nils.now) (g.N.Nils.says c.loop-part.nils) w.out-is w.if-is_key.true
+        members_say g.N.NilTexts.says (g.N.NilTexts.says c.args.nils.now) w.nils-is
+        (name_turn (g.N.NilTexts.says c.args.nils.now) (g.N.NilTexts.says c.loop-part.nils) w.out-is w.if-is_key.true
         (c.loop-part.invariant.written ps h) (next_is c.next.ensures.steps c.in-Some.is)
         w.in_ok-write_key.ensures.name)
     | write_members-else-is_key+in_ok-write_part w ↦
-        members_say g.N.Nils.says (g.N.Nils.says c.args.nils.now) w.nils-is
-        (value_turn (g.N.Nils.says c.args.nils.now) (g.N.Nils.says c.loop-part.nils)
-        (g.N.Nils.says w.write_part.new.nils) w.out-is w.if-is_key.false
+        members_say g.N.NilTexts.says (g.N.NilTexts.says c.args.nils.now) w.nils-is
+        (value_turn (g.N.NilTexts.says c.args.nils.now) (g.N.NilTexts.says c.loop-part.nils)
+        (g.N.NilTexts.says w.write_part.new.nils) w.out-is w.if-is_key.false
         (c.loop-part.invariant.written ps h) (next_is c.next.ensures.steps c.in-Some.is)
         w.in_ok-write_part.ensures.said)
   ];
@@ -185,12 +185,12 @@ pub write_members-returns-clause-said : goal.write_members-returns-clause-said
 write_members-returns-clause-said g t c = record {
   written = record {
     before = c.end_object.ensures.room.0 ∙ c.loop-part.invariant.before;
-    each = λ ps h. members_end (g.N.Nils.says c.args.nils.now) (g.N.Nils.says c.loop-part.nils)
+    each = λ ps h. members_end (g.N.NilTexts.says c.args.nils.now) (g.N.NilTexts.says c.loop-part.nils)
         (c.loop-part.invariant.written ps h) (next_is c.next.ensures.steps c.in-None.is)
         (one_written c.end_object.ensures);
   };
   passed = λ ps h. on_ok_weaker c.end_object.result
-      (λ _. members_passed (g.N.Nils.says c.args.nils.now) (g.N.Nils.says c.loop-part.nils)
+      (λ _. members_passed (g.N.NilTexts.says c.args.nils.now) (g.N.NilTexts.says c.loop-part.nils)
       (c.loop-part.invariant.written ps h) (next_is c.next.ensures.steps c.in-None.is)) c.end_object.ensures.ok;
 }
 
@@ -202,7 +202,7 @@ write_texts-loop-part-init g t c =
       before = c.in_ok-begin_object.ensures.room.0;
       fewer = none_fewer same;
       fit = c.requires.fit;
-      written = λ ps h. texts_begun (g.N.Nils.says c.args.nils.now) ps (one_written c.in_ok-begin_object.ensures)
+      written = λ ps h. texts_begun (g.N.NilTexts.says c.args.nils.now) ps (one_written c.in_ok-begin_object.ensures)
           (subst (λ p. Gives p (alternating ps)) (sym same) h) (c.requires.bare ps h);
     }
 
@@ -219,21 +219,21 @@ write_texts-loop-part-preserved g t c = record {
   fewer = still_fewer c.next.ensures.steps c.in-Some.is c.loop-part.invariant.fewer;
   fit = elim c.if-is_key.branch [
     | write_texts-then-is_key+in_ok-write_name w ↦
-        subst g.N.Nils.fit (sym w.nils-is) w.in_ok-write_name.ensures.fit
+        subst g.N.NilTexts.fit (sym w.nils-is) w.in_ok-write_name.ensures.fit
     | write_texts-else-is_key+in_ok-write_part w ↦
-        subst g.N.Nils.fit (sym w.nils-is) w.in_ok-write_part.ensures.fit
+        subst g.N.NilTexts.fit (sym w.nils-is) w.in_ok-write_part.ensures.fit
   ];
   written = λ ps h. elim c.if-is_key.branch [
     | write_texts-then-is_key+in_ok-write_name w ↦
-        texts_say g.N.Nils.says (g.N.Nils.says c.args.nils.now) w.nils-is
-        (text_turn (g.N.Nils.says c.args.nils.now) (g.N.Nils.says c.loop-part.nils)
-        (g.N.Nils.says w.write_name.new.self) w.out-is w.if-is_key.true (c.loop-part.invariant.written ps h)
+        texts_say g.N.NilTexts.says (g.N.NilTexts.says c.args.nils.now) w.nils-is
+        (text_turn (g.N.NilTexts.says c.args.nils.now) (g.N.NilTexts.says c.loop-part.nils)
+        (g.N.NilTexts.says w.write_name.new.self) w.out-is w.if-is_key.true (c.loop-part.invariant.written ps h)
         (next_is c.next.ensures.steps c.in-Some.is) w.in_ok-write_name.ensures.written
         w.in_ok-write_name.ensures.passed)
     | write_texts-else-is_key+in_ok-write_part w ↦
-        texts_say g.N.Nils.says (g.N.Nils.says c.args.nils.now) w.nils-is
-        (named_turn (g.N.Nils.says c.args.nils.now) (g.N.Nils.says c.loop-part.nils)
-        (g.N.Nils.says w.write_part.new.nils) w.out-is w.if-is_key.false
+        texts_say g.N.NilTexts.says (g.N.NilTexts.says c.args.nils.now) w.nils-is
+        (named_turn (g.N.NilTexts.says c.args.nils.now) (g.N.NilTexts.says c.loop-part.nils)
+        (g.N.NilTexts.says w.write_part.new.nils) w.out-is w.if-is_key.false
         (c.loop-part.invariant.written ps h) (next_is c.next.ensures.steps c.in-Some.is)
         w.in_ok-write_part.ensures.said)
   ];
@@ -243,12 +243,12 @@ pub write_texts-returns-clause-said : goal.write_texts-returns-clause-said
 write_texts-returns-clause-said g t c = record {
   written = record {
     before = c.end_object.ensures.room.0 ∙ c.loop-part.invariant.before;
-    each = λ ps h. texts_end (g.N.Nils.says c.args.nils.now) (g.N.Nils.says c.loop-part.nils)
+    each = λ ps h. texts_end (g.N.NilTexts.says c.args.nils.now) (g.N.NilTexts.says c.loop-part.nils)
         (c.loop-part.invariant.written ps h) (next_is c.next.ensures.steps c.in-None.is)
         (one_written c.end_object.ensures);
   };
   passed = λ ps h. on_ok_weaker c.end_object.result
-      (λ _. texts_passed (g.N.Nils.says c.args.nils.now) (g.N.Nils.says c.loop-part.nils)
+      (λ _. texts_passed (g.N.NilTexts.says c.args.nils.now) (g.N.NilTexts.says c.loop-part.nils)
       (c.loop-part.invariant.written ps h) (next_is c.next.ensures.steps c.in-None.is)) c.end_object.ensures.ok;
 }
 
@@ -258,7 +258,7 @@ write_map-write_texts-requires g t c =
     let T = g.S.Shapes.table c.args.table.now in
     let k = c.args.types.key in
     let e = c.args.types.element in
-    let N = g.N.Nils.says c.args.nils.now in
+    let N = g.N.NilTexts.says c.args.nils.now in
     let bare : (ps : Pairs) → Gives c.args.parts (alternating ps) → are_bare ps ≡ true =
     λ ps h. (subst (λ f. FormFits f N style T k e ps) c.in-NamedByTexts.is (c.in_ok-form_of.ensures style T e ps h)).1
     in search (rules, bare)
@@ -269,7 +269,7 @@ write_map-returns-in-Named-clause-said g t c =
     let T = g.S.Shapes.table c.args.table.now in
     let k = c.args.types.key in
     let e = c.args.types.element in
-    let N = g.N.Nils.says c.args.nils.now in
+    let N = g.N.NilTexts.says c.args.nils.now in
     let fits : (ps : Pairs) → Gives c.args.parts (alternating ps) → FormFits form.Named N style T k e ps =
     λ ps h. subst (λ f. FormFits f N style T k e ps) c.in-Named.is (c.in_ok-form_of.ensures style T e ps h) in
     record {
@@ -279,7 +279,7 @@ write_map-returns-in-Named-clause-said g t c =
             (c.write_members.ensures.said.written.each ps h);
       };
       passed = λ ps h. on_ok_weaker c.write_members.result
-          (λ b. subst (λ n. AreBehind n N (g.N.Nils.says c.write_members.new.nils))
+          (λ b. subst (λ n. AreBehind n N (g.N.NilTexts.says c.write_members.new.nils))
           (named_nils style T k e ps (fits ps h)) b)
           (c.write_members.ensures.said.passed ps h);
     }
@@ -290,7 +290,7 @@ write_map-returns-in-NamedByTexts-clause-said g t c =
     let T = g.S.Shapes.table c.args.table.now in
     let k = c.args.types.key in
     let e = c.args.types.element in
-    let N = g.N.Nils.says c.args.nils.now in
+    let N = g.N.NilTexts.says c.args.nils.now in
     let fits : (ps : Pairs) → Gives c.args.parts (alternating ps) → FormFits form.NamedByTexts N style T k e ps =
     λ ps h. subst (λ f. FormFits f N style T k e ps) c.in-NamedByTexts.is (c.in_ok-form_of.ensures style T e ps h) in
     record {
@@ -300,7 +300,7 @@ write_map-returns-in-NamedByTexts-clause-said g t c =
             (c.write_texts.ensures.said.written.each ps h);
       };
       passed = λ ps h. on_ok_weaker c.write_texts.result
-          (λ b. subst (λ n. AreBehind n N (g.N.Nils.says c.write_texts.new.nils))
+          (λ b. subst (λ n. AreBehind n N (g.N.NilTexts.says c.write_texts.new.nils))
           (other_nils style T k e ps (fits ps h).0) b)
           (c.write_texts.ensures.said.passed ps h);
     }
@@ -311,7 +311,7 @@ write_map-returns-in-Pairs-clause-said g t c =
     let T = g.S.Shapes.table c.args.table.now in
     let k = c.args.types.key in
     let e = c.args.types.element in
-    let N = g.N.Nils.says c.args.nils.now in
+    let N = g.N.NilTexts.says c.args.nils.now in
     let fits : (ps : Pairs) → Gives c.args.parts (alternating ps) → FormFits form.Pairs N style T k e ps =
     λ ps h. subst (λ f. FormFits f N style T k e ps) c.in-Pairs.is (c.in_ok-form_of.ensures style T e ps h) in
     record {
@@ -321,7 +321,7 @@ write_map-returns-in-Pairs-clause-said g t c =
             (c.write_pairs.ensures.said.written.each ps h);
       };
       passed = λ ps h. on_ok_weaker c.write_pairs.result
-          (λ b. subst (λ n. AreBehind n N (g.N.Nils.says c.write_pairs.new.nils))
+          (λ b. subst (λ n. AreBehind n N (g.N.NilTexts.says c.write_pairs.new.nils))
           (other_nils style T k e ps (fits ps h).0) b)
           (c.write_pairs.ensures.said.passed ps h);
     }
@@ -337,7 +337,7 @@ write_fields-loop-part-init g t c =
       count = refl;
       small = search rules;
       written = λ fs h.
-          fields_begun (g.N.Nils.says c.args.nils.now) fs (one_written c.in_ok-begin_object.ensures) (subst
+          fields_begun (g.N.NilTexts.says c.args.nils.now) fs (one_written c.in_ok-begin_object.ensures) (subst
           (λ p. Gives p (present fs)) (sym same) h);
     }
 
@@ -358,8 +358,8 @@ write_fields-loop-part-preserved g t c =
       count = c.loop-part.invariant.count;
       small = c.loop-part.invariant.small;
       written = λ fs h.
-          fields_on (g.N.Nils.says c.args.nils.now) (g.N.Nils.says c.loop-part.nils)
-          (g.N.Nils.says c.write_part.new.nils)
+          fields_on (g.N.NilTexts.says c.args.nils.now) (g.N.NilTexts.says c.loop-part.nils)
+          (g.N.NilTexts.says c.write_part.new.nils)
           (omega (arith, c.loop-part.invariant.count, c.loop-part.invariant.small))
           (c.loop-part.invariant.written fs h) (next_is c.next.ensures.steps c.in-Some.is)
           (λ f v s.
@@ -369,10 +369,10 @@ write_fields-loop-part-preserved g t c =
                 (λ f. WritesSome {E = AllocError} (Ok c.in_ok-write_absent.field-0) c.loop-part.out
                 c.write_absent.new.out (AbsentTokens style T types c.loop-part.next f))
                 is absent,
-            field_some (g.N.Nils.says c.loop-part.nils) style T types v is c.name_at.ensures c.type_at.ensures name
+            field_some (g.N.NilTexts.says c.loop-part.nils) style T types v is c.name_at.ensures c.type_at.ensures name
                 (shown.written.each v (Some f, s)),
-            field_passed (g.N.Nils.says c.loop-part.nils) (g.N.Nils.says c.write_part.new.nils) style T types v is
-                c.type_at.ensures (shown.passed v (Some f, s)),
+            field_passed (g.N.NilTexts.says c.loop-part.nils) (g.N.NilTexts.says c.write_part.new.nils) style T types v
+                is c.type_at.ensures (shown.passed v (Some f, s)),
           ));
     }
 
@@ -380,12 +380,12 @@ pub write_fields-returns-clause-said : goal.write_fields-returns-clause-said
 write_fields-returns-clause-said g t c = record {
   written = record {
     before = c.end_object.ensures.room.0 ∙ c.in_ok-write_absent-2.ensures.before ∙ c.loop-part.invariant.before;
-    each = λ fs h. fields_end (g.N.Nils.says c.args.nils.now) (g.N.Nils.says c.loop-part.nils)
+    each = λ fs h. fields_end (g.N.NilTexts.says c.args.nils.now) (g.N.NilTexts.says c.loop-part.nils)
         (c.loop-part.invariant.written fs h) (next_is c.next.ensures.steps c.in-None.is)
         c.in_ok-write_absent-2.ensures (one_written c.end_object.ensures);
   };
   passed = λ fs h. on_ok_weaker c.end_object.result
-      (λ _. fields_passed (g.N.Nils.says c.args.nils.now) (g.N.Nils.says c.loop-part.nils)
+      (λ _. fields_passed (g.N.NilTexts.says c.args.nils.now) (g.N.NilTexts.says c.loop-part.nils)
       (c.loop-part.invariant.written fs h) (next_is c.next.ensures.steps c.in-None.is)) c.end_object.ensures.ok;
 }
 
@@ -393,7 +393,7 @@ pub write_part-returns-in-Nil-clause-said : goal.write_part-returns-in-Nil-claus
 write_part-returns-in-Nil-clause-said g t c =
     let style = c.args.style in
     let T = g.S.Shapes.table c.args.table.now in
-    let N = g.N.Nils.says c.args.nils.now in record {
+    let N = g.N.NilTexts.says c.args.nils.now in record {
       written = record {
         before = c.write_nil.ensures.written.before;
         each = λ v s.
@@ -406,7 +406,7 @@ write_part-returns-in-Nil-clause-said g t c =
             c.write_nil.ensures.written;
       };
       passed = λ v s. on_ok_weaker c.write_nil.result
-          (λ b. nil_passed N (g.N.Nils.says c.write_nil.new.self) style T c.args.id v
+          (λ b. nil_passed N (g.N.NilTexts.says c.write_nil.new.self) style T c.args.id v
           (sym c.in-Nil.is ∙ c.kind.ensures s.0 v s.1) b)
           c.write_nil.ensures.passed;
     }
@@ -415,7 +415,7 @@ pub write_part-returns-in-Many-clause-said : goal.write_part-returns-in-Many-cla
 write_part-returns-in-Many-clause-said g t c =
     let style = c.args.style in
     let T = g.S.Shapes.table c.args.table.now in
-    let N = g.N.Nils.says c.args.nils.now in record {
+    let N = g.N.NilTexts.says c.args.nils.now in record {
       written = record {
         before = c.write_elements.ensures.said.written.before;
         each = λ v s.
@@ -434,7 +434,7 @@ write_part-returns-in-Many-clause-said g t c =
       passed = λ v s.
           let a = as_many v (sym c.in-Many.is ∙ c.kind.ensures s.0 v s.1) in
           on_ok_weaker c.write_elements.result
-          (λ b. subst (λ n. AreBehind n N (g.N.Nils.says c.write_elements.new.nils))
+          (λ b. subst (λ n. AreBehind n N (g.N.NilTexts.says c.write_elements.new.nils))
           (ap (λ e. nils_of_each_in style T e a.parts) c.element_of.ensures
           ∙ sym (many_nils style T c.args.id a.parts)
           ∙ ap (λ v. nils_in style T c.args.id v) (sym a.is)) b)
@@ -447,7 +447,7 @@ write_part-returns-in-Pairs-clause-said g t c =
     let style = c.args.style in
     let T = g.S.Shapes.table c.args.table.now in
     let types = c.entry_types.ensures in
-    let N = g.N.Nils.says c.args.nils.now in record {
+    let N = g.N.NilTexts.says c.args.nils.now in record {
       written = record {
         before = c.write_map.ensures.said.written.before;
         each = λ v s.
@@ -469,7 +469,7 @@ write_part-returns-in-Pairs-clause-said g t c =
       passed = λ v s.
           let a = as_pairs v (sym c.in-Pairs.is ∙ c.kind.ensures s.0 v s.1) in
           on_ok_weaker c.write_map.result
-          (λ b. subst (λ n. AreBehind n N (g.N.Nils.says c.write_map.new.nils))
+          (λ b. subst (λ n. AreBehind n N (g.N.NilTexts.says c.write_map.new.nils))
           (ap (λ e. nils_of_map_in style T c.entry_types.result.key e a.parts) types.element
           ∙ ap (λ k. nils_of_map_in style T k (element_type (shape_of T c.args.id)) a.parts) types.key
           ∙ sym (map_nils style T c.args.id a.parts)
@@ -482,7 +482,7 @@ pub write_part-returns-in-Fields-clause-said : goal.write_part-returns-in-Fields
 write_part-returns-in-Fields-clause-said g t c =
     let style = c.args.style in
     let T = g.S.Shapes.table c.args.table.now in
-    let N = g.N.Nils.says c.args.nils.now in record {
+    let N = g.N.NilTexts.says c.args.nils.now in record {
       written = record {
         before = c.write_fields.ensures.said.written.before;
         each = λ v s.
@@ -501,7 +501,7 @@ write_part-returns-in-Fields-clause-said g t c =
       passed = λ v s.
           let a = as_fields v (sym c.in-Fields.is ∙ c.kind.ensures s.0 v s.1) in
           on_ok_weaker c.write_fields.result
-          (λ b. subst (λ n. AreBehind n N (g.N.Nils.says c.write_fields.new.nils))
+          (λ b. subst (λ n. AreBehind n N (g.N.NilTexts.says c.write_fields.new.nils))
           (ap (λ l. nils_of_fields_in style T l 0 a.parts) c.fields_of.ensures
           ∙ sym (struct_nils style T c.args.id a.parts)
           ∙ ap (λ v. nils_in style T c.args.id v) (sym a.is)) b)
@@ -514,7 +514,7 @@ write_part-returns-in-Opaque-clause-said g t c =
     let style = c.args.style in
     let T = g.S.Shapes.table c.args.table.now in
     let bytes = c.bytes.result.now in
-    let N = g.N.Nils.says c.args.nils.now in record {
+    let N = g.N.NilTexts.says c.args.nils.now in record {
       written = record {
         before = c.write_opaque.ensures.before;
         each = λ v s.
@@ -538,7 +538,7 @@ pub write_part-returns-in_default-clause-said : goal.write_part-returns-in_defau
 write_part-returns-in_default-clause-said g t c =
     let style = c.args.style in
     let T = g.S.Shapes.table c.args.table.now in
-    let N = g.N.Nils.says c.args.nils.now in record {
+    let N = g.N.NilTexts.says c.args.nils.now in record {
       written = record {
         before = c.write_leaf.ensures.before;
         each = λ v s.

@@ -1,6 +1,6 @@
 -- The item of a value that waits whole is passed, and the type of it kept; of anything else what it says is kept.
 use Rattle.std.proofs.Common.{refl}
-use Rattle.gob_stream.specs.declared.session.Step.{Step}
+use Rattle.gob_stream.specs.declared.session.Advance.{Advance}
 use Rattle.gob_stream.proofs.Reader.SessionSteps.{passed_on}
 use Rattle.gob_go.specs.declared.item.GoItem.{GoItem}
 use Rattle.gob_views.specs.Machine.Gathered.{GathersNext}
@@ -17,7 +17,7 @@ returns-in_err-step-clause-gathered c = λ read now s.
     let e = c.in_err-step.field-0.0 in
     passed_on (λ res. GathersNext r c.step.new.self read now c.args.gathered.now res)
     c.from_residual-in_err-step.result e c.from_residual-in_err-step.ensures.1
-    (gathers_stopped (Step GoItem) _ c.step.new.self now e s.has.gave.table s refl
+    (gathers_stopped (Advance GoItem) _ c.step.new.self now e s.has.gave.table s refl
     (c.in_err-step.ensures.stepped read now s.given s.has) (c.in_err-step.ensures.refused read now s.given s.has))
 
 pub returns-clause-gathered : goal.returns-clause-gathered

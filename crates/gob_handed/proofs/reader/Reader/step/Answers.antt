@@ -1,5 +1,5 @@
 use Rattle.std.proofs.Common.{Ok, arith, length, refl}
-use Rattle.gob_stream.specs.declared.session.Step.{Step}
+use Rattle.gob_stream.specs.declared.session.Advance.{Advance}
 use Rattle.gob_handed.proofs.ReadingLaws.{keeps_ill, none_shown, shown_at, stays_read, steps_at, steps_from, steps_ill}
 use Rattle.gob_handed.proofs.ReadingLaws.{steps_well}
 use Rattle.gob_handed.proofs.reader.Reader.step.Goals as goal
@@ -17,7 +17,7 @@ returns-in_err-step-clause-stepped g c = λ items bytes h.
 
 pub returns-in_err-step-clause-shown : goal.returns-in_err-step-clause-shown
 returns-in_err-step-clause-shown g c = λ items bytes h.
-    shown_at (Step g.row.S-Item.Denot) (length bytes) (length bytes) c.from_residual.result c.in_err-step.field-0.0
+    shown_at (Advance g.row.S-Item.Denot) (length bytes) (length bytes) c.from_residual.result c.in_err-step.field-0.0
     c.from_residual.ensures.1 (omega arith)
     (c.in_err-step.ensures.shown items bytes (stays_read g.S.Steps.stepping (c.in_default.ensures.none refl) h).gave)
 

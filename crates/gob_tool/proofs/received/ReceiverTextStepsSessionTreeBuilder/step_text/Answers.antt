@@ -16,7 +16,7 @@ use Rattle.gob_stream.specs.StrictStepping.{strict_stepping}
 use Rattle.gob_stream.specs.Calls.Session.{IsBetweenItems, limits_of, types_of}
 use Rattle.gob_stream.specs.declared.fault.Fault.TheVariants as reading
 use Rattle.gob_stream.specs.declared.item.Item as declared
-use Rattle.gob_stream.specs.declared.session.Step.{Step}
+use Rattle.gob_stream.specs.declared.session.Advance.{Advance}
 use Rattle.gob_tool.specs.Fault.{matching_fault, reading_fault}
 use Rattle.gob_tool.specs.Machine.Lines.{Trees}
 use Rattle.gob_tool.specs.Machine.Receiver.{IsClash, is_received_of_item, IsReceived, ReceivesNone, StaysKnown}
@@ -31,7 +31,7 @@ abbrev d : Stepping (SessionState TreeBuilder Value) (declared.Item Value) Strea
 d = strict_stepping tree_building
 
 none_received : {r r' : Trees} {U : Table} {u : TypeId} {read now : Option (List ℕ)} {given : List StreamItem}
-    {step : Step (declared.Item Value)} {item : declared.Item Value} → GivesAllBy d (session_of r)
+    {step : Advance (declared.Item Value)} {item : declared.Item Value} → GivesAllBy d (session_of r)
     → (h : HasReadBy d r read now given) → StepsOnBy d r r' read now given step → step.item ≡ Some item
     → StandsBy d (session_of r') → IfSome step.item (λ _. IsBetweenItems (session_of r'))
     → limits_of (session_of r') ≡ limits_of (session_of r) → (e : MatchFault)

@@ -2,7 +2,7 @@ use Rattle.std.proofs.Common.{◌+◌, false, refl, ap, arith, length-append}
 use Rattle.std.proofs.KnownBytes.{Appends-trans}
 use Rattle.std.proofs.lemmas.Result.{err_from_is_err_and}
 use Rattle.gob_stream.proofs.Written.WriterSteps.{prefix_of_more, prefix_behind}
-use Rattle.gob_stream.proofs.place.Place.send.Goals as goal
+use Rattle.gob_stream.proofs.write_place.WritePlace.send.Goals as goal
 
 pub returns-in_err-send_all-clause-sends : goal.returns-in_err-send_all-clause-sends
 returns-in_err-send_all-clause-sends g c =

@@ -10,14 +10,14 @@ use std::io::Write;
 
 /// Where the next item of a stream goes.
 #[derive(Clone, Copy)]
-pub(crate) struct Place {
+pub(crate) struct WritePlace {
     /// How many bytes of the stream are out.
     pub(crate) offset: u64,
     /// Whether a write failed.
     pub(crate) failed: bool,
 }
 
-impl Place {
+impl WritePlace {
     /// Sends the bytes of an item, and behind them the rest of its bytes. It counts as a failed write until the last of
     /// them is out.
     pub(crate) fn send<W: Write>(

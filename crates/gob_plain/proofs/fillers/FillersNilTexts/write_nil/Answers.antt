@@ -4,7 +4,7 @@ use Rattle.std.proofs.lemmas.Result.{on_ok_weaker}
 use Rattle.json.specs.Json as json
 use Rattle.gob_plain.proofs.FillerLaws.{next_there, filler_there, said_at, said_next, null_past, same_past}
 use Rattle.gob_plain.proofs.SomeLaws.{some_of, some_weaker, one_written}
-use Rattle.gob_plain.proofs.fillers.FillersNils.write_nil.Goals as goal
+use Rattle.gob_plain.proofs.fillers.FillersNilTexts.write_nil.Goals as goal
 
 pub write_next-requires : goal.write_next-requires
 write_next-requires c =
