@@ -4,7 +4,7 @@ ghost use Rattle.std.specs.Prelude.{ℕ};
 ghost use Rattle.gob_stream.specs.Bounds.{within_trees};
 ghost use Rattle.gob_stream.specs.Item.{item_views};
 ghost use Rattle.gob_stream.specs.Reading.{Given};
-ghost use Rattle.gob_examples.specs.Pieces.{joined, HasOutcome};
+ghost use Rattle.gob_stream_laws.specs.Pieces.{joined, HasOutcome};
 
 use gob_read::TreeBuilder;
 use gob_stream::{Fault, Item, Limits, Session, laws};

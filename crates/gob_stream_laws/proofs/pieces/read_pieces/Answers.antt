@@ -1,9 +1,9 @@
 use Rattle.std.proofs.Common.{[], append-nil, sym, ap, ◌∙◌}
 use Rattle.gob_stream.specs.declared.fault.Fault.TheVariants as fault
 use Rattle.gob_stream.specs.Bounds.{within_trees}
-use Rattle.gob_examples.specs.Pieces.{joined, HasOutcome}
-use Rattle.gob_examples.proofs.Outcomes.{passed_on, begins_with_none, piece_stops, piece_taken, pieces_end}
-use Rattle.gob_examples.proofs.pieces.read_pieces.Goals as goal
+use Rattle.gob_stream_laws.specs.Pieces.{joined, HasOutcome}
+use Rattle.gob_stream_laws.proofs.Outcomes.{passed_on, begins_with_none, piece_stops, piece_taken, pieces_end}
+use Rattle.gob_stream_laws.proofs.pieces.read_pieces.Goals as goal
 
 pub returns-in_err-session : goal.returns-in_err-session
 returns-in_err-session c = record {

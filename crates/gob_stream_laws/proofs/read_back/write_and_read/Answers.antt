@@ -2,8 +2,8 @@ use Rattle.std.proofs.Common.{◌≡◌, ◌++◌, Some, Ok, Err, ap, ◌∙◌}
 use Rattle.gob_stream.specs.Bounds.{within_trees}
 use Rattle.gob_stream.specs.Item.{item_views}
 use Rattle.gob_stream.specs.declared.fault.Fault.TheVariants.{Refused}
-use Rattle.gob_examples.proofs.Outcomes.{written_so, never_refused}
-use Rattle.gob_examples.proofs.read_back.write_and_read.Goals as goal
+use Rattle.gob_stream_laws.proofs.Outcomes.{written_so, never_refused}
+use Rattle.gob_stream_laws.proofs.read_back.write_and_read.Goals as goal
 
 pub returns-in-Ok-clause-same : goal.returns-in-Ok-clause-same
 returns-in-Ok-clause-same c =

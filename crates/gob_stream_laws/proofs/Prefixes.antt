@@ -16,7 +16,7 @@ use Rattle.gob_stream.specs.Calls.Session.{HasRead, ReadItemAnswers}
 use Rattle.gob_stream.specs.Stream.{no_more}
 use Rattle.gob_stream.proofs.Reader.ReadStreamSteps.{views_more, views_meant}
 use Rattle.gob_stream.specs.Item.{mean_none, mean_more}
-use Rattle.gob_examples.specs.Prefix.{AreBytesOf, TakesPrefix}
+use Rattle.gob_stream_laws.specs.Prefix.{AreBytesOf, TakesPrefix}
 
 -- the session has given the items, and taken their bytes alone
 pub record StandsBehind (s : SessionState TreeBuilder Value) (items : List StreamItem) (bytes : List ℕ) : Type 0 where

@@ -5,7 +5,7 @@ ghost use Rattle.gob_stream.specs.Bounds.{within_trees};
 ghost use Rattle.gob_stream.specs.Calls.Ends.{reader_of};
 ghost use Rattle.gob_stream.specs.Item.{item_views};
 ghost use Rattle.gob_stream.specs.Reading.{Given};
-ghost use Rattle.gob_examples.specs.Prefix.{TakesPrefix};
+ghost use Rattle.gob_stream_laws.specs.Prefix.{TakesPrefix};
 
 use gob_num::Memory;
 use gob_read::TreeBuilder;

@@ -22,7 +22,7 @@ use Rattle.gob_stream.specs.Calls.Session.{HasRead, FeedAnswers, FinishAnswers}
 use Rattle.gob_stream.specs.Stream.{no_more}
 use Rattle.gob_stream.specs.Calls.Writing.{WritesStream}
 use Rattle.gob_stream.proofs.PublicLaws.{views_behind}
-use Rattle.gob_examples.specs.Pieces.{joined, HasOutcome}
+use Rattle.gob_stream_laws.specs.Pieces.{joined, HasOutcome}
 
 -- ---- written and read back
 -- what was written to memory that was empty

@@ -3,8 +3,8 @@ use Rattle.std.proofs.lemmas.Grind.{common_steps}
 use Rattle.gob_stream.specs.Bounds.{within_trees}
 use Rattle.gob_stream.specs.Item.{item_views}
 use Rattle.gob_stream.proofs.Reader.ReadStreamSteps.{given_none, given_as, given_more}
-use Rattle.gob_examples.proofs.Prefixes.{taken_none, taken_more, prefix_read, all_read, one_fewer}
-use Rattle.gob_examples.proofs.prefix.read_prefix.Goals as goal
+use Rattle.gob_stream_laws.proofs.Prefixes.{taken_none, taken_more, prefix_read, all_read, one_fewer}
+use Rattle.gob_stream_laws.proofs.prefix.read_prefix.Goals as goal
 
 pub loop-left-init : goal.loop-left-init
 loop-left-init g c = record {

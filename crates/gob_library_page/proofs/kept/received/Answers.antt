@@ -1,4 +1,4 @@
-use Rattle.gob_library_examples.proofs.kept.received.Goals as goal
+use Rattle.gob_library_page.proofs.kept.received.Goals as goal
 
 pub match_types-requires-clause-stream_ready : goal.match_types-requires-clause-stream_ready
 match_types-requires-clause-stream_ready c = c.kept.ensures.0 c.if-not-kept.false

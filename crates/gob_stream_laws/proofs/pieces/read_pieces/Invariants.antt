@@ -1,9 +1,9 @@
 -- The items of the pieces so far are given.
 use Rattle.std.proofs.Common.{◌≡◌, take}
 use Rattle.gob_stream.specs.Reading.{Given}
-use Rattle.gob_examples.specs.Pieces.{joined}
-use Rattle.gob_examples.proofs.Outcomes.{HasGiven}
-use Rattle.gob_examples.proofs.pieces.read_pieces.Given as goal
+use Rattle.gob_stream_laws.specs.Pieces.{joined}
+use Rattle.gob_stream_laws.proofs.Outcomes.{HasGiven}
+use Rattle.gob_stream_laws.proofs.pieces.read_pieces.Given as goal
 
 abbrev pub invariant-loop-piece : goal.invariant-loop-piece
 invariant-loop-piece l = record {

@@ -3,8 +3,8 @@ use Rattle.std.proofs.Common.{◌≡◌, ℕ, ◌+◌, List, Some, length}
 use Rattle.gob_stream.specs.Calls.Ends.{reader_of}
 use Rattle.gob_stream.specs.Item.{item_views}
 use Rattle.gob_stream.specs.Reading.{Given, SomeTaken}
-use Rattle.gob_examples.proofs.Prefixes.{StandsBehind}
-use Rattle.gob_examples.proofs.prefix.read_prefix.Given as goal
+use Rattle.gob_stream_laws.proofs.Prefixes.{StandsBehind}
+use Rattle.gob_stream_laws.proofs.prefix.read_prefix.Given as goal
 
 abbrev pub invariant-loop-left : goal.invariant-loop-left
 invariant-loop-left g l = record {
