@@ -1,4 +1,4 @@
-//! Tests of gob_go, gob_counted, gob_go_writer and gob_go_tidy by their public calls: what no proof sees. They stand in
+//! Tests of gob_go, gob_counted, gob_go_writer by their public calls: what no proof sees. They stand in
 //! a crate of their own, so that these are proved once and their edits don't wait for them.
 #![tactic(auto)]
 

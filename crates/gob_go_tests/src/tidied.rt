@@ -2,8 +2,7 @@
 
 use crate::putting::put_all;
 use gob_go::{GoItem, GoSession};
-use gob_go_tidy::tidy_item;
-use gob_go_writer::PutFault;
+use gob_go_writer::{PutFault, tidy_item};
 use gob_num::Memory;
 use gob_stream::Limits;
 use gob_test_rows::{bytes_of, part};

@@ -9,3 +9,11 @@ pub mod SameSteps
 pub mod WriterSteps
 pub mod HoistSteps
 pub mod HoistedLaws
+pub mod PlaceLaws
+pub mod TidyLetterLaws
+pub mod WayLaws
+pub mod EachLaws
+pub mod StayLaws
+pub mod DescriptionLaws
+pub mod AgainLaws
+pub mod TidiedLaws

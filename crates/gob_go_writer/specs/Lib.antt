@@ -7,3 +7,4 @@ pub mod PutRefusal
 pub mod PuttingLaws
 pub mod Spelling
 pub mod SpellingLaws
+pub mod TidyItem

@@ -1,6 +1,9 @@
 pub mod Alike
+pub mod Each
 pub mod Hoisted
 pub mod Letters
+pub mod Places
 pub mod PutFaults
 pub mod ReadingBack
+pub mod Tidied
 pub mod Unfit

@@ -1,4 +1,4 @@
-//! Items of streams of Go's encoder, written: as they were read, or as a caller made them.
+//! Items of streams of Go's encoder, written: as they were read, or as a caller made them; and their tidy form.
 //!
 //! [`write_item`] appends the bytes of an item as a [`GoSession`](gob_go::GoSession) gave it, and [`write_again`] those
 //! of all items of a stream. A value is spelled level by level: the skeleton, where a name, definitions, a type number
@@ -17,6 +17,8 @@
 //! [`hoist_item`] gives each definition in a value an item of its own, in front of the value's: a stream of such items
 //! has the types of the other one, and no definition in a value.
 //!
+//! [`tidy_item`] makes the tidy form of an item.
+//!
 //! [`laws`] says that hoisted items have bytes where the item has, and that what is put is read.
 #![tactic(auto)]
 
@@ -27,6 +29,7 @@ pub mod laws;
 mod put_fault;
 mod same;
 mod segments;
+mod tidy;
 mod value;
 mod writer;
 
@@ -34,4 +37,5 @@ pub use again::write_again;
 pub use hoist::hoist_item;
 pub use item::write_item;
 pub use put_fault::PutFault;
+pub use tidy::tidy_item;
 pub use writer::GoWriter;

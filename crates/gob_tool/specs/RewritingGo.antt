@@ -7,7 +7,7 @@ use Rattle.gob_types.specs.Table.{Table}
 use Rattle.gob_stream.specs.Bounds.{Bounds, greatest_depth}
 use Rattle.gob_filled.specs.Outcome.{BeginsFilled}
 use Rattle.gob_filled.specs.Stream.{FilledItem, FilledStream, IsFilledItem, AreFilledItems}
-use Rattle.gob_go_tidy.specs.TidyItem.{TidiesItem}
+use Rattle.gob_go_writer.specs.TidyItem.{TidiesItem}
 use Rattle.gob_go_writer.specs.Hoisting.{hoisted}
 use Rattle.gob_tool.specs.declared.fault.ToolFault.{ToolFault}
 use Rattle.gob_tool.specs.Showing.{AppendsPrefix}

@@ -30,9 +30,9 @@ use Rattle.gob_go.specs.declared.item.GoItem.TheVariants as item
 use Rattle.gob_go.specs.Calls.Reader.{GoReader}
 use Rattle.gob_go.proofs.SessionAnswers.{table_between}
 use Rattle.gob_go.proofs.ItemsLaws.{grown_keeps, items_grown, last_of}
-use Rattle.gob_go_tidy.specs.TidyItem.{BecomesTidy, tidies_filled, tidies_none, tidies_value}
-use Rattle.gob_go_tidy.specs.Machine.Tidied.{TidiesClosely, tidies_closely, none_left}
-use Rattle.gob_go_tidy.proofs.AgainLaws.{value_fits}
+use Rattle.gob_go_writer.specs.TidyItem.{BecomesTidy, tidies_filled, tidies_none, tidies_value}
+use Rattle.gob_go_writer.specs.Machine.Tidied.{TidiesClosely, tidies_closely, none_left}
+use Rattle.gob_go_writer.proofs.AgainLaws.{value_fits}
 use Rattle.gob_go_writer.specs.Hoisting.{hoisted, IsHoisted}
 use Rattle.gob_go_writer.specs.Item.{IsGrown, IsItemOf}
 use Rattle.gob_go_writer.proofs.HoistedLaws.{item_bytes}

@@ -24,7 +24,7 @@ use Rattle.gob_filled.specs.Stream as filled_stream
 use Rattle.gob_filled.specs.Stream.{FilledItem, IsFilledItem, of_definition, of_value, AreCounted, last_counted}
 use Rattle.gob_filled.specs.Stream.{next_counted, AreFilledItems}
 use Rattle.gob_filled.proofs.Prefix.{one_loosely}
-use Rattle.gob_go_tidy.specs.TidyItem.{TidiesItem, tidies_definition, tidies_filled, tidies_none, tidies_value}
+use Rattle.gob_go_writer.specs.TidyItem.{TidiesItem, tidies_definition, tidies_filled, tidies_none, tidies_value}
 use Rattle.gob_tool.specs.Rewriting.{AreItemsTidied, no_item, and_item, HasTidyStream, content, content_type}
 use Rattle.gob_tool.specs.Rewriting.{with_content}
 use Rattle.gob_tool.proofs.LinesStay.{stream_keeps}

@@ -15,7 +15,7 @@ use Rattle.gob_go.specs.Calls.Session.{HasBodyNext, IsBetweenItems, limits_of, t
 use Rattle.gob_go.specs.Meaning.{ItemMeans}
 use Rattle.gob_go.specs.declared.item.GoItem.{GoItem}
 use Rattle.gob_go.specs.Calls.Reader.{GoReader}
-use Rattle.gob_go_tidy.specs.TidyItem.{BecomesTidy}
+use Rattle.gob_go_writer.specs.TidyItem.{BecomesTidy}
 use Rattle.gob_go_writer.specs.Hoisting.{hoisted}
 use Rattle.gob_go_writer.specs.Item.{IsItemOf}
 use Rattle.gob_tool.specs.RewritingGo.{AreAnywhere}

@@ -10,8 +10,7 @@ ghost use Rattle.gob_tool.specs.RewritingGo.{IsRewritten};
 ghost use Rattle.gob_tool.specs.Machine.FormsGo.{AreItemsOf, IsHoistedText, IsShortItem, IsTidyText};
 
 use gob_go::GoItem;
-use gob_go_tidy::tidy_item;
-use gob_go_writer::{hoist_item, write_item};
+use gob_go_writer::{hoist_item, tidy_item, write_item};
 use gob_num::Memory;
 use gob_types::Table;
 use std::alloc::Global;

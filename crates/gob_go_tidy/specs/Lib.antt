@@ -1,2 +1,0 @@
-pub mod TidyItem
-pub mod Machine
