@@ -28,13 +28,15 @@ use Rattle.gob_go.specs.Machine.Parts.{LevelIsNew}
 use Rattle.gob_go.specs.Machine.Stages.{IsAtBody, positive, IsNumberOf, of_value, IsInValue, ValueHasRead, in_value_at}
 use Rattle.gob_go.specs.Machine.Stages.{PartSteps, part_goes_on, item_ends}
 use Rattle.gob_go.proofs.GrownLaws.{extends_itself}
+use Rattle.gob_go.proofs.SkeletonLaws.{skeleton_begins}
 use Rattle.gob_go.proofs.TypeNumberSteps.{put_bytes}
 
 -- a level that has taken nothing stands at the start of its value
-pub level_begins : {U : Table} {l : Level} {id : TypeId} {limit end announced at : ℕ} → limit ≤ 65536 → MayPut U id
+pub level_begins : {keep : Bool} {U : Table} {l : Level} {id : TypeId} {limit end announced at : ℕ} → limit ≤ 65536
+    → MayPut U id
     → Extends U U → LevelIsNew id limit end announced l → at + announced ≡ end
-    → LevelUnderWay U l (new_level U id limit end) [] at
-level_begins {U = U} {l = l} {id = id} {limit = limit} {announced = announced} deep may grown h e =
+    → LevelUnderWay keep U l (new_level U id limit end) [] at
+level_begins {keep = keep} {U = U} {l = l} {id = id} {limit = limit} {announced = announced} deep may grown h e =
     let same : min limit 65536 ≡ limit = omega arith in
     let read : HasReadBody skip_building U id limit announced l.reader [] =
     subst (λ n. HasReadBody skip_building U id n announced l.reader []) same (h.read U may.ready) in
@@ -44,7 +46,7 @@ level_begins {U = U} {l = l} {id = id} {limit = limit} {announced = announced} d
         id = h.id_is;
         depth = h.depth_is;
         end = h.end_is;
-        skeleton = h.skeleton;
+        skeleton = skeleton_begins keep h.skeleton_length h.skeleton_bytes;
         ready = may.ready;
         grown = grown;
         reads = read;

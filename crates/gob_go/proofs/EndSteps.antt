@@ -30,12 +30,14 @@ use Rattle.gob_go.specs.declared.levels.Levels.{Levels}
 use Rattle.gob_go.specs.Machine.HasRead.{PutIsWhole}
 use Rattle.gob_go.specs.Machine.Levels.{LevelAtNil, FillingsAre, HeldIs, AreOuter, none_outer, outer_then}
 use Rattle.gob_go.specs.Machine.Parts.{Holds}
+use Rattle.gob_go.specs.Machine.Skeleton.{SkeletonIs}
 use Rattle.gob_go.specs.declared.levels.Goes.TheVariants as goes
 use Rattle.gob_go.specs.Machine.Stages.{ValueIsWhole, value_whole, ArePopped, FillingSteps, filling_goes_on}
 use Rattle.gob_go.specs.Machine.Stages.{filling_ends, filling_refused, no_memory_for_filling, GoesSteps}
 use Rattle.gob_go.specs.Machine.Stages.{value_goes_on, goes_to_end, goes_refused, no_memory_there}
 use Rattle.gob_go.proofs.NestedLaws.{levels_nest}
 use Rattle.gob_go.proofs.NilSteps.{FillsNil}
+use Rattle.gob_go.proofs.SkeletonLaws.{skeleton_as, skeleton_kept}
 use Rattle.gob_filled.proofs.Sound.{stands_as_item}
 
 -- ---- the last of a list
@@ -56,7 +58,7 @@ one_last (x ∷ xs) (y ∷ ys) a b e =
 data LastOuter (keep : Bool) (U : Table) (rest : List declared.Level) (l : declared.Level) : List Level → List Open
     → Type 0 where
   last : {lv : Level} {levels : List Level} {o : Open} {os : List Open} {d : ℕ} → AreOuter keep U rest levels os
-      → LevelAtNil U l lv [] d → FillingsAre keep U l o → HeldIs l.held o
+      → LevelAtNil keep U l lv [] d → FillingsAre keep U l o → HeldIs l.held o
       → LastOuter keep U rest l (lv ∷ levels) (o ∷ os)
 
 last_outer : {keep : Bool} {U : Table} {items : List declared.Level} {levels : List Level} {os : List Open}
@@ -80,18 +82,19 @@ with_filling kept (filling_then j f) i = filling_then j (with_filling kept f i)
 
 held_filling : {keep : Bool} {U : Table} {l l' value : declared.Level} {o : Open} {v : Tree} (lv inner : Level)
     (held : Open)
-    (b : List ℕ) → Holds keep value l l' → l.skeleton.items ≡ lv.done ++ [] → FillingsAre keep U l o → HeldIs l.held o
+    (b : List ℕ) → Holds keep value l l' → SkeletonIs keep l.skeleton (lv.done ++ []) → FillingsAre keep U l o
+    → HeldIs l.held o
     → SpellsTop U inner.type v (inner.done ++ b) → value.id ≡ inner.type
-    → value.skeleton.items ≡ inner.done ++ b → FillingsAre keep U value held
+    → SkeletonIs keep value.skeleton (inner.done ++ b) → FillingsAre keep U value held
     → IsTrue keep → AreFillings U l'.fillings.items
     (and_filling o.fillings (length lv.done) o.name o.definitions inner.type
     (filled v held.fillings))
 held_filling {U = U} {l = l} {l' = l'} {value = value} {o = o} {v = v} lv inner held b h s f n sp i k g on =
     let q = h.kept on in let kept = q.filling in
     let id : (out-Filling kept).id ≡ inner.type = q.id_held ∙ i in
-    let place : (out-Filling kept).place ≡ length lv.done = q.place ∙ ap length (s ∙ append_nil lv.done) in
+    let place : (out-Filling kept).place ≡ length lv.done = q.place ∙ s.length_is ∙ ap length (append_nil lv.done) in
     let spells : SpellsTop U (out-Filling kept).id v (out-Filled (out-Filling kept).value).skeleton.items =
-    rw (id, q.skeleton_held, k) sp in
+    rw (id, q.skeleton_held, skeleton_kept k on) sp in
     let inside : AreFillings U (out-Filled (out-Filling kept).value).fillings.items held.fillings =
     rw q.fillings_held (g on) in
     let all = with_filling kept (f on) (is_filled spells inside) in
@@ -106,7 +109,7 @@ fills_last : {keep : Bool} {L : Bounds} {T : Table} {offset : ℕ} {U : Table} (
     → LastOuter keep U levels.outer.items outer around os → Holds keep all.innermost outer after → levels.left ≡ left
     → (p : Stands base_table L T offset z U (lv ∷ around) in_value left) → opens p ≡ o ∷ os
     → SpellsTop lv.table lv.type v (lv.done ++ b) → depth v ≤ lv.limit → offset + length (z ++ b) ≡ lv.end
-    → Extends lv.table U → all.innermost.id ≡ lv.type → all.innermost.skeleton.items ≡ lv.done ++ b
+    → Extends lv.table U → all.innermost.id ≡ lv.type → SkeletonIs keep all.innermost.skeleton (lv.done ++ b)
     → FillingsAre keep U all.innermost o
     → FillsNil keep L T offset U after levels.outer.items levels.left (z ++ b)
 fills_last {U = U} all levels {outer = outer} {after = after} {z = z} {lv = lv} {left = left} {v = v} {o = o} b
@@ -131,7 +134,7 @@ fills_last {U = U} all levels {outer = outer} {after = after} {z = z} {lv = lv} 
       id = held.id ∙ n.is.id;
       depth_is = held.depth ∙ n.is.depth;
       end = held.end ∙ n.is.end;
-      skeleton = rw held.skeleton (n.is.skeleton ∙ append_nil around.done);
+      skeleton = rw held.skeleton (skeleton_as n.is.skeleton (append_nil around.done));
       ready = n.is.ready;
       grown = n.is.grown;
       reads = rw held.reader (subst (λ y. HasReadBody skip_building U around.type around.limit n.announced outer.reader
@@ -167,7 +170,7 @@ ends_item : {keep : Bool} {L : Bounds} {T : Table} {offset : ℕ} {U : Table} {l
     → AreBytes (z ++ b) → AreOuter keep U items around os → items ≡ []
     → (p : Stands base_table L T offset z U (lv ∷ around) in_value left) → opens p ≡ o ∷ os
     → SpellsTop lv.table lv.type v (lv.done ++ b) → depth v ≤ lv.limit → offset + length (z ++ b) ≡ lv.end
-    → Extends lv.table U → levels.innermost.id ≡ lv.type → levels.innermost.skeleton.items ≡ lv.done ++ b
+    → Extends lv.table U → levels.innermost.id ≡ lv.type → SkeletonIs keep levels.innermost.skeleton (lv.done ++ b)
     → FillingsAre keep U levels.innermost o → PutIsWhole keep L T offset U levels (z ++ b)
 ends_item {L = L} {T = T} {offset = offset} {U = U} {levels = levels} {z = z} {lv = lv} {v = v} {o = o} b bytes
     none_outer e p said sp de ends grown id sk inside =
@@ -177,7 +180,7 @@ ends_item {L = L} {T = T} {offset = offset} {U = U} {levels = levels} {z = z} {l
       tree = v;
       fillings = o.fillings;
       value_is = refl;
-      spelled = rw (id, sk) (top_on (extends_keeps grown) sp);
+      spelled = λ on. rw (id, skeleton_kept sk on) (top_on (extends_keeps grown) sp);
       filled = inside;
     }
 ends_item b bytes (outer_then {l = l} {outer = outer} q n f h) e p said sp de ends grown id sk inside =
@@ -232,7 +235,8 @@ end_item {L = L} {T = T} {offset = offset} {d = d} {z = z} levels levels' h o e 
       tree = w.tree;
       fillings = w.fillings;
       value_is = w.value_is;
-      spelled = subst (λ (l : declared.Level). SpellsTop (types d) l.id w.tree l.skeleton.items) f w.spelled;
+      spelled = λ on. subst (λ (l : declared.Level). SpellsTop (types d) l.id w.tree l.skeleton.bytes.items) f
+          (w.spelled on);
       filled = λ on. subst (λ (l : declared.Level). AreFillings (types d) l.fillings.items w.fillings) f
           (w.filled on);
     })

@@ -1,6 +1,6 @@
 -- A level is told of the byte of a nil.
-use Rattle.std.proofs.Common.{◌≡◌, ℕ, ◌+◌, ◌-◌, ◌^◌, ◌<◌, ◌≤◌, List, [], ◌∷◌, ◌++◌, length, take, None, Err, arith}
-use Rattle.std.proofs.Common.{refl, sym, ap, subst, length-append}
+use Rattle.std.proofs.Common.{◌≡◌, ℕ, ◌+◌, ◌-◌, ◌^◌, ◌<◌, ◌≤◌, List, [], ◌∷◌, ◌++◌, length, take, None}
+use Rattle.std.proofs.Common.{Result, Ok, Err, IfOk, is_ok, Bool, true, arith, refl, sym, subst}
 use Rattle.gob_types.specs.declared.id.TypeId.{TypeId}
 use Rattle.gob_types.specs.Table.{Table}
 use Rattle.gob_read.specs.First.{IsFirst}
@@ -17,6 +17,8 @@ use Rattle.gob_stream.specs.declared.fault.Fault.{Fault}
 use Rattle.gob_stream.specs.Machine.ReadParts.{StopsWithin, fault_behind}
 use Rattle.gob_go.specs.declared.level.Level.{Level}
 use Rattle.gob_go.specs.Machine.Parts.{FillAnswers}
+use Rattle.gob_go.specs.declared.skeleton.Skeleton.{Skeleton}
+use Rattle.gob_go.specs.Machine.Skeleton.{SkeletonGrows}
 use Rattle.gob_go.proofs.ReaderLaws.{IsReading, reading, fits, reads_on, read_once, announced_once, stops_in_level}
 use Rattle.gob_go.proofs.ReaderLaws.{at_nil_open}
 
@@ -110,14 +112,14 @@ one_there : (n : ℕ) → 0 < n → take {A = ℕ} n (0 ∷ []) ≡ 0 ∷ []
 one_there n l = take_whole (0 ∷ []) n l
 
 -- why it stops there
-pub fill_stops : {T : Table} {at begin done left : ℕ} (l l' : Level) {new : Reader} {f : Fault} (s : Stop)
-    → IsToldOfNil T l.reader new done left → done ≡ length l.skeleton.items → done < at
+pub fill_stops : {T : Table} {at begin done left : ℕ} (keep : Bool) (l l' : Level) {new : Reader} {f : Fault} (s : Stop)
+    → IsToldOfNil T l.reader new done left → done ≡ l.skeleton.length → done < at
     → left ≡ l.end - at + 1 → begin ≡ at - (done + 1)
     → Stops (under_way new) (λ refusal. ReaderRefusesBody T skip_building.received (under_way new) (0 ∷ []) refusal) s
-    → f ≡ fault_behind begin s → FillAnswers T at l l' (Err f)
-fill_stops {T = T} {at = at} {begin = begin} {done = done} {left = left} l l' (stop.Refused place seen reason)
+    → f ≡ fault_behind begin s → FillAnswers keep T at l l' (Err f)
+fill_stops {T = T} {at = at} {begin = begin} {done = done} {left = left} keep l l' (stop.Refused place seen reason)
     h d o k b r e =
-    subst (λ f. FillAnswers T at l l' (Err f)) (sym e) (λ t limit announced z p. record {
+    subst (λ f. FillAnswers keep T at l l' (Err f)) (sym e) (λ t limit announced z p. record {
       first = record { place = place; seen = seen; reason = reason };
       is =
           subst (λ n. IsFirst T t limit (length z + n) (z ++ 0 ∷ [])
@@ -130,11 +132,15 @@ fill_stops {T = T} {at = at} {begin = begin} {done = done} {left = left} l l' (s
       seen = omega arith;
       reason_is = refl;
     })
-fill_stops {T = T} {at = at} l l' stop.Memory h d o k b r e =
-    subst (λ f. FillAnswers T at l l' (Err f)) (sym e) tt
-fill_stops l l' stop.Failed h d o k b r e = absurd (told_open h r)
+fill_stops {T = T} {at = at} keep l l' stop.Memory h d o k b r e =
+    subst (λ f. FillAnswers keep T at l l' (Err f)) (sym e) tt
+fill_stops keep l l' stop.Failed h d o k b r e = absurd (told_open h r)
 
-pub pushed_begin : (at : ℕ) (items : List ℕ) {begin : ℕ} {pushed : List ℕ} → begin ≡ at - length pushed
-    → pushed ≡ items ++ 0 ∷ []
-    → begin ≡ at - (length items + 1)
-pushed_begin at items b e = omega (arith, ap length e, length-append items (0 ∷ []))
+-- what was added is there
+pub grown_there : {T E P : Type 0} (r : Result T E) → is_ok r ≡ true → IfOk r (λ _. P) → P
+grown_there (Ok x) e h = h
+grown_there (Err x) e h = cc
+
+pub grown_begin : {keep : Bool} {old new : Skeleton} (at : ℕ) {begin : ℕ} → begin ≡ at - new.length
+    → SkeletonGrows keep old new (0 ∷ []) → begin ≡ at - (old.length + 1)
+grown_begin at b g = omega (arith, g.length_is)

@@ -45,8 +45,8 @@ mutual
   fillings_grown e no_fillings = no_fillings
   fillings_grown e (filling_then f a) = filling_then (filled_grown e f) (fillings_grown e a)
 
-level_grown : {U V : Table} {l : declared.Level} {lv : Level} {c : List ℕ} {announced : ℕ} → Extends U V
-    → LevelIs U l lv c announced → LevelIs V l lv c announced
+level_grown : {keep : Bool} {U V : Table} {l : declared.Level} {lv : Level} {c : List ℕ} {announced : ℕ} → Extends U V
+    → LevelIs keep U l lv c announced → LevelIs keep V l lv c announced
 level_grown {U = U} {V = V} {l = l} {lv = lv} {c = c} {announced = announced} e h = record {
   id = h.id;
   depth = h.depth;
@@ -59,8 +59,8 @@ level_grown {U = U} {V = V} {l = l} {lv = lv} {c = c} {announced = announced} e 
       (fits U lv.type lv.limit announced (lv.done ++ c) skip_building.received l.reader.run h.reads) h.clear;
 }
 
-pub nil_grown : {U V : Table} {l : declared.Level} {lv : Level} {c : List ℕ} {d : ℕ} → Extends U V
-    → LevelAtNil U l lv c d → LevelAtNil V l lv c d
+pub nil_grown : {keep : Bool} {U V : Table} {l : declared.Level} {lv : Level} {c : List ℕ} {d : ℕ} → Extends U V
+    → LevelAtNil keep U l lv c d → LevelAtNil keep V l lv c d
 nil_grown {l = l} e h = record {
   announced = h.announced;
   is = level_grown e h.is;

@@ -59,8 +59,9 @@ more_definitions [] k = refl
 more_definitions (d ∷ ds) k = ap (λ es. definition d.id (view d.described) es) (more_definitions ds k)
 
 -- the level and those around it, behind a definition
-nil_kept : {U : Table} {old new : Levels} {lv : Level} {d : ℕ} {kept : Definition} → AddsDefinition kept old new
-    → LevelAtNil U old.innermost lv [] d → LevelAtNil U new.innermost lv [] d
+nil_kept : {keep : Bool} {U : Table} {old new : Levels} {lv : Level} {d : ℕ} {kept : Definition}
+    → AddsDefinition kept old new
+    → LevelAtNil keep U old.innermost lv [] d → LevelAtNil keep U new.innermost lv [] d
 nil_kept {U = U} {old = old} {new = new} {lv = lv} {d = d} k h =
     let reader = k.reader in record {
       announced = h.announced;
@@ -68,7 +69,7 @@ nil_kept {U = U} {old = old} {new = new} {lv = lv} {d = d} k h =
         id = k.id ∙ h.is.id;
         depth = k.depth ∙ h.is.depth;
         end = k.end ∙ h.is.end;
-        skeleton = ap (λ s. s.items) k.skeleton ∙ h.is.skeleton;
+        skeleton = rw k.skeleton h.is.skeleton;
         ready = h.is.ready;
         grown = h.is.grown;
         reads = rw k.reader h.is.reads;
@@ -134,7 +135,7 @@ pub held_description_goes : {keep : Bool} {L : Bounds} {d d' : Defined} {T : Tab
     {z a y : List ℕ} {lv : Level} {around : List Level} {o : Open} {os : List Open} {id : TypeId} {rest : Extent}
     {part_taken : PartTaken} (taken : ℕ) (said : Described) (piece : List ℕ) → HasWireType (types d)
     → (p : Stands base_table L T offset z (types d) (lv ∷ around) (in_filling depth) left) → opens p ≡ o ∷ os
-    → LevelAtNil (types d) levels.innermost lv [] depth → OthersAre keep (types d) levels around o os left
+    → LevelAtNil keep (types d) levels.innermost lv [] depth → OthersAre keep (types d) levels around o os left
     → HeldIs levels.innermost.held o → Describing L (types d) id rest (offset + length z) lv.end a
     → EndsAt taken rest said → ReadsDescription d id L.depth rest y piece d' (Ok said)
     → HeldBehind levels levels' taken (length piece) said (Ok part_taken)

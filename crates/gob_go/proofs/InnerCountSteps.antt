@@ -174,7 +174,8 @@ inner_judged levels' new piece fault.Failed at s h r bh lies = absurd lies
 
 -- ---- the value that is held begins
 
-nil_is_shallow : {U : Table} {l : declared.Level} {lv : Level} {d : ℕ} → LevelAtNil U l lv [] d → NilIsShallow l
+nil_is_shallow : {keep : Bool} {U : Table} {l : declared.Level} {lv : Level} {d : ℕ} → LevelAtNil keep U l lv [] d
+    → NilIsShallow l
 nil_is_shallow {U = U} {lv = lv} {d = d} h = record {
   table = U;
   type = lv.type;
@@ -202,7 +203,7 @@ inner_shallow {keep = keep} w = from w.has_read
 -- what was the innermost value is the last of the outer ones
 opened : {keep : Bool} {U : Table} {old new : Levels} {lv : Level} {around : List Level} {o : Open} {os : List Open}
     {left limit end announced d : ℕ} {id : TypeId} → OthersAre keep U old around o os left
-    → LevelAtNil U old.innermost lv [] d → HeldIs old.innermost.held o
+    → LevelAtNil keep U old.innermost lv [] d → HeldIs old.innermost.held o
     → new.outer.items ≡ old.outer.items ++ old.innermost ∷ [] → new.left ≡ old.left
     → LevelIsNew id limit end announced new.innermost → OthersAre keep U new (lv ∷ around) nothing_said (o ∷ os) left
 opened {keep = keep} {U = U} {lv = lv} {around = around} {o = o} {os = os} others nil held outer left new = record {

@@ -35,6 +35,7 @@ pub mod ReaderLaws
 pub mod Refusals
 pub mod SessionAnswers
 pub mod SessionSteps
+pub mod SkeletonLaws
 pub mod StageSteps
 pub mod TypeNumberSteps
 pub mod UnderWayLaws

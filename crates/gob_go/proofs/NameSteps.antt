@@ -45,6 +45,7 @@ use Rattle.gob_go.specs.Machine.Stages.{IsInPut}
 use Rattle.gob_go.proofs.DefinitionSteps.{held_refused}
 use Rattle.gob_go.proofs.NestedLaws.{levels_nest, within_stream}
 use Rattle.gob_go.proofs.NilSteps.{refuses_in_skeleton}
+use Rattle.gob_go.proofs.SkeletonLaws.{skeleton_as}
 use Rattle.gob_go.proofs.PlaceLaws.{same_place}
 use Rattle.gob_go.proofs.PutSteps.{all_taken}
 use Rattle.gob_go.proofs.NumberStages.{AtNumber, at_number, number_goes_on, number_is_whole, number_begins, NumberFault}
@@ -136,8 +137,9 @@ held_changes levels held = record {
   left = refl;
 }
 
-abbrev at_nil_on : {U : Table} {levels levels' : Levels} {lv : Level} {c : List ℕ} {d : ℕ} → HeldChanges levels levels'
-    → LevelAtNil U levels.innermost lv c d → LevelAtNil U levels'.innermost lv c d
+abbrev at_nil_on : {keep : Bool} {U : Table} {levels levels' : Levels} {lv : Level} {c : List ℕ} {d : ℕ}
+    → HeldChanges levels levels'
+    → LevelAtNil keep U levels.innermost lv c d → LevelAtNil keep U levels'.innermost lv c d
 at_nil_on e h = record {
   announced = h.announced;
   is = record {
@@ -196,9 +198,9 @@ length_name {keep = keep} {L = L} {T = T} {offset = offset} {used = used} {left 
 
 -- ---- the segment ends within the name
 
-name_ends : {L : Bounds} {T : Table} {offset left n d : ℕ} {U : Table} {lv : Level} {around : List Level}
+name_ends : {keep : Bool} {L : Bounds} {T : Table} {offset left n d : ℕ} {U : Table} {lv : Level} {around : List Level}
     {l : declared.Level} {z c a : List ℕ} (r y : List ℕ) → Stands base_table L T offset z U (lv ∷ around) in_value left
-    → LevelAtNil U l lv c d → IsUnsigned n a → length r < n → offset + length (z ++ (c ++ (a ++ r))) ≡ lv.end
+    → LevelAtNil keep U l lv c d → IsUnsigned n a → length r < n → offset + length (z ++ (c ++ (a ++ r))) ≡ lv.end
     → RefusesWith L T offset ((z ++ (c ++ (a ++ r))) ++ y) (refuses lv.end lv.end reason.Short) U
 name_ends {offset = offset} {lv = lv} {z = z} {c = c} {a = a} r y p h u few e =
     let b : List ℕ = c ++ (a ++ r) in
@@ -245,9 +247,10 @@ length_short fault.Failed h r some e g = absurd g
 
 -- ---- the number is refused
 
-number_refused : {L : Bounds} {T : Table} {offset left d : ℕ} {U : Table} {lv : Level} {around : List Level}
+number_refused : {keep : Bool} {L : Bounds} {T : Table} {offset left d : ℕ} {U : Table} {lv : Level}
+    {around : List Level}
     {l : declared.Level} {z : List ℕ} (c w : List ℕ) {R : Refusal}
-    → Stands base_table L T offset z U (lv ∷ around) in_value left → (h : LevelAtNil U l lv c d)
+    → Stands base_table L T offset z U (lv ∷ around) in_value left → (h : LevelAtNil keep U l lv c d)
     → offset + length (z ++ c) + h.announced ≡ length (lv.done ++ c) + lv.end → offset + length (z ++ c) ≤ lv.end
     → RefusesNumber (offset + length (z ++ c)) lv.end (take (lv.end - (offset + length (z ++ c))) w) R
     → RefusesWith L T offset ((z ++ c) ++ w) R U
@@ -282,7 +285,7 @@ length_stops {keep = keep} {L = L} {T = T} {offset = offset} {d = d} {piece = pi
   where
     refused_there : {left e : ℕ} {lv : Level} {around : List Level} {z : List ℕ} {f : Fault} (c a : List ℕ)
         → Stands base_table L T offset z (types d) (lv ∷ around) in_value left
-        → (h : LevelAtNil (types d) levels.innermost lv c e)
+        → (h : LevelAtNil keep (types d) levels.innermost lv c e)
         → offset + length (z ++ c) + h.announced ≡ length (lv.done ++ c) + lv.end → offset + length (z ++ c) ≤ lv.end
         → NumberFault (offset + length (z ++ c)) lv.end (a ++ piece) f
         → PartSteps keep L T offset d (z ++ (c ++ a)) piece levels' d (Err f)
@@ -420,14 +423,15 @@ record NameIsWhole (keep : Bool) (L : Bounds) (T : Table) (offset : ℕ) (U : Ta
   pub outer : List Open
   pub stands : Stands base_table L T offset z U (level ∷ around) (in_filling nil_depth) left
   pub said : opens stands ≡ innermost ∷ outer
-  pub at_nil : LevelAtNil U levels.innermost level [] nil_depth
+  pub at_nil : LevelAtNil keep U levels.innermost level [] nil_depth
   pub others : OthersAre keep U levels around innermost outer left
   pub held : HeldIs levels.innermost.held innermost
   pub ends : levels.innermost.end ≡ level.end
 
 -- a level with what leads up to the nil at hand is one before that nil
-up_to_nil : {U : Table} {l : declared.Level} {lv : Level} {c : List ℕ} {d : ℕ} → LevelAtNil U l lv c d
-    → LevelAtNil U l (record lv { done = lv.done ++ c }) [] d
+up_to_nil : {keep : Bool} {U : Table} {l : declared.Level} {lv : Level} {c : List ℕ} {d : ℕ}
+    → LevelAtNil keep U l lv c d
+    → LevelAtNil keep U l (record lv { done = lv.done ++ c }) [] d
 up_to_nil {U = U} {l = l} {lv = lv} {c = c} {d = d} h =
     let same : lv.done ++ c ≡ (lv.done ++ c) ++ [] = sym (append_nil (lv.done ++ c)) in
     record {
@@ -436,7 +440,7 @@ up_to_nil {U = U} {l = l} {lv = lv} {c = c} {d = d} h =
         id = h.is.id;
         depth = h.is.depth;
         end = h.is.end;
-        skeleton = h.is.skeleton ∙ same;
+        skeleton = skeleton_as h.is.skeleton same;
         ready = h.is.ready;
         grown = h.is.grown;
         reads = subst (λ y. HasReadBody skip_building U lv.type lv.limit h.announced l.reader y) same h.is.reads;

@@ -258,8 +258,8 @@ segment_begins : {keep : Bool} {K L : Bounds} {U : Table} {old : Levels} {lv : L
 segment_begins k u b others (of_item e l s) = of_item_begins (is_alone others.outer e) u b others l (omega arith)
 segment_begins k u b others (of_outer n l) = of_outer_begins (is_within others.outer n) u b others l
 
-ending : {U : Table} {l : declared.Level} {lv : Level} {d : ℕ} (end : ℕ) → LevelAtNil U l lv [] d
-    → LevelAtNil U (ending_at l end) (record lv { end = end }) [] d
+ending : {keep : Bool} {U : Table} {l : declared.Level} {lv : Level} {d : ℕ} (end : ℕ) → LevelAtNil keep U l lv [] d
+    → LevelAtNil keep U (ending_at l end) (record lv { end = end }) [] d
 ending end h = record {
   announced = h.announced;
   is = record {
@@ -329,7 +329,7 @@ next_whole {keep = keep} {L = L} {d = d} {T = T} {offset = offset} {behind = beh
     (subst (λ z. PartHasRead keep L T offset (types d) levels' (part.TypeNumber (record { number = first })) z)
     (behind_count z b q (take used piece))
     (in_held_number [] now said
-    (subst (λ l. LevelAtNil (types d) l (record lv { end = g.end }) [] depth) (sym g.innermost) (ending g.end nil))
+    (subst (λ l. LevelAtNil keep (types d) l (record lv { end = g.end }) [] depth) (sym g.innermost) (ending g.end nil))
     g.others (subst (λ (l : declared.Level). HeldIs l.held o) (sym g.innermost) held) number))
 
 -- or none, where the segment is empty

@@ -39,12 +39,14 @@ use Rattle.gob_go.specs.declared.part.PutPart.TheVariants as part
 use Rattle.gob_go.specs.Machine.HasRead.{PartHasRead, in_skeleton, OthersAre}
 use Rattle.gob_go.specs.Machine.Levels.{FillingsAre, AreOuter}
 use Rattle.gob_go.specs.Machine.Parts.{FillAnswers}
+use Rattle.gob_go.specs.Machine.Skeleton.{SkeletonIs}
 use Rattle.gob_go.specs.Machine.Stages.{NilByteRead, nil_byte, ValueIsWhole, value_whole, FillingSteps}
 use Rattle.gob_go.specs.Machine.Stages.{filling_goes_on}
 use Rattle.gob_go.specs.Machine.Stages.{filling_ends, filling_refused, no_memory_for_filling}
 use Rattle.gob_go.proofs.NestedLaws.{levels_nest}
 use Rattle.gob_go.proofs.NilLaws.{no_interface, never_ended}
 use Rattle.gob_go.proofs.ReaderLaws.{fits, read_once}
+use Rattle.gob_go.proofs.SkeletonLaws.{skeleton_as, skeleton_on}
 
 -- ---- what is refused within the innermost skeleton
 
@@ -102,7 +104,7 @@ pub record FillsNil (keep : Bool) (L : Bounds) (T : Table) (offset : ℕ) (U : T
   pub id : l.id ≡ lv.type
   pub depth_is : l.depth ≡ lv.limit
   pub end : l.end ≡ lv.end
-  pub skeleton : l.skeleton.items ≡ spelled
+  pub skeleton : SkeletonIs keep l.skeleton spelled
   pub ready : IsReady lv.table lv.type
   pub grown : Extends lv.table U
   pub reads : HasReadBody skip_building U lv.type lv.limit announced l.reader spelled
@@ -118,7 +120,7 @@ pub record FillsNil (keep : Bool) (L : Bounds) (T : Table) (offset : ℕ) (U : T
 
 pub nil_order : {keep : Bool} {L : Bounds} {T : Table} {offset kept : ℕ} {U : Table} {l : declared.Level}
     {outer : List declared.Level} {z : List ℕ} → FillsNil keep L T offset U l outer kept z
-    → length l.skeleton.items < offset + length z
+    → l.skeleton.length < offset + length z
 nil_order h =
     let n = (levels_nest h.stands).0.done in
     omega (
@@ -128,7 +130,7 @@ nil_order h =
       ap length h.ends,
       length-append h.lv.done h.c,
       length-append h.spelled (0 ∷ []),
-      ap length h.skeleton,
+      h.skeleton.length_is,
     )
 
 pub nil_fits : {keep : Bool} {L : Bounds} {T : Table} {offset kept : ℕ} {U : Table} {l : declared.Level}
@@ -140,11 +142,11 @@ nil_fits {U = U} {l = l} h =
 pub nil_read : {keep : Bool} {L : Bounds} {T : Table} {offset kept : ℕ} {U : Table} {l : declared.Level}
     {outer : List declared.Level} {z : List ℕ} → FillsNil keep L T offset U l outer kept z
     → (t : TypeId) (limit announced : ℕ) (y : List ℕ) → HasReadBody skip_building U t limit announced l.reader y
-    → length y ≡ length l.skeleton.items
+    → length y ≡ l.skeleton.length
 nil_read {U = U} {l = l} h t limit announced y k =
     read_once U U t h.lv.type limit h.lv.limit announced h.announced y h.spelled skip_building.received
     (under_way l.reader) k h.reads
-    ∙ sym (ap length h.skeleton)
+    ∙ sym h.skeleton.length_is
 
 others : {keep : Bool} {L : Bounds} {T : Table} {offset kept : ℕ} {U : Table} {l : declared.Level}
     {outer : List declared.Level} {z : List ℕ} (levels : Levels) (h : FillsNil keep L T offset U l outer kept z)
@@ -159,7 +161,7 @@ others levels h k e f = record {
 -- the value goes on
 pub nil_goes_on : {keep : Bool} {L : Bounds} {T : Table} {offset kept at : ℕ} {U : Table} {l : declared.Level}
     {outer : List declared.Level} {z : List ℕ} (levels : Levels) → FillsNil keep L T offset U l outer kept z
-    → at ≡ offset + length z → FillAnswers U at l levels.innermost (Ok false) → levels.outer.items ≡ outer
+    → at ≡ offset + length z → FillAnswers keep U at l levels.innermost (Ok false) → levels.outer.items ≡ outer
     → levels.left ≡ kept → PartHasRead keep L T offset U levels part.Value z
 nil_goes_on {keep = keep} {L = L} {T = T} {offset = offset} {at = at} {U = U} {l = l} levels h a r e f =
     let g = r.3 h.lv.type h.lv.limit h.announced h.spelled h.reads in
@@ -172,7 +174,7 @@ nil_goes_on {keep = keep} {L = L} {T = T} {offset = offset} {at = at} {U = U} {l
         id = r.0.id ∙ h.id;
         depth = r.0.depth ∙ h.depth_is;
         end = r.0.end ∙ h.end;
-        skeleton = r.2 ∙ ap (λ (s : List ℕ). s ++ 0 ∷ []) h.skeleton ∙ sym h.ends;
+        skeleton = skeleton_as (skeleton_on h.skeleton r.2) (sym h.ends);
         ready = h.ready;
         grown = h.grown;
         reads = subst (λ y. HasReadBody skip_building U h.lv.type h.lv.limit n levels.innermost.reader y) (sym h.ends)
@@ -187,7 +189,7 @@ nil_goes_on {keep = keep} {L = L} {T = T} {offset = offset} {at = at} {U = U} {l
 -- or is whole
 pub nil_is_whole : {keep : Bool} {L : Bounds} {T : Table} {offset kept at : ℕ} {U : Table} {l : declared.Level}
     {outer : List declared.Level} {z : List ℕ} (levels : Levels) → FillsNil keep L T offset U l outer kept z
-    → at ≡ offset + length z → FillAnswers U at l levels.innermost (Ok true) → levels.outer.items ≡ outer
+    → at ≡ offset + length z → FillAnswers keep U at l levels.innermost (Ok true) → levels.outer.items ≡ outer
     → levels.left ≡ kept → ValueIsWhole keep L T offset U levels z
 nil_is_whole {keep = keep} {L = L} {T = T} {offset = offset} {at = at} {U = U} {l = l} levels h a r e f =
     let g = r.3 h.lv.type h.lv.limit h.announced h.spelled h.reads in
@@ -199,12 +201,12 @@ nil_is_whole {keep = keep} {L = L} {T = T} {offset = offset} {at = at} {U = U} {
     (top_back (extends_keeps h.grown) h.ready (subst (λ y. SpellsTop U h.lv.type v y) (sym h.ends) g.made.spelled))
     g.made.not_deep
     (omega (arith, ap length h.whole, length-append h.spelled (0 ∷ []))) h.ready h.grown (r.0.id ∙ h.id)
-    (r.2 ∙ ap (λ (s : List ℕ). s ++ 0 ∷ []) h.skeleton ∙ sym h.ends) (others levels h r.0.fillings e f))
+    (skeleton_as (skeleton_on h.skeleton r.2) (sym h.ends)) (others levels h r.0.fillings e f))
 
 -- or refused
 pub nil_refused : {keep : Bool} {L : Bounds} {T : Table} {offset kept at : ℕ} {U : Table} {l : declared.Level}
     {outer : List declared.Level} {z : List ℕ} {R : Refusal} → FillsNil keep L T offset U l outer kept z
-    → at ≡ offset + length z → FillAnswers U at l l (Err (fault.Refused R)) → (w : List ℕ)
+    → at ≡ offset + length z → FillAnswers keep U at l l (Err (fault.Refused R)) → (w : List ℕ)
     → RefusesWith L T offset (z ++ w) R U
 nil_refused {L = L} {T = T} {offset = offset} {at = at} {U = U} {l = l} {R = R} h a r w =
     let k = r h.lv.type h.lv.limit h.announced h.spelled h.reads in
@@ -212,7 +214,7 @@ nil_refused {L = L} {T = T} {offset = offset} {at = at} {U = U} {l = l} {R = R} 
     let n : ℕ = length h.spelled + (l.end - at + 1) in
     let s : List ℕ = h.spelled ++ 0 ∷ [] in
     let inside = h.within in let d = h.end in let pl = k.place in let se = k.seen in
-    let sk = ap length h.skeleton in
+    let sk = h.skeleton.length_is in
     let size : length s ≡ length h.spelled + 1 = length-append h.spelled (0 ∷ []) in
     let there = seen_within first.refused in
     let fewer : length s ≤ n = omega arith in
@@ -268,7 +270,7 @@ of_nil_byte (nil_byte {z = z} {lv = lv} {around = around} {left = left} {d = d} 
 
 pub nil_before : {keep : Bool} {L : Bounds} {T : Table} {offset kept at : ℕ} {U : Table} {l : declared.Level}
     {outer : List declared.Level} {z : List ℕ} → FillsNil keep L T offset U l outer kept z → at ≡ offset + length z
-    → length l.skeleton.items < at
+    → l.skeleton.length < at
 nil_before h e = let n = nil_order h in omega arith
 
 pub nil_ends : {keep : Bool} {L : Bounds} {T : Table} {offset kept at : ℕ} {U : Table} {l : declared.Level}
@@ -280,7 +282,7 @@ nil_ends h e = let w = h.within in let d = h.end in omega arith
 pub filling_steps : {keep : Bool} {L : Bounds} {T : Table} {offset kept at : ℕ} {d : Defined} {l : declared.Level}
     {outer : List declared.Level} {z : List ℕ} (levels : Levels) (result : Result Bool Fault)
     → FillsNil keep L T offset (types d) l outer kept z → at ≡ offset + length z
-    → FillAnswers (types d) at l levels.innermost result → levels.outer.items ≡ outer → levels.left ≡ kept
+    → FillAnswers keep (types d) at l levels.innermost result → levels.outer.items ≡ outer → levels.left ≡ kept
     → FillingSteps keep L T offset d z levels result
 filling_steps levels (Ok false) h a r e f = filling_goes_on (nil_goes_on levels h a r e f)
 filling_steps levels (Ok true) h a r e f = filling_ends (nil_is_whole levels h a r e f)

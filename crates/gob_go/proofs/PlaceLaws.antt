@@ -30,7 +30,7 @@ record IsLevelAt (l : Level) (at : ℕ) : Type 0 where
   announced : ℕ
   bytes : List ℕ
   reads : HasReadBody skip_building table type limit announced l.reader bytes
-  rest : at + announced ≡ length l.skeleton.items + l.end
+  rest : at + announced ≡ l.skeleton.length + l.end
 
 one_in_level : {l : Level} {m n : ℕ} → IsLevelAt l m → IsLevelAt l n → m ≡ n
 one_in_level {l = l} a b =
@@ -116,7 +116,7 @@ part_at {U = U} (in_skeleton {z = z} {lv = lv} c p said w o) = record {
   announced = w.announced;
   bytes = lv.done ++ c;
   reads = w.is.reads;
-  rest = let r = w.rest in let e = w.is.end in omega (arith, ap length w.is.skeleton);
+  rest = let r = w.rest in let e = w.is.end in omega (arith, w.is.skeleton.length_is);
 }
 part_at (in_name_length {z = z} c a p said h o number place) =
     number_at number (omega (arith, length-append z (c ++ a), length-append z c, length-append c a))
@@ -131,7 +131,7 @@ part_at {U = U} {offset = offset} (in_name {z = z} {lv = lv} c a s p said h o pl
         announced = h.announced;
         bytes = lv.done ++ c;
         reads = h.is.reads;
-        rest = let e = h.is.end in omega (arith, ap length h.is.skeleton);
+        rest = let e = h.is.end in omega (arith, h.is.skeleton.length_is);
       };
       counts = subst (λ n. IsUnsigned n a) (omega (arith, ap length name)) u;
       place = omega (

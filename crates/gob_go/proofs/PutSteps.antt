@@ -29,13 +29,13 @@ use Rattle.gob_go.specs.Machine.Stages.{no_memory}
 
 pub none_behind : (levels : Levels) (taken used : ℕ) {next : Option PutPart} {stepped : Stepped} {innermost : Level}
     (kept : Filled) → next ≡ None → innermost ≡ levels.innermost
-    → (out-Filled kept).skeleton ≡ innermost.skeleton → (out-Filled kept).fillings ≡ innermost.fillings
+    → (out-Filled kept).skeleton ≡ innermost.skeleton.bytes → (out-Filled kept).fillings ≡ innermost.fillings
     → stepped ≡ record { used = used; stage = count_at (taken + used); item = Some (item.Put innermost.id kept) }
     → StageBehind levels taken used next stepped
 none_behind levels taken used {stepped = stepped} kept n i s f e =
     subst (λ next. StageBehind levels taken used next stepped) (sym n) (
       kept,
-      s ∙ ap (λ (l : Level). l.skeleton) i,
+      s ∙ ap (λ (l : Level). l.skeleton.bytes) i,
       f ∙ ap (λ (l : Level). l.fillings) i,
       e ∙ ap (λ (l : Level). record {
         used = used;
@@ -75,7 +75,7 @@ part_stepped {keep = keep} {L = L} {T = T} {offset = offset} {at = at} {d = d} {
     let kept = b.0 in
     subst (λ s. StepsOn keep L T offset d z piece d' (Ok s)) (sym b.3)
     (gives m w h.item (λ on. means_value (subst (λ v. IsFilled (types d') levels.innermost.id kept v) (sym h.value_is)
-    (is_filled (rw b.1 h.spelled) (rw b.2 (h.filled on)))))
+    (is_filled (rw b.1 (h.spelled on)) (rw b.2 (h.filled on)))))
     (omega (arith, length-append z (take used piece), length-take used piece)))
 
 pub part_stopped : {keep : Bool} {L : Bounds} {T : Table} {offset : ℕ} {d d' : Defined} {z piece : List ℕ}

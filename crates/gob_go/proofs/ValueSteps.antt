@@ -40,6 +40,7 @@ use Rattle.gob_go.specs.Machine.HasRead.{PartHasRead, in_skeleton, in_name_lengt
 use Rattle.gob_go.specs.declared.part.PartTaken.{PartTaken}
 use Rattle.gob_go.specs.Machine.Levels.{LevelIs, BeginsOrStands, begins, stands}
 use Rattle.gob_go.specs.Machine.Parts.{KeepsLevel, LevelAnswers, used_of}
+use Rattle.gob_go.specs.Machine.Skeleton.{SkeletonGrows}
 use Rattle.gob_go.specs.Machine.Stages.{ValueHasRead, in_value_at, ValueIsWhole, value_whole, PartSteps, part_goes_on}
 use Rattle.gob_go.specs.Machine.Stages.{part_refused, no_memory_for_part, IsInPut, IsInValue, ValueAnswers}
 use Rattle.gob_go.specs.Machine.Stages.{PartAnswers, IsBehindValue, EndAnswers, GoesSteps, behind_value}
@@ -50,7 +51,8 @@ use Rattle.gob_go.proofs.NilLaws.{nil_stands}
 use Rattle.gob_go.proofs.NilSteps.{refuses_in_skeleton}
 use Rattle.gob_go.proofs.NumberStages.{number_begins}
 use Rattle.gob_go.proofs.PutSteps.{all_taken, part_behind, part_stopped_behind, goes_behind, goes_stopped}
-use Rattle.gob_go.proofs.ReaderLaws.{fits, reads_on, read_within, announced_once}
+use Rattle.gob_go.proofs.ReaderLaws.{fits, reads_on, read_once, read_within, announced_once}
+use Rattle.gob_go.proofs.SkeletonLaws.{skeleton_as, skeleton_on}
 
 -- ---- what taking asks
 
@@ -66,10 +68,10 @@ value_clear (in_value_at c p said l k) = l.is.clear
 
 pub value_order : {keep : Bool} {L : Bounds} {T : Table} {offset at : ℕ} {U : Table} {levels : Levels} {z : List ℕ}
     → ValueHasRead keep L T offset U levels z → at ≡ offset + length z
-    → length levels.innermost.skeleton.items ≤ at
+    → levels.innermost.skeleton.length ≤ at
 value_order (in_value_at {z = z} {lv = lv} c p said l k) e =
     let n = (levels_nest p).0.done in
-    omega (arith, ap length l.is.skeleton, length-append lv.done c, length-append z c)
+    omega (arith, l.is.skeleton.length_is, length-append lv.done c, length-append z c)
 
 pub value_end : {keep : Bool} {L : Bounds} {T : Table} {offset at : ℕ} {U : Table} {levels : Levels} {z : List ℕ}
     → ValueHasRead keep L T offset U levels z → at ≡ offset + length z → at ≤ levels.innermost.end
@@ -82,26 +84,37 @@ pub value_room : {keep : Bool} {L : Bounds} {T : Table} {offset at : ℕ} {U : T
     → ValueHasRead keep L T offset U levels z → at ≡ offset + length z
     → (t : TypeId) (limit announced : ℕ) (y : List ℕ)
     → HasReadBody skip_building U t limit announced levels.innermost.reader y
-    → at + announced ≡ length levels.innermost.skeleton.items + levels.innermost.end
+    → at + announced ≡ levels.innermost.skeleton.length + levels.innermost.end
 value_room {U = U} {levels = levels} (in_value_at {lv = lv} c p said l k) e t limit announced y h =
     let same = announced_once U U t lv.type limit lv.limit announced l.announced y (lv.done ++ c) skip_building.received
     (under_way levels.innermost.reader) h l.is.reads in
-    let r = l.rest in let d = l.is.end in omega (arith, ap length l.is.skeleton)
+    let r = l.rest in let d = l.is.end in omega (arith, l.is.skeleton.length_is)
+
+pub value_read : {keep : Bool} {L : Bounds} {T : Table} {offset : ℕ} {U : Table} {levels : Levels} {z : List ℕ}
+    → ValueHasRead keep L T offset U levels z → (t : TypeId) (limit announced : ℕ) (y : List ℕ)
+    → HasReadBody skip_building U t limit announced levels.innermost.reader y
+    → length y ≡ levels.innermost.skeleton.length
+value_read {U = U} {levels = levels} (in_value_at {lv = lv} c p said l k) t limit announced y h =
+    read_once U U t lv.type limit lv.limit announced l.announced y (lv.done ++ c) skip_building.received
+    (under_way levels.innermost.reader) h l.is.reads
+    ∙ sym l.is.skeleton.length_is
 
 -- what taking bytes of the innermost skeleton answered, with which nothing else of the levels has changed
-pub record HasCome (U : Table) (at : ℕ) (levels levels' : Levels) (piece : List ℕ) (came : Came) : Type 0 where
-  pub answers : LevelAnswers U at levels.innermost levels'.innermost piece (Ok came)
+pub record HasCome (keep : Bool) (U : Table) (at : ℕ) (levels levels' : Levels) (piece : List ℕ) (came : Came) : Type
+    0 where
+  pub answers : LevelAnswers keep U at levels.innermost levels'.innermost piece (Ok came)
   pub outer : levels'.outer ≡ levels.outer
   pub left : levels'.left ≡ levels.left
 
 abbrev pub with_innermost : Levels → declared.Level → Levels
 with_innermost levels l = record { innermost = l; outer = levels.outer; left = levels.left }
 
-pub has_come : {t : Came} (U : Table) (at : ℕ) (levels : Levels) (l : declared.Level) (piece : List ℕ) (came : Came)
-    → t ≡ came → LevelAnswers U at levels.innermost l piece (Ok t)
-    → HasCome U at levels (with_innermost levels l) piece came
-has_come U at levels l piece came e h = record {
-  answers = subst (λ t. LevelAnswers U at levels.innermost l piece (Ok t)) e h;
+pub has_come : {keep : Bool} {t : Came} (U : Table) (at : ℕ) (levels : Levels) (l : declared.Level)
+    (piece : List ℕ) (came : Came)
+    → t ≡ came → LevelAnswers keep U at levels.innermost l piece (Ok t)
+    → HasCome keep U at levels (with_innermost levels l) piece came
+has_come {keep = keep} U at levels l piece came e h = record {
+  answers = subst (λ t. LevelAnswers keep U at levels.innermost l piece (Ok t)) e h;
   outer = refl;
   left = refl;
 }
@@ -110,7 +123,7 @@ has_come U at levels l piece came e h = record {
 
 pub came_within : {keep : Bool} {L : Bounds} {T : Table} {offset at : ℕ} {U : Table} {levels levels' : Levels}
     {z piece : List ℕ}
-    (came : Came) → ValueHasRead keep L T offset U levels z → HasCome U at levels levels' piece came
+    (came : Came) → ValueHasRead keep L T offset U levels z → HasCome keep U at levels levels' piece came
     → used_of piece came ≤ length piece
 came_within came.ToEnd h r = omega arith
 came_within (came.ToNil used) (in_value_at {lv = lv} c p said l k) r =
@@ -120,7 +133,8 @@ came_within (came.PastValue used) (in_value_at {lv = lv} c p said l k) r =
 
 -- up to a nil, no further than the stream may go
 pub nil_bound : {keep : Bool} {L : Bounds} {d : Defined} {at used : ℕ} {levels levels' : Levels} {piece : List ℕ}
-    → IsInValue keep L d at levels → HasCome (types d) at levels levels' piece (came.ToNil used) → at + used ≤ L.stream
+    → IsInValue keep L d at levels → HasCome keep (types d) at levels levels' piece (came.ToNil used)
+    → at + used ≤ L.stream
 nil_bound {keep = keep} {L = L} {d = d} {at = at} {used = used} {levels = levels} {levels' = levels'}
     {piece = piece} w r =
     from w.has_read w.taken_is
@@ -136,7 +150,7 @@ nil_bound {keep = keep} {L = L} {d = d} {at = at} {used = used} {levels = levels
 
 -- and up to its end
 pub past_bound : {keep : Bool} {L : Bounds} {d : Defined} {at used : ℕ} {levels levels' : Levels} {piece : List ℕ}
-    → IsInValue keep L d at levels → HasCome (types d) at levels levels' piece (came.PastValue used)
+    → IsInValue keep L d at levels → HasCome keep (types d) at levels levels' piece (came.PastValue used)
     → at + used ≤ L.stream
 past_bound {keep = keep} {L = L} {d = d} {at = at} {used = used} {levels = levels} {piece = piece} w r = from
     w.has_read w.taken_is
@@ -166,7 +180,7 @@ stood_room (stands v) = inr v.room
 
 pub past_some : {keep : Bool} {L : Bounds} {T : Table} {offset at used : ℕ} {U : Table} {levels levels' : Levels}
     {z piece : List ℕ}
-    → ValueHasRead keep L T offset U levels z → HasCome U at levels levels' piece (came.PastValue used) → 0 < used
+    → ValueHasRead keep L T offset U levels z → HasCome keep U at levels levels' piece (came.PastValue used) → 0 < used
 past_some {used = used} {piece = piece} (in_value_at {lv = lv} c p said l k) r =
     let g = r.answers.3 lv.type lv.limit l.announced (lv.done ++ c) l.is.reads in
     let some = top_some g.made.spelled in let all = g.made.all in
@@ -192,7 +206,7 @@ pub value_place : {keep : Bool} {L : Bounds} {d : Defined} {T : Table} {offset a
     → IsInValue keep L d at levels → ValueHasRead keep L T offset (types d) levels z → at ≡ offset + length z
 value_place w (in_value_at {z = z} {lv = lv} c p said l k) =
     let there = value_room w.has_read w.taken_is lv.type lv.limit l.announced (lv.done ++ c) l.is.reads in
-    let rest = l.rest in let ends = l.is.end in omega (arith, ap length l.is.skeleton)
+    let rest = l.rest in let ends = l.is.end in omega (arith, l.is.skeleton.length_is)
 
 others_on : {keep : Bool} {U : Table} {around : List Level} {o : Open} {os : List Open} {left : ℕ}
     (levels levels' : Levels)
@@ -201,14 +215,15 @@ others_on : {keep : Bool} {U : Table} {around : List Level} {o : Open} {os : Lis
 others_on levels levels' k f e l =
     record { fillings = rw f k.fillings; outer = rw e k.outer; left_is = l ∙ k.left_is }
 
-level_on : {U : Table} {lv : Level} {c : List ℕ} {n : ℕ} (x : List ℕ) (l l' : declared.Level) → LevelIs U l lv c n
-    → KeepsLevel l l' → l'.skeleton.items ≡ l.skeleton.items ++ x → NoNilBegun U l'.reader
-    → HasReadBody skip_building U lv.type lv.limit n l'.reader ((lv.done ++ c) ++ x) → LevelIs U l' lv (c ++ x) n
+level_on : {keep : Bool} {U : Table} {lv : Level} {c : List ℕ} {n : ℕ} (x : List ℕ) (l l' : declared.Level)
+    → LevelIs keep U l lv c n
+    → KeepsLevel l l' → SkeletonGrows keep l.skeleton l'.skeleton x → NoNilBegun U l'.reader
+    → HasReadBody skip_building U lv.type lv.limit n l'.reader ((lv.done ++ c) ++ x) → LevelIs keep U l' lv (c ++ x) n
 level_on {U = U} {lv = lv} {c = c} {n = n} x l l' h k s clear reads = record {
   id = k.id ∙ h.id;
   depth = k.depth ∙ h.depth;
   end = k.end ∙ h.end;
-  skeleton = s ∙ ap (λ (q : List ℕ). q ++ x) h.skeleton ∙ append_assoc lv.done c x;
+  skeleton = skeleton_as (skeleton_on h.skeleton s) (append_assoc lv.done c x);
   ready = h.ready;
   grown = h.grown;
   reads = subst (λ y. HasReadBody skip_building U lv.type lv.limit n l'.reader y) (append_assoc lv.done c x) reads;
@@ -218,7 +233,7 @@ level_on {U = U} {lv = lv} {c = c} {n = n} x l l' h k s clear reads = record {
 -- the whole piece was taken
 pub value_more : {keep : Bool} {L : Bounds} {T : Table} {offset at : ℕ} {d : Defined} {z piece : List ℕ}
     {levels levels' : Levels}
-    → ValueHasRead keep L T offset (types d) levels z → HasCome (types d) at levels levels' piece came.ToEnd
+    → ValueHasRead keep L T offset (types d) levels z → HasCome keep (types d) at levels levels' piece came.ToEnd
     → PartSteps keep L T offset d z piece levels' d (Ok (record { used = length piece; next = Some part.Value }))
 value_more {keep = keep} {L = L} {T = T} {offset = offset} {d = d} {piece = piece} {levels = levels} {levels' = levels'}
     (in_value_at {z = z} {lv = lv} c p said l k) r =
@@ -232,7 +247,8 @@ value_more {keep = keep} {L = L} {T = T} {offset = offset} {d = d} {piece = piec
     (in_skeleton (c ++ piece) p said (record {
       announced = l.announced;
       is = level_on piece levels.innermost levels'.innermost l.is keeps
-          (r.answers.2 ∙ ap (λ q. levels.innermost.skeleton.items ++ q) all) r.answers.1 g.after;
+          (subst (λ x. SkeletonGrows keep levels.innermost.skeleton levels'.innermost.skeleton x) all r.answers.2)
+          r.answers.1 g.after;
       viable = stood_back (extends_keeps l.is.grown) l.is.ready
           (subst (λ y. IsViable U lv.type lv.limit l.announced y) (append_assoc lv.done c piece) g.viable);
       rest = let rest = l.rest in omega (
@@ -259,7 +275,7 @@ numbered_from s e f l = number_begins (s ∙ at e f) l
 -- up to a nil, whose number comes next
 pub value_nil : {keep : Bool} {L : Bounds} {T : Table} {offset at behind used : ℕ} {U : Table} {z piece : List ℕ}
     {number : NumberStage} {levels levels' : Levels} → ValueHasRead keep L T offset U levels z
-    → HasCome U at levels levels' piece (came.ToNil used) → behind ≡ offset + length z + used
+    → HasCome keep U at levels levels' piece (came.ToNil used) → behind ≡ offset + length z + used
     → number ≡ record { rest = record { begin = behind; end = levels'.innermost.end }; number = [] }
     → PartHasRead keep L T offset U levels' (part.NameLength (record { number = number })) (z ++ take used piece)
 value_nil {keep = keep} {L = L} {T = T} {offset = offset} {behind = behind} {used = used} {U = U} {piece = piece}
@@ -302,7 +318,7 @@ value_nil {keep = keep} {L = L} {T = T} {offset = offset} {behind = behind} {use
 -- or to its end
 pub value_past : {keep : Bool} {L : Bounds} {T : Table} {offset at used : ℕ} {U : Table} {z piece : List ℕ}
     {levels levels' : Levels}
-    → ValueHasRead keep L T offset U levels z → HasCome U at levels levels' piece (came.PastValue used)
+    → ValueHasRead keep L T offset U levels z → HasCome keep U at levels levels' piece (came.PastValue used)
     → ValueIsWhole keep L T offset U levels' (z ++ take used piece)
 value_past {keep = keep} {L = L} {T = T} {offset = offset} {used = used} {U = U} {piece = piece} {levels = levels}
     {levels' = levels'}
@@ -324,13 +340,14 @@ value_past {keep = keep} {L = L} {T = T} {offset = offset} {used = used} {U = U}
       length-append (lv.done ++ c) x,
       length-append lv.done c,
     )) l.is.ready l.is.grown (keeps.id ∙ l.is.id)
-    (r.answers.2 ∙ ap (λ (q : List ℕ). q ++ x) l.is.skeleton ∙ there)
+    (skeleton_as (skeleton_on l.is.skeleton r.answers.2) there)
     (others_on levels levels' k keeps.fillings r.outer r.left))
 
 -- ---- what taking what comes next asks
 
 pub nil_comes : {keep : Bool} {L : Bounds} {d : Defined} {at behind used : ℕ} {levels levels' : Levels} {piece : List ℕ}
-    {number : NumberStage} → IsInValue keep L d at levels → HasCome (types d) at levels levels' piece (came.ToNil used)
+    {number : NumberStage} → IsInValue keep L d at levels
+    → HasCome keep (types d) at levels levels' piece (came.ToNil used)
     → AreBytes piece → behind ≡ at + used
     → number ≡ record { rest = record { begin = behind; end = levels'.innermost.end }; number = [] }
     → IsInPut keep L d behind levels' (part.NameLength (record { number = number }))
@@ -349,7 +366,7 @@ nil_comes {used = used} {piece = piece} w r o b n =
 
 pub value_behind : {keep : Bool} {L : Bounds} {d : Defined} {at behind used : ℕ} {levels levels' : Levels}
     {piece : List ℕ}
-    → IsInValue keep L d at levels → HasCome (types d) at levels levels' piece (came.PastValue used) → behind
+    → IsInValue keep L d at levels → HasCome keep (types d) at levels levels' piece (came.PastValue used) → behind
     ≡ at + used
     → IsBehindValue keep L d behind levels'
 value_behind {used = used} {piece = piece} w r b =
@@ -374,7 +391,7 @@ bytes_on z piece used e o =
 behind_nil : {keep : Bool} {L : Bounds} {T : Table} {offset at behind used : ℕ} {d : Defined} {z piece : List ℕ}
     {number : NumberStage} {levels levels' levels'' : Levels} {result : Result PartTaken Fault} (rest : List ℕ)
     → rest ≡ drop used piece → IsInValue keep L d at levels
-    → HasCome (types d) at levels levels' piece (came.ToNil used)
+    → HasCome keep (types d) at levels levels' piece (came.ToNil used)
     → behind ≡ at + used
     → number ≡ record { rest = record { begin = behind; end = levels'.innermost.end }; number = [] }
     → PartAnswers keep L d d levels' levels'' (part.NameLength (record { number = number })) rest result
@@ -390,7 +407,7 @@ behind_nil {keep = keep} {L = L} {T = T} {offset = offset} {used = used} {d = d}
 pub nil_further : {keep : Bool} {L : Bounds} {T : Table} {offset at behind used : ℕ} {d : Defined} {z piece : List ℕ}
     {number : NumberStage} {levels levels' levels'' : Levels} (taken : PartTaken) (rest : List ℕ)
     → rest ≡ drop used piece → IsInValue keep L d at levels
-    → HasCome (types d) at levels levels' piece (came.ToNil used)
+    → HasCome keep (types d) at levels levels' piece (came.ToNil used)
     → behind ≡ at + used
     → number ≡ record { rest = record { begin = behind; end = levels'.innermost.end }; number = [] }
     → PartAnswers keep L d d levels' levels'' (part.NameLength (record { number = number })) rest (Ok taken)
@@ -402,7 +419,7 @@ nil_further {used = used} taken rest e w r b n answers h o =
 pub nil_stops : {keep : Bool} {L : Bounds} {T : Table} {offset at behind used : ℕ} {d : Defined} {z piece : List ℕ}
     {number : NumberStage} {levels levels' levels'' : Levels} (f : Fault) (rest : List ℕ)
     → rest ≡ drop used piece → IsInValue keep L d at levels
-    → HasCome (types d) at levels levels' piece (came.ToNil used)
+    → HasCome keep (types d) at levels levels' piece (came.ToNil used)
     → behind ≡ at + used
     → number ≡ record { rest = record { begin = behind; end = levels'.innermost.end }; number = [] }
     → PartAnswers keep L d d levels' levels'' (part.NameLength (record { number = number })) rest (Err f)
@@ -415,7 +432,7 @@ nil_stops {used = used} f rest e w r b n answers h o =
 pub nil_few : {keep : Bool} {L : Bounds} {at behind used : ℕ} {d : Defined} {piece : List ℕ} {number : NumberStage}
     {levels levels' levels'' : Levels} (taken : PartTaken) (rest : List ℕ)
     → rest ≡ drop used piece → IsInValue keep L d at levels
-    → HasCome (types d) at levels levels' piece (came.ToNil used)
+    → HasCome keep (types d) at levels levels' piece (came.ToNil used)
     → behind ≡ at + used
     → number ≡ record { rest = record { begin = behind; end = levels'.innermost.end }; number = [] }
     → PartAnswers keep L d d levels' levels'' (part.NameLength (record { number = number })) rest (Ok taken)
@@ -425,7 +442,7 @@ nil_few {piece = piece} taken rest e w r b n answers o =
 
 past_ends : {keep : Bool} {L : Bounds} {T : Table} {offset at behind used : ℕ} {d : Defined} {z piece : List ℕ}
     {levels levels' levels'' : Levels} {result : Result Goes Fault}
-    → IsInValue keep L d at levels → HasCome (types d) at levels levels' piece (came.PastValue used) → behind
+    → IsInValue keep L d at levels → HasCome keep (types d) at levels levels' piece (came.PastValue used) → behind
     ≡ at + used
     → EndAnswers keep L d behind levels' levels'' result → ValueHasRead keep L T offset (types d) levels z
     → AreBytes (z ++ piece)
@@ -438,7 +455,7 @@ past_ends {T = T} {offset = offset} {used = used} {z = z} {piece = piece} w r b 
 
 pub past_further : {keep : Bool} {L : Bounds} {T : Table} {offset at behind used : ℕ} {d : Defined} {z piece : List ℕ}
     {levels levels' levels'' : Levels} (goes : Goes)
-    → IsInValue keep L d at levels → HasCome (types d) at levels levels' piece (came.PastValue used) → behind
+    → IsInValue keep L d at levels → HasCome keep (types d) at levels levels' piece (came.PastValue used) → behind
     ≡ at + used
     → EndAnswers keep L d behind levels' levels'' (Ok goes) → ValueHasRead keep L T offset (types d) levels z
     → AreBytes (z ++ piece)
@@ -453,7 +470,7 @@ value_types piece (in_value_at {z = z} c p said l k) = within_value (c ++ piece)
 
 pub past_stops : {keep : Bool} {L : Bounds} {T : Table} {offset at behind used : ℕ} {d : Defined} {z piece : List ℕ}
     {levels levels' levels'' : Levels} (f : Fault)
-    → IsInValue keep L d at levels → HasCome (types d) at levels levels' piece (came.PastValue used) → behind
+    → IsInValue keep L d at levels → HasCome keep (types d) at levels levels' piece (came.PastValue used) → behind
     ≡ at + used
     → EndAnswers keep L d behind levels' levels'' (Err f) → ValueHasRead keep L T offset (types d) levels z
     → AreBytes (z ++ piece) → PartSteps keep L T offset d z piece levels'' d (Err f)
@@ -465,7 +482,7 @@ past_stops {used = used} {piece = piece} f w r b answers h o =
 pub value_stops : {keep : Bool} {L : Bounds} {T : Table} {offset at : ℕ} {d : Defined} {z piece : List ℕ}
     (levels levels' : Levels)
     (f : Fault) → ValueHasRead keep L T offset (types d) levels z
-    → LevelAnswers (types d) at levels.innermost levels'.innermost piece (Err f) → at ≡ offset + length z
+    → LevelAnswers keep (types d) at levels.innermost levels'.innermost piece (Err f) → at ≡ offset + length z
     → PartSteps keep L T offset d z piece levels' d (Err f)
 value_stops {d = d} {piece = piece} levels levels' (fault.Refused R) (in_value_at {z = z} {lv = lv} c p said l k) r a =
     let U = types d in
@@ -473,7 +490,7 @@ value_stops {d = d} {piece = piece} levels levels' (fault.Refused R) (in_value_a
     let s = h.0 in let n = h.1 in
     let w = read_within U lv.type lv.limit l.announced (lv.done ++ c) skip_building.received
     (under_way levels.innermost.reader) l.is.reads in
-    let rest = l.rest in let pl = s.place in let se = s.seen in let sk = ap length l.is.skeleton in
+    let rest = l.rest in let pl = s.place in let se = s.seen in let sk = l.is.skeleton.length_is in
     part_refused (refuses_in_skeleton c piece p rest (omega arith)
     (first_back (extends_keeps l.is.grown) l.is.ready s.is) (λ e. n (s.reason_is ∙ e)) (omega arith) (omega arith)
     s.reason_is)

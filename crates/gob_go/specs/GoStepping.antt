@@ -22,7 +22,7 @@ pub record StepsSo (keep : Bool) (s s' : SessionState) (piece : List ℕ) (resul
       → StepAnswersSo keep s s' items bytes piece result
   pub taken : OnErr result (taken_of s' ≡ taken_of s)
 
--- where what fills nils is kept or not, and what is handed out means so; within an item the session's types may be
+-- where values are kept or not, and what is handed out means so; within an item the session's types may be
 -- ahead of those behind the items
 abbrev pub stepping_of : Bool → (Table → GoItem → FilledItem → Type 0) → Stepping SessionState GoItem FilledItem
 stepping_of keep means = record {

@@ -17,7 +17,7 @@ pub(crate) struct Around {
     pub(crate) limits: Limits,
     /// How many bytes of the stream were taken.
     pub(crate) taken: u64,
-    /// Whether what fills nils is kept.
+    /// Whether values are kept, as skeletons and what fills their nils.
     pub(crate) keeps: bool,
 }
 

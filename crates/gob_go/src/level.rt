@@ -15,6 +15,7 @@ ghost use Rattle.gob_go.specs.Machine.Parts.{came_of, used_of};
 use crate::around::Around;
 use crate::description::fault_of_stop;
 use crate::filled::{Definition, Filled, Filling};
+use crate::skeleton::Skeleton;
 use gob_num::Memory;
 use gob_read::{BodyReader, Progress, Reached, SkipBuilder};
 use gob_stream::Fault;
@@ -31,7 +32,7 @@ pub(crate) struct Level {
     /// What reads its skeleton. It keeps nothing.
     pub(crate) reader: BodyReader<SkipBuilder>,
     /// Its skeleton, as far as it came.
-    pub(crate) skeleton: Vec<u8>,
+    pub(crate) skeleton: Skeleton,
     /// What fills nils of it, as far as that is whole.
     pub(crate) fillings: Vec<Filling>,
     /// What fills the nil at hand, as far as it came.
@@ -90,7 +91,7 @@ impl Held {
         ensures name { (out-Filling result).name ≡ self.name }
         ensures definitions { (out-Filling result).definitions ≡ self.definitions }
         ensures id { (out-Filling result).id ≡ value.id }
-        ensures skeleton { (out-Filled (out-Filling result).value).skeleton ≡ value.skeleton }
+        ensures skeleton { (out-Filled (out-Filling result).value).skeleton ≡ value.skeleton.bytes }
         ensures fillings { (out-Filled (out-Filling result).value).fillings ≡ value.fillings }
     {
         let Held { name, definitions } = self;
@@ -126,7 +127,7 @@ impl Level {
             id,
             depth,
             reader,
-            skeleton: Vec::new(around.alloc),
+            skeleton: Skeleton::new(around.alloc),
             fillings: Vec::new(around.alloc),
             held: Held::new(around.alloc),
             end,
@@ -142,18 +143,22 @@ impl Level {
     ) -> Result<Came, Fault>
         requires fits { FitsTable skip_building (types table.now) self.old.reader }
         requires clear { NoNilBegun (types table.now) self.old.reader }
-        requires order { length self.old.skeleton.items ≤ around.now.taken }
+        requires order { self.old.skeleton.length ≤ around.now.taken }
         requires end { around.now.taken ≤ self.old.end }
+        requires read { (t : TypeId) (limit announced : ℕ) (z : List ℕ)
+            → HasReadBody skip_building (types table.now) t limit announced self.old.reader z
+            → length z ≡ self.old.skeleton.length }
         requires room { (t : TypeId) (limit announced : ℕ) (z : List ℕ)
             → HasReadBody skip_building (types table.now) t limit announced self.old.reader z
-            → around.now.taken + announced ≡ length self.old.skeleton.items + self.old.end }
-        ensures { LevelAnswers (types table.now) around.now.taken self.old self.new piece.now result }
+            → around.now.taken + announced ≡ self.old.skeleton.length + self.old.end }
+        ensures { LevelAnswers around.now.keeps (types table.now) around.now.taken self.old self.new piece.now result }
     {
         let begin = self.begin(around.taken);
         match self.reader.push_to_nil(around.alloc, table, piece) {
             Ok(reached) => {
                 let came = Came::of(reached);
-                match self.skeleton.extend_from_slice(&piece[..came.used(piece)]) {
+                let bytes = &piece[..came.used(piece)];
+                match self.skeleton.extend(around.keeps, bytes) {
                     Ok(()) => Ok(came),
                     Err(_) => Err(Fault::Memory),
                 }
@@ -168,18 +173,19 @@ impl Level {
         requires fits { FitsTable skip_building (types table.now) self.old.reader }
         requires clear { NoNilBegun (types table.now) self.old.reader }
         requires at_nil { IsBeforeNil (types table.now) self.old.reader }
-        requires order { length self.old.skeleton.items < around.now.taken }
+        requires order { self.old.skeleton.length < around.now.taken }
         requires end { around.now.taken ≤ self.old.end }
         requires read { (t : TypeId) (limit announced : ℕ) (z : List ℕ)
             → HasReadBody skip_building (types table.now) t limit announced self.old.reader z
-            → length z ≡ length self.old.skeleton.items }
-        ensures { FillAnswers (types table.now) around.now.taken self.old self.new result }
+            → length z ≡ self.old.skeleton.length }
+        ensures { FillAnswers around.now.keeps (types table.now) around.now.taken self.old self.new result }
     {
-        if self.skeleton.push(0).is_err() {
+        let taken = around.taken;
+        if self.skeleton.extend(around.keeps, &[0]).is_err() {
             return Err(Fault::Memory);
         }
-        let begin = self.begin(around.taken);
-        self.reader.announce(self.end - around.taken + 1);
+        let begin = self.begin(taken);
+        self.reader.announce(self.end - taken + 1);
         match self.reader.fill(around.alloc, table) {
             Ok(Progress::More) => Ok(false),
             Ok(Progress::Done { out: _, used: _ }) => Ok(true),
@@ -191,7 +197,7 @@ impl Level {
     pub(crate) fn hold(&mut self, around: &Around, value: Level) -> Result<(), Memory>
         ensures { IfOk result (λ _. Holds around.now.keeps value self.old self.new) }
     {
-        let place = self.skeleton.len() as u64;
+        let place = self.skeleton.length();
         let held = mem::replace(&mut self.held, Held::new(around.alloc));
         if around.keeps {
             self.fillings.push(held.filled_with(place, value))?;
@@ -201,7 +207,7 @@ impl Level {
 
     /// The value, which is whole.
     pub(crate) fn into_filled(self) -> Filled
-        ensures skeleton { (out-Filled result).skeleton ≡ self.skeleton }
+        ensures skeleton { (out-Filled result).skeleton ≡ self.skeleton.bytes }
         ensures fillings { (out-Filled result).fillings ≡ self.fillings }
     {
         let Level {
@@ -213,18 +219,21 @@ impl Level {
             held: _,
             end: _,
         } = self;
-        Filled { skeleton, fillings }
+        Filled {
+            skeleton: skeleton.into_bytes(),
+            fillings,
+        }
     }
 
     // Where the skeleton would begin in the stream if it stood there without what fills its nils.
     fn begin(&self, taken: u64) -> u64
-        requires { length self.now.skeleton.items ≤ taken }
-        ensures begin { result ≡ taken - length self.now.skeleton.items }
+        requires { self.now.skeleton.length ≤ taken }
+        ensures begin { result ≡ taken - self.now.skeleton.length }
         ensures range { self.now.end < 2 ^ 64 }
     {
         // read for its range
         let _end = self.end;
-        taken - self.skeleton.len() as u64
+        taken - self.skeleton.length()
     }
 }
 

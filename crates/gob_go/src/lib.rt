@@ -5,7 +5,7 @@
 //! which is the spelling of a value with nil in its interfaces, and as what fills these nils: see [`Filled`].
 //!
 //! A [`GoReader`] is the reader of `gob_stream` over such a session. A [`PassingSession`] reads the same streams, and
-//! keeps nothing of what fills nils.
+//! keeps nothing of a value.
 #![tactic(auto)]
 
 mod around;
@@ -27,6 +27,7 @@ mod part;
 mod passing;
 mod put;
 mod session;
+mod skeleton;
 mod stage;
 mod steps;
 mod type_number;

@@ -1,4 +1,4 @@
-//! A session that keeps nothing of what fills nils.
+//! A session that keeps nothing of a value.
 
 use crate::item::GoItem;
 use crate::session::GoSession;
@@ -9,8 +9,9 @@ use std::alloc::Global;
 use std::marker::Model;
 
 /// A reader of one stream of Go's encoder for whoever asks only whether it is one: it takes and refuses what a
-/// [`GoSession`] takes and refuses, and keeps nothing of what fills nils, so that an item takes no more memory than the
-/// skeletons of the values that are open. Of what a step hands out only that there is an item says anything.
+/// [`GoSession`] takes and refuses, and keeps nothing of a value: an item takes memory for the values that are open in
+/// it, with the names and definitions in front of them, and none for their bytes. Of what a step hands out only that
+/// there is an item says anything.
 pub struct PassingSession {
     session: GoSession,
 }

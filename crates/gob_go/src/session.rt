@@ -21,7 +21,7 @@ pub struct GoSession {
     pub(crate) taken: u64,
     // What is expected.
     pub(crate) stage: Stage,
-    // Whether what fills nils is kept.
+    // Whether values are kept.
     pub(crate) keeps: bool,
 }
 
@@ -90,7 +90,7 @@ impl GoSession {
         GoSession::start(alloc, limits, true)
     }
 
-    // One that keeps what fills nils, or nothing of it.
+    // One that keeps values, or nothing of them.
     pub(crate) fn start(alloc: Global, limits: Limits, keeps: bool) -> Result<GoSession, Memory>
         ensures stands { IfOk result (λ session. StandsAfter keeps session [] []) }
         ensures taken { IfOk result (λ session. taken_of session ≡ 0) }

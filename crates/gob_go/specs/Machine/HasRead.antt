@@ -80,19 +80,19 @@ pub data PartHasRead (keep : Bool) (L : Bounds) (T : Table) (offset : ℕ) (U : 
   -- within the skeleton of the innermost value
   in_skeleton : {z : List ℕ} {lv : Level} {around : List Level} {left : ℕ} {o : Open} {os : List Open} (c : List ℕ)
       (p : Stands base_table L T offset z U (lv ∷ around) in_value left) → opens p ≡ o ∷ os
-      → LevelWithin U levels.innermost lv c (offset + length (z ++ c)) → OthersAre keep U levels around o os left
+      → LevelWithin keep U levels.innermost lv c (offset + length (z ++ c)) → OthersAre keep U levels around o os left
       → PartHasRead keep L T offset U levels part.Value (z ++ c)
   in_name_length : {z : List ℕ} {lv : Level} {around : List Level} {left d : ℕ} {o : Open} {os : List Open}
       {number : NumberStage} (c a : List ℕ)
       (p : Stands base_table L T offset z U (lv ∷ around) in_value left) → opens p ≡ o ∷ os
-      → (h : LevelAtNil U levels.innermost lv c d) → OthersAre keep U levels around o os left
+      → (h : LevelAtNil keep U levels.innermost lv c d) → OthersAre keep U levels around o os left
       → NumberIs number (offset + length (z ++ c)) lv.end a
       → offset + length (z ++ c) + h.announced ≡ length (lv.done ++ c) + lv.end
       → PartHasRead keep L T offset U levels (part.NameLength (record { number = number })) (z ++ (c ++ a))
   in_name : {z : List ℕ} {lv : Level} {around : List Level} {left to_come d n : ℕ} {o : Open} {os : List Open}
       (c a s : List ℕ)
       (p : Stands base_table L T offset z U (lv ∷ around) in_value left) → opens p ≡ o ∷ os
-      → (h : LevelAtNil U levels.innermost lv c d) → OthersAre keep U levels around o os left
+      → (h : LevelAtNil keep U levels.innermost lv c d) → OthersAre keep U levels around o os left
       → offset + length (z ++ c) + h.announced ≡ length (lv.done ++ c) + lv.end
       → IsUnsigned n a → n ≡ length s + to_come → 0 < to_come → n < 2 ^ 64
       → levels.innermost.held.name.items ≡ s → levels.innermost.held.definitions.items ≡ []
@@ -102,14 +102,14 @@ pub data PartHasRead (keep : Bool) (L : Bounds) (T : Table) (offset : ℕ) (U : 
   in_held_number : {z : List ℕ} {lv : Level} {around : List Level} {left d : ℕ} {o : Open} {os : List Open}
       {number : NumberStage} (a : List ℕ)
       (p : Stands base_table L T offset z U (lv ∷ around) (in_filling d) left) → opens p ≡ o ∷ os
-      → LevelAtNil U levels.innermost lv [] d → OthersAre keep U levels around o os left
+      → LevelAtNil keep U levels.innermost lv [] d → OthersAre keep U levels around o os left
       → HeldIs levels.innermost.held o
       → NumberIs number (offset + length z) lv.end a
       → PartHasRead keep L T offset U levels (part.TypeNumber (record { number = number })) (z ++ a)
   in_held_description : {z : List ℕ} {lv : Level} {around : List Level} {left d : ℕ} {o : Open} {os : List Open}
       {description : DescriptionStage} (a y : List ℕ)
       (p : Stands base_table L T offset z U (lv ∷ around) (in_filling d) left) → opens p ≡ o ∷ os
-      → LevelAtNil U levels.innermost lv [] d → OthersAre keep U levels around o os left
+      → LevelAtNil keep U levels.innermost lv [] d → OthersAre keep U levels around o os left
       → HeldIs levels.innermost.held o
       → DescriptionIs L U description (offset + length z) lv.end a y
       → PartHasRead keep L T offset U levels (part.Description (record { description = description })) (z ++ (a ++ y))
@@ -118,7 +118,7 @@ pub data PartHasRead (keep : Bool) (L : Bounds) (T : Table) (offset : ℕ) (U : 
       {o : Open} {os : List Open} {number : NumberStage} (q : List ℕ)
       (p : Stands base_table L T offset z S (lv ∷ around) (in_filling d) left) → defined id v (opens p) ≡ o ∷ os
       → Defines base_table L S id v b U → offset + length (z ++ b) ≡ lv.end
-      → LevelAtNil U levels.innermost lv [] d → OthersAre keep U levels around o os left
+      → LevelAtNil keep U levels.innermost lv [] d → OthersAre keep U levels around o os left
       → HeldIs levels.innermost.held o
       → NumberIs number lv.end (end_around around) q
       → PartHasRead keep L T offset U levels (part.NextCount (record { number = number })) (z ++ (b ++ q))
@@ -127,13 +127,12 @@ pub data PartHasRead (keep : Bool) (L : Bounds) (T : Table) (offset : ℕ) (U : 
       {o : Open} {os : List Open} {number : NumberStage} (q : List ℕ)
       (p : Stands base_table L T offset z U (lv ∷ around) (in_filling d) left) → opens p ≡ o ∷ os
       → MayPut U u → IsSigned (pos u.0) n
-      → LevelAtNil U levels.innermost lv [] d → OthersAre keep U levels around o os left
+      → LevelAtNil keep U levels.innermost lv [] d → OthersAre keep U levels around o os left
       → HeldIs levels.innermost.held o
       → NumberIs number (offset + length (z ++ n)) lv.end q
       → PartHasRead keep L T offset U levels (part.InnerCount (record { id = u; number = number })) (z ++ (n ++ q))
 
--- the bytes are the item, and the program's innermost level, which is the last, has its value, with what fills its nils
--- where that is kept
+-- the bytes are the item, and the program's innermost level, which is the last, has its value, where that is kept
 pub record PutIsWhole (keep : Bool) (L : Bounds) (T : Table) (offset : ℕ) (U : Table) (levels : Levels) (z : List ℕ)
     : Type 0 where
   pub value : spelled.Filled
@@ -141,7 +140,7 @@ pub record PutIsWhole (keep : Bool) (L : Bounds) (T : Table) (offset : ℕ) (U :
   pub tree : Tree
   pub fillings : spelled.Fillings
   pub value_is : value ≡ spelled.filled tree fillings
-  pub spelled : SpellsTop U levels.innermost.id tree levels.innermost.skeleton.items
+  pub spelled : IsTrue keep → SpellsTop U levels.innermost.id tree levels.innermost.skeleton.bytes.items
   pub filled : IsTrue keep → AreFillings U levels.innermost.fillings.items fillings
 
 -- ---- any item
@@ -161,7 +160,7 @@ pub data StageHasRead (keep : Bool) (L : Bounds) (T : Table) (offset : ℕ) (U :
   in_put : {levels : Levels} {part : PutPart} {z : List ℕ} → PartHasRead keep L T offset U levels part z
       → StageHasRead keep L T offset U (stage.Put (record { levels = levels; part = part })) z
 
--- the reader has given the items, and taken these bytes, and keeps what fills nils or not
+-- the reader has given the items, and taken these bytes, and keeps values or not
 pub record StandsAfter (keep : Bool) (s : SessionState) (items : List FilledItem) (bytes : List ℕ) : Type 0 where
   pub prefix : List ℕ
   pub under_way : List ℕ
@@ -174,7 +173,7 @@ pub record StandsAfter (keep : Bool) (s : SessionState) (items : List FilledItem
   pub room : s.types.most ≡ s.limits.types
   pub kept : s.keeps ≡ keep
 
--- it keeps what fills nils
+-- it keeps values
 abbrev pub HasRead : SessionState → List FilledItem → List ℕ → Type 0
 HasRead s items bytes = StandsAfter true s items bytes
 

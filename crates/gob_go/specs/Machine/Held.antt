@@ -23,7 +23,7 @@ pub data AwaitsType (keep : Bool) (L : Bounds) (T : Table) (offset : ℕ) (U : T
     → Type 0 where
   awaits_type : {z : List ℕ} {lv : Level} {around : List Level} {left d : ℕ} {o : Open} {os : List Open}
       (p : Stands base_table L T offset z U (lv ∷ around) (in_filling d) left) → opens p ≡ o ∷ os
-      → LevelAtNil U levels.innermost lv [] d → OthersAre keep U levels around o os left
+      → LevelAtNil keep U levels.innermost lv [] d → OthersAre keep U levels around o os left
       → HeldIs levels.innermost.held o
       → rest.begin ≡ offset + length z → rest.end ≡ lv.end
       → AwaitsType keep L T offset U levels rest z

@@ -15,17 +15,20 @@ use Rattle.gob_filled.specs.Opens.{Open}
 use Rattle.gob_go.specs.Meaning.{AreFillings, definitions_of}
 use Rattle.gob_go.specs.declared.level.Level as declared
 use Rattle.gob_go.specs.declared.level.Held.{Held}
+use Rattle.gob_go.specs.Machine.Skeleton.{SkeletonIs}
 
--- under the table U, the program's level is this one, and has read these bytes behind what is done of it
-pub record LevelIs (U : Table) (l : declared.Level) (lv : Level) (c : List ℕ) (announced : ℕ) : Type 0 where
-  pub id : l.id ≡ lv.type
-  pub depth : l.depth ≡ lv.limit
-  pub end : l.end ≡ lv.end
-  pub skeleton : l.skeleton.items ≡ lv.done ++ c
-  pub ready : IsReady lv.table lv.type
-  pub grown : Extends lv.table U
-  pub reads : HasReadBody skip_building U lv.type lv.limit announced l.reader (lv.done ++ c)
-  pub clear : NoNilBegun U l.reader
+-- under the table U, the program's level is this one, and has read these bytes behind what is done of it; its skeleton
+-- is kept or not
+pub record LevelIs (keep : Bool) (U : Table) (l : declared.Level) (lv : Level) (c : List ℕ) (announced : ℕ) : Type 0
+  where
+    pub id : l.id ≡ lv.type
+    pub depth : l.depth ≡ lv.limit
+    pub end : l.end ≡ lv.end
+    pub skeleton : SkeletonIs keep l.skeleton (lv.done ++ c)
+    pub ready : IsReady lv.table lv.type
+    pub grown : Extends lv.table U
+    pub reads : HasReadBody skip_building U lv.type lv.limit announced l.reader (lv.done ++ c)
+    pub clear : NoNilBegun U l.reader
 
 -- what fills nils of it is what the bytes say, where it is kept
 abbrev pub FillingsAre : Bool → Table → declared.Level → Open → Type 0
@@ -37,18 +40,18 @@ pub record HeldIs (held : Held) (o : Open) : Type 0 where
   pub definitions : definitions_of held.definitions.items ≡ o.definitions
 
 -- it stands at a nil of this depth, which is not too deep
-pub record LevelAtNil (U : Table) (l : declared.Level) (lv : Level) (c : List ℕ) (d : ℕ) : Type 0 where
+pub record LevelAtNil (keep : Bool) (U : Table) (l : declared.Level) (lv : Level) (c : List ℕ) (d : ℕ) : Type 0 where
   pub announced : ℕ
-  pub is : LevelIs U l lv c announced
+  pub is : LevelIs keep U l lv c announced
   pub at_nil : IsBeforeNil U l.reader
   pub expects : ExpectsTop lv.table lv.type (lv.done ++ c) (a_number nil) d
   pub not_deep : d ≤ lv.limit
   pub shallow : IsShallow lv.table lv.type lv.limit (lv.done ++ c)
 
 -- it stands within its value, behind `at` bytes of the stream, where nothing that the bytes show is refused
-pub record LevelWithin (U : Table) (l : declared.Level) (lv : Level) (c : List ℕ) (at : ℕ) : Type 0 where
+pub record LevelWithin (keep : Bool) (U : Table) (l : declared.Level) (lv : Level) (c : List ℕ) (at : ℕ) : Type 0 where
   pub announced : ℕ
-  pub is : LevelIs U l lv c announced
+  pub is : LevelIs keep U l lv c announced
   pub viable : IsViable lv.table lv.type lv.limit announced (lv.done ++ c)
   pub rest : at + announced ≡ length (lv.done ++ c) + lv.end
 
@@ -58,9 +61,10 @@ pub data BeginsOrStands (T : Table) (t : TypeId) (limit announced : ℕ) : List 
   stands : {z : List ℕ} → IsViable T t limit announced z → BeginsOrStands T t limit announced z
 
 -- it stands within its value, or at its start, where its segment may end at once or be too deep
-pub record LevelUnderWay (U : Table) (l : declared.Level) (lv : Level) (c : List ℕ) (at : ℕ) : Type 0 where
+pub record LevelUnderWay (keep : Bool) (U : Table) (l : declared.Level) (lv : Level) (c : List ℕ) (at : ℕ) : Type
+    0 where
   pub announced : ℕ
-  pub is : LevelIs U l lv c announced
+  pub is : LevelIs keep U l lv c announced
   pub stood : BeginsOrStands lv.table lv.type lv.limit announced (lv.done ++ c)
   pub rest : at + announced ≡ length (lv.done ++ c) + lv.end
 
@@ -69,5 +73,5 @@ pub record LevelUnderWay (U : Table) (l : declared.Level) (lv : Level) (c : List
 pub data AreOuter (keep : Bool) (U : Table) : List declared.Level → List Level → List Open → Type 0 where
   none_outer : AreOuter keep U [] [] []
   outer_then : {l : declared.Level} {outer : List declared.Level} {lv : Level} {levels : List Level} {o : Open}
-      {os : List Open} {d : ℕ} → AreOuter keep U outer levels os → LevelAtNil U l lv [] d → FillingsAre keep U l o
+      {os : List Open} {d : ℕ} → AreOuter keep U outer levels os → LevelAtNil keep U l lv [] d → FillingsAre keep U l o
       → HeldIs l.held o → AreOuter keep U (outer ++ l ∷ []) (lv ∷ levels) (o ∷ os)

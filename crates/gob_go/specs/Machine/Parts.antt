@@ -49,6 +49,7 @@ use Rattle.gob_go.specs.declared.level.Level.{Level}
 use Rattle.gob_go.specs.declared.level.Came.{Came}
 use Rattle.gob_go.specs.declared.level.Came.TheVariants as came
 use Rattle.gob_go.specs.Machine.HasRead.{no_end}
+use Rattle.gob_go.specs.Machine.Skeleton.{SkeletonGrows}
 use Rattle.gob_go.specs.declared.inner_count.InnerCount.{InnerCount}
 use Rattle.gob_go.specs.declared.levels.Levels.{Levels}
 use Rattle.gob_go.specs.declared.next_count.NextCount.{NextCount}
@@ -177,7 +178,8 @@ pub record LevelIsNew (id : TypeId) (depth end announced : ℕ) (l : Level) : Ty
   pub id_is : l.id ≡ id
   pub depth_is : l.depth ≡ depth
   pub end_is : l.end ≡ end
-  pub skeleton : l.skeleton.items ≡ []
+  pub skeleton_length : l.skeleton.length ≡ 0
+  pub skeleton_bytes : l.skeleton.bytes.items ≡ []
   pub fillings : l.fillings.items ≡ []
   pub read : (T : Table) → IsReady T id → HasReadBody skip_building T id (min depth 65536) announced l.reader []
 
@@ -185,11 +187,11 @@ pub record LevelIsNew (id : TypeId) (depth end announced : ℕ) (l : Level) : Ty
 pub record IsHeld (value l l' : Level) : Type 0 where
   pub filling : Filling
   pub fillings : l'.fillings.items ≡ l.fillings.items ++ filling ∷ []
-  pub place : (out-Filling filling).place ≡ length l.skeleton.items
+  pub place : (out-Filling filling).place ≡ l.skeleton.length
   pub name : (out-Filling filling).name ≡ l.held.name
   pub definitions : (out-Filling filling).definitions ≡ l.held.definitions
   pub id_held : (out-Filling filling).id ≡ value.id
-  pub skeleton_held : (out-Filled (out-Filling filling).value).skeleton ≡ value.skeleton
+  pub skeleton_held : (out-Filled (out-Filling filling).value).skeleton ≡ value.skeleton.bytes
   pub fillings_held : (out-Filled (out-Filling filling).value).fillings ≡ value.fillings
 
 -- it does where what fills nils is kept, and else nothing of the level has changed
@@ -233,18 +235,19 @@ pub record LevelRefuses (T : Table) (t : TypeId) (limit announced at done : ℕ)
   pub reason_is : R.reason ≡ first.reason
 
 -- what taking bytes of its skeleton answers, behind `at` bytes of the stream
-abbrev pub LevelAnswers : (T : Table) (at : ℕ) (l l' : Level) (piece : List ℕ) → Result Came Fault → Type 0
-LevelAnswers T at l l' piece (Ok came) = KeepsLevel l l' × NoNilBegun T l'.reader
-    × (l'.skeleton.items ≡ l.skeleton.items ++ take (used_of piece came) piece)
+abbrev pub LevelAnswers : (keep : Bool) (T : Table) (at : ℕ) (l l' : Level) (piece : List ℕ) → Result Came Fault
+    → Type 0
+LevelAnswers keep T at l l' piece (Ok came) = KeepsLevel l l' × NoNilBegun T l'.reader
+    × SkeletonGrows keep l.skeleton l'.skeleton (take (used_of piece came) piece)
     × ((t : TypeId) (limit announced : ℕ) (z : List ℕ) → HasReadBody skip_building T t limit announced l.reader z
     → CameGives T t limit announced z piece l' came)
-LevelAnswers T at l l' piece (Err (fault.Refused R)) = (t : TypeId) (limit announced : ℕ) (z : List ℕ)
+LevelAnswers keep T at l l' piece (Err (fault.Refused R)) = (t : TypeId) (limit announced : ℕ) (z : List ℕ)
     → HasReadBody skip_building T t limit announced l.reader z
-    → LevelRefuses T t limit announced at (length l.skeleton.items) (z ++ take (announced - length z) piece) R
+    → LevelRefuses T t limit announced at l.skeleton.length (z ++ take (announced - length z) piece) R
     × (R.reason ≢ reason.InterfaceValue)
-LevelAnswers T at l l' piece (Err fault.Memory) = Unit {0}
-LevelAnswers T at l l' piece (Err fault.Failed) = HasEnded l.reader
-LevelAnswers T at l l' piece (Err fault.Read) = ⊥
+LevelAnswers keep T at l l' piece (Err fault.Memory) = Unit {0}
+LevelAnswers keep T at l l' piece (Err fault.Failed) = HasEnded l.reader
+LevelAnswers keep T at l l' piece (Err fault.Read) = ⊥
 
 -- what filling the nil at hand answers, behind whose byte, or value, `at` bytes of the stream were taken; where the
 -- value is whole with it, and where not
@@ -254,16 +257,16 @@ FillGives T t limit announced z l false =
 FillGives T t limit announced z l true =
     EndsBody T t limit announced skip_building.means (under_way l.reader) z (0 ∷ []) tt 1
 
-abbrev pub FillAnswers : (T : Table) (at : ℕ) (l l' : Level) → Result Bool Fault → Type 0
-FillAnswers T at l l' (Ok whole) = KeepsLevel l l' × NoNilBegun T l'.reader
-    × (l'.skeleton.items ≡ l.skeleton.items ++ 0 ∷ [])
+abbrev pub FillAnswers : (keep : Bool) (T : Table) (at : ℕ) (l l' : Level) → Result Bool Fault → Type 0
+FillAnswers keep T at l l' (Ok whole) = KeepsLevel l l' × NoNilBegun T l'.reader
+    × SkeletonGrows keep l.skeleton l'.skeleton (0 ∷ [])
     × ((t : TypeId) (limit announced : ℕ) (z : List ℕ) → HasReadBody skip_building T t limit announced l.reader z
     → FillGives T t limit (length z + (l.end - at + 1)) z l' whole)
-FillAnswers T at l l' (Err (fault.Refused R)) = (t : TypeId) (limit announced : ℕ) (z : List ℕ)
+FillAnswers keep T at l l' (Err (fault.Refused R)) = (t : TypeId) (limit announced : ℕ) (z : List ℕ)
     → HasReadBody skip_building T t limit announced l.reader z
-    → LevelRefuses T t limit (length z + (l.end - at + 1)) at (length l.skeleton.items + 1) (z ++ 0 ∷ []) R
-FillAnswers T at l l' (Err fault.Memory) = Unit {0}
-FillAnswers T at l l' (Err _) = ⊥
+    → LevelRefuses T t limit (length z + (l.end - at + 1)) at (l.skeleton.length + 1) (z ++ 0 ∷ []) R
+FillAnswers keep T at l l' (Err fault.Memory) = Unit {0}
+FillAnswers keep T at l l' (Err _) = ⊥
 
 -- ---- the open values
 

@@ -5,7 +5,7 @@ use Rattle.gob_stream.specs.Bounds.{Bounds}
 use Rattle.gob_go.specs.declared.stage.Stage.{Stage}
 
 -- under these limits, so many bytes were taken of a stream that has defined these types; the stage is what is expected,
--- and what fills nils is kept or not
+-- and values are kept or not
 pub record SessionState : Type 0 where
   pub limits : Bounds
   pub types : Defined

@@ -25,6 +25,7 @@ use Rattle.gob_go.specs.Meaning.{ItemMeans}
 use Rattle.gob_go.specs.Reading.{RefusesWith, ShowsRefusal, RefusesBehind, HasTypesWithin, HasTypesBeyond}
 use Rattle.gob_go.specs.Machine.HasRead.{PartHasRead, PutIsWhole, StageHasRead, StandsAfter, no_end, OthersAre}
 use Rattle.gob_go.specs.Machine.SessionState.{SessionState}
+use Rattle.gob_go.specs.Machine.Skeleton.{SkeletonIs}
 use Rattle.gob_go.specs.declared.description.Described.{Described}
 use Rattle.gob_go.specs.declared.description.Described.TheVariants as described
 use Rattle.gob_go.specs.declared.filled.Filled.{Filled, out-Filled}
@@ -88,7 +89,7 @@ pub data ValueHasRead (keep : Bool) (L : Bounds) (T : Table) (offset : ℕ) (U :
     → Type 0 where
   in_value_at : {z : List ℕ} {lv : Level} {around : List Level} {left : ℕ} {o : Open} {os : List Open} (c : List ℕ)
       (p : Stands base_table L T offset z U (lv ∷ around) in_value left) → opens p ≡ o ∷ os
-      → LevelUnderWay U levels.innermost lv c (offset + length (z ++ c)) → OthersAre keep U levels around o os left
+      → LevelUnderWay keep U levels.innermost lv c (offset + length (z ++ c)) → OthersAre keep U levels around o os left
       → ValueHasRead keep L T offset U levels (z ++ c)
 
 pub record IsInValue (keep : Bool) (L : Bounds) (d : Defined) (taken : ℕ) (levels : Levels) : Type 0 where
@@ -114,7 +115,7 @@ pub data NilByteRead (keep : Bool) (L : Bounds) (T : Table) (offset : ℕ) (U : 
     → Type 0 where
   nil_byte : {z : List ℕ} {lv : Level} {around : List Level} {left d : ℕ} {o : Open} {os : List Open} (c : List ℕ)
       (p : Stands base_table L T offset z U (lv ∷ around) in_value left) → opens p ≡ o ∷ os
-      → LevelAtNil U levels.innermost lv c d → OthersAre keep U levels around o os left
+      → LevelAtNil keep U levels.innermost lv c d → OthersAre keep U levels around o os left
       → offset + length (z ++ (c ++ 0 ∷ [])) ≤ lv.end
       → NilByteRead keep L T offset U levels (z ++ (c ++ 0 ∷ []))
 
@@ -134,7 +135,7 @@ pub data ValueIsWhole (keep : Bool) (L : Bounds) (T : Table) (offset : ℕ) (U :
       (b : List ℕ) (p : Stands base_table L T offset z U (lv ∷ around) in_value left) → opens p ≡ o ∷ os
       → SpellsTop lv.table lv.type v (lv.done ++ b) → depth v ≤ lv.limit → offset + length (z ++ b) ≡ lv.end
       → IsReady lv.table lv.type → Extends lv.table U
-      → levels.innermost.id ≡ lv.type → levels.innermost.skeleton.items ≡ lv.done ++ b
+      → levels.innermost.id ≡ lv.type → SkeletonIs keep levels.innermost.skeleton (lv.done ++ b)
       → OthersAre keep U levels around o os left
       → ValueIsWhole keep L T offset U levels (z ++ b)
 
@@ -253,7 +254,7 @@ abbrev pub StageBehind : Levels → (taken used : ℕ) → Option PutPart → St
 StageBehind levels taken used (Some next) stepped =
     stepped ≡ record { used = used; stage = stage.Put (record { levels = levels; part = next }); item = None }
 StageBehind levels taken used None stepped = (kept : Filled)
-    × ((out-Filled kept).skeleton ≡ levels.innermost.skeleton)
+    × ((out-Filled kept).skeleton ≡ levels.innermost.skeleton.bytes)
     × ((out-Filled kept).fillings ≡ levels.innermost.fillings)
     × (stepped ≡ record {
       used = used;
@@ -304,7 +305,7 @@ pub record BodySteps (keep : Bool) (L : Bounds) (d d' : Defined) (taken : ℕ) (
 -- ---- a session
 
 -- the front of the piece was taken, one byte at least of a piece that has any, and an item is whole with it or not;
--- where what fills nils is kept, it stands for the item
+-- where values are kept, it stands for the item
 pub data AdvancesOver (keep : Bool) (s' : SessionState) (items : List FilledItem) (bytes piece : List ℕ) : ℕ
     → Option GoItem → Type 0 where
   over_some : {used : ℕ} → (0 < length piece → 0 < used) → used ≤ length piece
@@ -326,7 +327,7 @@ StepAnswersSo keep s s' items bytes piece (Err fault.Memory) =
     HasTypesBeyond (within_trees s.limits) (bytes ++ piece) items (types s'.types)
 StepAnswersSo keep s s' items bytes piece (Err _) = ⊥
 
--- where what fills nils is kept
+-- where values are kept
 abbrev pub StepAnswers : (s s' : SessionState) → List FilledItem → (bytes piece : List ℕ)
     → Result (Advance GoItem) Fault → Type 0
 StepAnswers s s' items bytes piece result = StepAnswersSo true s s' items bytes piece result

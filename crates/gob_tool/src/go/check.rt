@@ -16,9 +16,8 @@ use std::io::{Read, Write};
 /// Reads a stream of Go's encoder to its end, and writes one line of it: `ok: I items, T types, B bytes`, of which T
 /// counts the types that it defines, also those in front of what an interface holds. Ok exactly at the end of a whole
 /// stream; before any other answer but `ToolFault::Write` nothing is written, and at that one a prefix of the line may
-/// be. The run ends with a flush. What it takes in memory grows with the types and the largest skeleton alone: nothing
-/// is kept of what fills nils. No value may be deeper than `limits.depth()` or than 1000; what an interface holds is
-/// one deeper than the interface.
+/// be. The run ends with a flush. Nothing is kept of a value, so that it takes no more memory for a large one. None may
+/// be deeper than `limits.depth()` or than 1000; what an interface holds is one deeper than the interface.
 pub fn run_check_go<R: Read, W: Write>(
     alloc: Global,
     input: &mut Input<R>,

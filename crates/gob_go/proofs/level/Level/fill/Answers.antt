@@ -1,5 +1,5 @@
 use Rattle.std.proofs.Common.{refl}
-use Rattle.gob_go.proofs.FillSteps.{is_told, told_fits, told_room, told_within, fill_stops, pushed_begin}
+use Rattle.gob_go.proofs.FillSteps.{is_told, told_fits, told_room, told_within, fill_stops, grown_begin, grown_there}
 use Rattle.gob_go.proofs.level.Level.fill.Goals as goal
 
 pub fill-requires-clause-fits : goal.fill-requires-clause-fits
@@ -20,13 +20,14 @@ fill-requires-clause-room c t limit announced z h = told_room t limit announced 
 pub fault_of_stop-requires : goal.fault_of_stop-requires
 fault_of_stop-requires c = told_within c.in-Err.stop (is_told c.requires.fits c.requires.at_nil c.requires.read
     c.requires.order c.requires.end c.begin-begin.ensures.range (c.announce.ensures.read _)) c.requires.order
-    c.requires.end c.begin-begin.ensures.range refl (pushed_begin c.args.around.now.taken c.args.self.now.skeleton.items
-    c.begin-begin.ensures.begin (rw c.if-is_err.ensures.negation at c.push.ensures.items))
+    c.requires.end c.begin-begin.ensures.range refl (grown_begin c.args.around.now.taken
+    c.begin-begin.ensures.begin (grown_there c.extend.result c.if-is_err.ensures.negation c.extend.ensures))
     c.in-Err.ensures.refused
 
 pub returns-in-Err : goal.returns-in-Err
-returns-in-Err c = fill_stops c.args.self.now c.args.self.now c.in-Err.stop (is_told c.requires.fits c.requires.at_nil
-    c.requires.read c.requires.order c.requires.end c.begin-begin.ensures.range (c.announce.ensures.read _)) refl
-    c.requires.order refl (pushed_begin c.args.around.now.taken c.args.self.now.skeleton.items
-    c.begin-begin.ensures.begin
-    (rw c.if-is_err.ensures.negation at c.push.ensures.items)) c.in-Err.ensures.refused c.fault_of_stop.ensures
+returns-in-Err c = fill_stops c.args.around.now.keeps c.args.self.now c.args.self.now c.in-Err.stop
+    (is_told c.requires.fits c.requires.at_nil c.requires.read c.requires.order c.requires.end
+    c.begin-begin.ensures.range (c.announce.ensures.read _)) refl c.requires.order refl
+    (grown_begin c.args.around.now.taken c.begin-begin.ensures.begin
+    (grown_there c.extend.result c.if-is_err.ensures.negation c.extend.ensures)) c.in-Err.ensures.refused
+    c.fault_of_stop.ensures

@@ -4,10 +4,10 @@ use Rattle.gob_num.proofs.PublicLaws.{bytes_each}
 use Rattle.gob_types.specs.Defined.{types}
 use Rattle.gob_go.specs.declared.level.Came.TheVariants as came
 use Rattle.gob_stream.proofs.Reader.NumberSteps.{slice_rest}
-use Rattle.gob_go.proofs.ValueSteps.{value_fits, value_clear, value_order, value_end, value_room, value_place}
+use Rattle.gob_go.proofs.ValueSteps.{value_fits, value_clear, value_order, value_end, value_read, value_room}
 use Rattle.gob_go.proofs.ValueSteps.{has_come, came_within, nil_bound, past_bound, past_some, some_behind, value_more}
 use Rattle.gob_go.proofs.ValueSteps.{nil_comes, value_behind, nil_further, nil_stops, nil_few, past_further, past_stops}
-use Rattle.gob_go.proofs.ValueSteps.{value_stops}
+use Rattle.gob_go.proofs.ValueSteps.{value_place, value_stops}
 use Rattle.gob_go.proofs.levels.Levels.take_value.Goals as goal
 
 pub take-requires-clause-fits : goal.take-requires-clause-fits
@@ -21,6 +21,9 @@ take-requires-clause-order c = value_order c.requires.has_read c.requires.taken_
 
 pub take-requires-clause-end : goal.take-requires-clause-end
 take-requires-clause-end c = value_end c.requires.has_read c.requires.taken_is
+
+pub take-requires-clause-read : goal.take-requires-clause-read
+take-requires-clause-read c = value_read c.requires.has_read
 
 pub take-requires-clause-room : goal.take-requires-clause-room
 take-requires-clause-room c = value_room c.requires.has_read c.requires.taken_is
