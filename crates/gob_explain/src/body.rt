@@ -2,6 +2,7 @@
 
 ghost use Rattle.std.specs.Prelude.{◌≤◌};
 ghost use Rattle.gob_types.specs.Defined.{types};
+ghost use Rattle.gob_stream.specs.Bounds.{greatest_depth};
 ghost use Rattle.gob_explain.specs.Body.{WalksBody};
 
 use crate::row::{Awaited, RowPart};
@@ -32,7 +33,7 @@ pub fn walk_body<O: RowSink>(
     most: u64,
     out: &mut O,
 ) -> Result<Walked, O::Fault>
-    requires { most ≤ 1000 }
+    requires { most ≤ greatest_depth }
     ensures { WalksBody O.tells (types table.now) id body.now most out.old out.new result }
 {
     let part = RowPart { id, depth: 1 };

@@ -8,11 +8,9 @@ use crate::body::walk_body;
 use crate::row::{PartStep, Row};
 use crate::sink::RowSink;
 use gob_num::Memory;
+use gob_stream::Limits;
 use gob_types::{Table, TypeId};
 use std::alloc::Global;
-
-// No value is deeper that is gone over.
-const MOST_DEPTH: u64 = 1000;
 
 // The steps to the part at hand.
 #[derive(Drop)]
@@ -58,7 +56,7 @@ pub fn path_to(
     let mut path = Path {
         steps: Vec::new(alloc),
     };
-    walk_body(table, id, front, MOST_DEPTH, &mut path)?;
+    walk_body(table, id, front, Limits::GREATEST_DEPTH, &mut path)?;
     let Path { steps } = path;
     Ok(steps)
 }

@@ -10,6 +10,7 @@ ghost use Rattle.gob_types.specs.declared.kind.Kind.TheVariants as kind;
 ghost use Rattle.gob_types.specs.declared.kind.Shape.{Shape};
 ghost use Rattle.gob_types.specs.Ready.{IsReady};
 ghost use Rattle.gob_types.specs.Table.{shape_of};
+ghost use Rattle.gob_stream.specs.Bounds.{greatest_depth};
 ghost use Rattle.gob_explain.specs.Open.{Open, a_filling, a_value, count, description, type_number};
 ghost use Rattle.gob_explain.specs.Path.{PathOf};
 ghost use Rattle.gob_explain.specs.declared.row.PartStep.{PartStep};
@@ -42,7 +43,7 @@ pub(crate) fn walk_value<O: RowSink>(
     at: usize,
     out: &mut O,
 ) -> Result<usize, RowStop<O::Fault>>
-    requires most { walk.now.most ≤ 1000 }
+    requires most { walk.now.most ≤ greatest_depth }
     requires depth { part.depth ≤ walk.now.most + 1 }
     ensures { let T = types walk.now.table.now in (base : ℕ) (outer : List Open) (way : List PartStep)
         → base + 1 ≡ part.depth → at ≤ length walk.now.body.now → IsValueAt T part.id base outer way
@@ -76,7 +77,7 @@ fn walk_part<O: RowSink>(
     at: usize,
     out: &mut O,
 ) -> Result<usize, RowStop<O::Fault>>
-    requires most { walk.now.most ≤ 1000 }
+    requires most { walk.now.most ≤ greatest_depth }
     requires depth { part.depth ≤ walk.now.most + 1 }
     ensures { let T = types walk.now.table.now in (t : TypeId) (base around : ℕ) (p : List ℕ) (outer : List Open)
         (way : List PartStep) → base + around + 1 ≡ part.depth → at ≤ length walk.now.body.now
@@ -132,7 +133,7 @@ fn walk_step<O: RowSink>(
     at: usize,
     out: &mut O,
 ) -> Result<usize, RowStop<O::Fault>>
-    requires most { walk.now.most ≤ 1000 }
+    requires most { walk.now.most ≤ greatest_depth }
     requires depth { part.depth ≤ walk.now.most + 1 }
     ensures { let T = types walk.now.table.now in (t : TypeId) (base around : ℕ) (p : List ℕ) (outer : List Open)
         (way : List PartStep) → base + around + 1 ≡ part.depth → at ≤ length walk.now.body.now
@@ -155,7 +156,7 @@ fn walk_elements<O: RowSink>(
     begin: usize,
     out: &mut O,
 ) -> Result<usize, RowStop<O::Fault>>
-    requires most { walk.now.most ≤ 1000 }
+    requires most { walk.now.most ≤ greatest_depth }
     requires depth { each.depth ≤ walk.now.most + 1 }
     ensures { let T = types walk.now.table.now in (t : TypeId) (base around : ℕ) (p : List ℕ) (outer : List Open)
         (way : List PartStep) → base + around + 1 ≡ each.depth → begin ≤ length walk.now.body.now
@@ -187,7 +188,7 @@ fn walk_pairs<O: RowSink>(
     begin: usize,
     out: &mut O,
 ) -> Result<usize, RowStop<O::Fault>>
-    requires most { walk.now.most ≤ 1000 }
+    requires most { walk.now.most ≤ greatest_depth }
     requires depth { each.depth ≤ walk.now.most + 1 }
     ensures { let T = types walk.now.table.now in (t : TypeId) (base around : ℕ) (p : List ℕ) (outer : List Open)
         (way : List PartStep) → base + around + 1 ≡ each.depth → begin ≤ length walk.now.body.now
@@ -222,7 +223,7 @@ fn walk_fields<O: RowSink>(
     begin: usize,
     out: &mut O,
 ) -> Result<usize, RowStop<O::Fault>>
-    requires most { walk.now.most ≤ 1000 }
+    requires most { walk.now.most ≤ greatest_depth }
     requires depth { part.depth ≤ walk.now.most }
     ensures { let T = types walk.now.table.now in (t : TypeId) (base around : ℕ) (p : List ℕ) (outer : List Open)
         (way : List PartStep) (s : Shape) → base + around + 1 ≡ part.depth → begin ≤ length walk.now.body.now
@@ -268,7 +269,7 @@ fn walk_basic_part<O: RowSink>(
     at: usize,
     out: &mut O,
 ) -> Result<usize, RowStop<O::Fault>>
-    requires most { walk.now.most ≤ 1000 }
+    requires most { walk.now.most ≤ greatest_depth }
     requires depth { part.depth ≤ walk.now.most }
     ensures { let T = types walk.now.table.now in (t : TypeId) (base around : ℕ) (p : List ℕ) (outer : List Open)
         (way : List PartStep) (s : Shape) → base + around + 1 ≡ part.depth → at ≤ length walk.now.body.now
@@ -290,7 +291,7 @@ fn walk_interface<O: RowSink>(
     at: usize,
     out: &mut O,
 ) -> Result<usize, RowStop<O::Fault>>
-    requires most { walk.now.most ≤ 1000 }
+    requires most { walk.now.most ≤ greatest_depth }
     requires depth { part.depth ≤ walk.now.most }
     ensures { let T = types walk.now.table.now in (t : TypeId) (base around : ℕ) (p : List ℕ) (outer : List Open)
         (way : List PartStep) (s : Shape) → base + around + 1 ≡ part.depth → at ≤ length walk.now.body.now
@@ -322,7 +323,7 @@ fn walk_filling<O: RowSink>(
     begin: usize,
     out: &mut O,
 ) -> Result<usize, RowStop<O::Fault>>
-    requires most { walk.now.most ≤ 1000 }
+    requires most { walk.now.most ≤ greatest_depth }
     requires depth { filling.depth ≤ walk.now.most }
     ensures { let T = types walk.now.table.now in (t : TypeId) (base : ℕ) (p : List ℕ) (outer : List Open)
         (way : List PartStep) → begin ≤ length walk.now.body.now → PathOf T (a_value t base p ∷ outer) way
@@ -365,7 +366,7 @@ fn walk_definition<O: RowSink>(
     at: usize,
     out: &mut O,
 ) -> Result<usize, RowStop<O::Fault>>
-    requires most { walk.now.most ≤ 1000 }
+    requires most { walk.now.most ≤ greatest_depth }
     requires depth { filling.depth ≤ walk.now.most }
     ensures { let T = types walk.now.table.now in (outer : List Open) (way : List PartStep)
         → at ≤ length walk.now.body.now → PathOf T outer way
@@ -387,7 +388,7 @@ fn walk_held<O: RowSink>(
     at: usize,
     out: &mut O,
 ) -> Result<usize, RowStop<O::Fault>>
-    requires most { walk.now.most ≤ 1000 }
+    requires most { walk.now.most ≤ greatest_depth }
     requires depth { filling.depth ≤ walk.now.most }
     ensures { let T = types walk.now.table.now in (t : TypeId) (base : ℕ) (p : List ℕ) (outer : List Open)
         (way : List PartStep) → at ≤ length walk.now.body.now → PathOf T (a_value t base p ∷ outer) way
@@ -408,7 +409,7 @@ fn walk_inside<O: RowSink>(
     at: usize,
     out: &mut O,
 ) -> Result<usize, RowStop<O::Fault>>
-    requires most { walk.now.most ≤ 1000 }
+    requires most { walk.now.most ≤ greatest_depth }
     requires depth { filling.depth ≤ walk.now.most }
     ensures { let T = types walk.now.table.now in (outer : List Open) (way : List PartStep)
         → at ≤ length walk.now.body.now → PathOf T outer way

@@ -9,6 +9,7 @@ ghost use Rattle.gob_types.specs.declared.basic.Basic.TheVariants as basics;
 ghost use Rattle.gob_types.specs.declared.kind.Kind.TheVariants as kinds;
 ghost use Rattle.gob_value.specs.Machine.Begins.{HoldsBetween};
 ghost use Rattle.gob_stream.specs.Body.{MayPut};
+ghost use Rattle.gob_stream.specs.Bounds.{greatest_depth};
 ghost use Rattle.gob_go.specs.Whole.{IsFilledWhole};
 ghost use Rattle.gob_go.specs.Machine.WholeFilled.{BeginsFilled, BeginsFilledEach, BeginsFilledFields};
 ghost use Rattle.gob_go.specs.Machine.WholeFilled.{BeginsFilledPairs, BeginsFilledTop, IsOfKind};
@@ -21,7 +22,7 @@ use gob_value::{field_number, number_at, whole_elements};
 /// each interface holds nothing, or a value of a type that is ready. It takes no memory. A false says nothing: where a
 /// definition stands in an interface, the bytes may be a value all the same.
 pub fn is_filled_whole(table: &Table, id: TypeId, body: &[u8], depth: u64) -> bool
-    requires { depth ≤ 1000 }
+    requires { depth ≤ greatest_depth }
     ensures { IsTrue result → IsFilledWhole (types table.now) id depth body.now }
 {
     match top_end(table, id, body, 0, depth) {
@@ -33,7 +34,7 @@ pub fn is_filled_whole(table: &Table, id: TypeId, body: &[u8], depth: u64) -> bo
 // Where the value of the type ends that stands in the body from the place on, behind its tag where it isn't a struct.
 #[cycle(filled)]
 fn top_end(table: &Table, id: TypeId, body: &[u8], at: usize, depth: u64) -> Option<usize>
-    requires depth { depth ≤ 1000 }
+    requires depth { depth ≤ greatest_depth }
     requires place { at ≤ length body.now }
     ensures { IfSome result (λ end. HoldsBetween (BeginsFilledTop (types table.now) id depth) body.now at end) }
 {
@@ -57,7 +58,7 @@ fn value_end(
     at: usize,
     depth: u64,
 ) -> Option<usize>
-    requires depth { depth ≤ 1000 }
+    requires depth { depth ≤ greatest_depth }
     requires place { at ≤ length body.now }
     requires kind { IsOfKind (types table.now) id kind.now }
     ensures { IfSome result (λ end. HoldsBetween (BeginsFilled (types table.now) id depth) body.now at end) }
@@ -103,7 +104,7 @@ fn elements_end(
     begin: usize,
     depth: u64,
 ) -> Option<usize>
-    requires depth { depth ≤ 1000 }
+    requires depth { depth ≤ greatest_depth }
     requires place { begin ≤ length body.now }
     ensures { IfSome result (λ end.
         HoldsBetween (BeginsFilledEach (types table.now) elem depth count) body.now begin end) }
@@ -138,7 +139,7 @@ fn entries_end(
     begin: usize,
     depth: u64,
 ) -> Option<usize>
-    requires depth { depth ≤ 1000 }
+    requires depth { depth ≤ greatest_depth }
     requires place { begin ≤ length body.now }
     ensures { IfSome result (λ end. HoldsBetween
         (BeginsFilledPairs (types table.now) entries.key entries.elem depth entries.count) body.now begin end) }
@@ -163,7 +164,7 @@ fn fields_end(
     begin: usize,
     depth: u64,
 ) -> Option<usize>
-    requires depth { depth ≤ 1000 }
+    requires depth { depth ≤ greatest_depth }
     requires place { begin ≤ length body.now }
     ensures { IfSome result (λ end.
         HoldsBetween (BeginsFilledFields (types table.now) fields.now 0 depth) body.now begin end) }
@@ -187,7 +188,7 @@ fn fields_end(
 // its bytes, no deeper than `depth`.
 #[cycle(filled)]
 fn interface_end(table: &Table, id: TypeId, body: &[u8], at: usize, depth: u64) -> Option<usize>
-    requires depth { depth + 1 ≤ 1000 }
+    requires depth { depth + 1 ≤ greatest_depth }
     requires place { at ≤ length body.now }
     requires kind { IsOfKind (types table.now) id (kinds.Basic basics.Interface) }
     ensures { IfSome result (λ end. HoldsBetween (BeginsFilled (types table.now) id (depth + 1)) body.now at end) }

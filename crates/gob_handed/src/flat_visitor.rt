@@ -2,6 +2,7 @@
 
 ghost use Rattle.std.specs.Prelude.{◌≡◌, ◌≤◌, IfSome};
 ghost use Rattle.gob_types.specs.Defined.{types};
+ghost use Rattle.gob_stream.specs.Bounds.{greatest_depth};
 ghost use Rattle.gob_tape.specs.Seeing.{unsigned_of};
 ghost use Rattle.gob_handed.specs.ValueNodes.{IsWholeFlat};
 
@@ -22,7 +23,7 @@ pub(crate) fn flat_value(
     body: &[u8],
     depth: u64,
 ) -> Option<FlatValue>
-    requires { depth ≤ 1000 }
+    requires { depth ≤ greatest_depth }
     ensures { IfSome result (λ value.
         IsWholeFlat (types table.now) id depth body.now value.nodes.items value.pool.items) }
 {

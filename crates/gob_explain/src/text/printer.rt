@@ -21,6 +21,7 @@ use crate::text::lines_out::LinesOut;
 use crate::text::names::push_type_name;
 use crate::text::values::{Behind, push_value};
 use gob_json::TextOut;
+use gob_stream::Limits;
 use gob_types::{Basic, Kind, Shapes, Table, TypeId};
 use std::alloc::{AllocError, Global};
 use std::convert::Infallible;
@@ -29,9 +30,6 @@ const TAG: &str = "the tag of a value that is no struct";
 
 // The rows of a value stand so many levels deeper than its item, with what the value's depth counts.
 const OUTER: u64 = 1;
-
-// No value is deeper that is gone over.
-const MOST_DEPTH: u64 = 1000;
 
 // Makes lines of the rows of a body. A delta stands in the line of its field's first number, a count of bytes in that
 // of the bytes, the name of what an interface holds in that of the interface, and the two numbers of a complex in one.
@@ -121,7 +119,7 @@ impl<'a, O: TextOut> Printer<'a, '_, O> {
     {
         let table = self.table;
         let body = self.body;
-        let walked = match walk_body(table, id, body, MOST_DEPTH, self) {
+        let walked = match walk_body(table, id, body, Limits::GREATEST_DEPTH, self) {
             Ok(walked) => walked,
             Err(never) => match never {},
         };
