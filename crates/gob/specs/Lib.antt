@@ -1,5 +1,5 @@
 pub mod Asked
 pub mod Closing
-pub mod Stop
+pub mod Exit
 pub mod Verdicts
 pub mod WayOn

@@ -10,8 +10,8 @@ use Rattle.gob_words.specs.Words.{text_of}
 use Rattle.gob_words.specs.declared.view.View.{View}
 use Rattle.gob_words.specs.declared.view.ViewCommand.{ViewCommand}
 use Rattle.gob_words.specs.declared.view.ViewCommand.TheVariants as command
-use Rattle.gob.specs.declared.Stop.{Stop}
-use Rattle.gob.specs.declared.Stop.TheVariants.{Run, RefusedFile}
+use Rattle.gob.specs.declared.Exit.{Exit}
+use Rattle.gob.specs.declared.Exit.TheVariants.{Run, RefusedFile}
 
 -- the refusals of this command are told with the way on
 abbrev pub is_told : ViewCommand → Bool
@@ -45,17 +45,17 @@ pub record IsWayOn (name line : List ℕ) : Type 0 where
 
 -- what stops the program in place of a refusal of the file of this name: that and the line, or where no memory was had
 -- for the line it alone
-abbrev pub TellsRefusal : (name : List ℕ) → Refusal → Stop → Type 0
+abbrev pub TellsRefusal : (name : List ℕ) → Refusal → Exit → Type 0
 TellsRefusal name R (RefusedFile fault line) = (fault ≡ run_fault.Refused R) × IsWayOn name (string_bytes line)
 TellsRefusal name R told = told ≡ Run (run_fault.Refused R)
 
 -- what stops the program in place of what stopped a view's run over the file of this name
-abbrev pub TellsWayOn : (name : List ℕ) → (stop told : Stop) → Type 0
+abbrev pub TellsWayOn : (name : List ℕ) → (stop told : Exit) → Type 0
 TellsWayOn name (Run (run_fault.Refused R)) told = TellsRefusal name R told
 TellsWayOn name stop told = told ≡ stop
 
 -- how a view's run ends the program that ended so
-abbrev pub WithWayOn : View → (ending result : Result (Unit {0}) Stop) → Type 0
+abbrev pub WithWayOn : View → (ending result : Result (Unit {0}) Exit) → Type 0
 WithWayOn view (Ok u) result = result ≡ Ok u
 WithWayOn view (Err stop) (Ok u) = ⊥
 WithWayOn view (Err stop) (Err told) = MatchOption (told_name view) (told ≡ stop) (λ name. TellsWayOn name stop told)

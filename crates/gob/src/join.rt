@@ -1,6 +1,6 @@
 //! The files that are joined into one stream.
 
-use crate::{Stop, buffered, opened_by_name, settled};
+use crate::{Exit, buffered, opened_by_name, settled};
 use gob_go_writer::GoWriter;
 use gob_join::{JoinFault, join_file};
 use gob_stream::{Input, Output};
@@ -12,10 +12,10 @@ use std::fs::File;
 use std::io::{Read, Write};
 
 /// Writes the values of the files, in order, as one stream, up to the first file that isn't read to its end.
-pub(crate) fn join(rt: &HostRuntime, view: &View, files: &[&str]) -> Result<(), Stop> {
+pub(crate) fn join(rt: &HostRuntime, view: &View, files: &[&str]) -> Result<(), Exit> {
     let mut output = Output::new(buffered(rt.alloc(), rt.stdout())?);
     match join_all(rt, view, files, &mut output) {
-        Err(Stop::Run(ToolFault::Write)) => settled(Err(ToolFault::Write), output).ending,
+        Err(Exit::Run(ToolFault::Write)) => settled(Err(ToolFault::Write), output).ending,
         joined => {
             let ended = end_run(Ok(()), &mut output);
             settled(ended, output).ending?;
@@ -30,9 +30,9 @@ fn join_all<W: Write>(
     view: &View,
     files: &[&str],
     output: &mut Output<W>,
-) -> Result<(), Stop> {
+) -> Result<(), Exit> {
     let Ok(mut joined) = GoWriter::new(rt.alloc(), limits_of(view)) else {
-        return Err(Stop::Run(ToolFault::Memory));
+        return Err(Exit::Run(ToolFault::Memory));
     };
     for name in files {
         join_named(rt, view, name, &mut joined, output)?;
@@ -47,7 +47,7 @@ fn join_named<W: Write>(
     name: &str,
     joined: &mut GoWriter,
     output: &mut Output<W>,
-) -> Result<(), Stop> {
+) -> Result<(), Exit> {
     if name == "-" {
         return take_in(rt.alloc(), view, name, rt.stdin(), joined, output);
     }
@@ -63,7 +63,7 @@ fn take_in<R: Read + Drop, W: Write>(
     reader: R,
     joined: &mut GoWriter,
     output: &mut Output<W>,
-) -> Result<(), Stop> {
+) -> Result<(), Exit> {
     let mut input = Input::new(reader);
     match join_file(alloc, &mut input, joined, output, limits_of(view)) {
         Ok(()) => Ok(()),
@@ -72,19 +72,19 @@ fn take_in<R: Read + Drop, W: Write>(
 }
 
 // What stops the program at this fault of the file.
-fn stop_at(alloc: Global, name: &str, fault: JoinFault) -> Result<Stop, AllocError> {
+fn stop_at(alloc: Global, name: &str, fault: JoinFault) -> Result<Exit, AllocError> {
     let line = match fault {
-        JoinFault::Write => return Ok(Stop::Run(ToolFault::Write)),
+        JoinFault::Write => return Ok(Exit::Run(ToolFault::Write)),
         // A writer is asked for no more behind a fault.
-        JoinFault::Memory | JoinFault::Failed => return Ok(Stop::Run(ToolFault::Memory)),
+        JoinFault::Memory | JoinFault::Failed => return Ok(Exit::Run(ToolFault::Memory)),
         JoinFault::Refused(refusal) => {
             let line = format!(in alloc; "gob: {name}: {refusal}")?;
-            return Ok(Stop::Lines(escaped(alloc, line.as_str())?));
+            return Ok(Exit::Lines(escaped(alloc, line.as_str())?));
         }
         JoinFault::Full(reason) => {
             format!(in alloc; "{name}: no more goes into one stream: {reason}")?
         }
         JoinFault::Read => format!(in alloc; "{name}: read fault")?,
     };
-    Ok(Stop::View(escaped(alloc, line.as_str())?))
+    Ok(Exit::View(escaped(alloc, line.as_str())?))
 }

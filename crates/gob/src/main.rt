@@ -26,8 +26,8 @@ ghost use Rattle.std.specs.Process.{exit_status};
 ghost use Rattle.gob_stream.specs.Calls.Ends.{failed_writes, writer_of};
 ghost use Rattle.gob_tool.specs.declared.fault.ToolFault.TheVariants as fault;
 ghost use Rattle.gob_words.specs.Escaped.{IsUnobeyed};
-ghost use Rattle.gob.specs.Stop.{stop_status, ending_status, HasAnswered, EndsRun, EndsView, IsAnswered, IsSettled};
-ghost use Rattle.gob.specs.Stop.{IsQuietIfClosed, IsToldOnce, IsUnopened, seen_after, seen_of, unused};
+ghost use Rattle.gob.specs.Exit.{stop_status, ending_status, HasAnswered, EndsRun, EndsView, IsAnswered, IsSettled};
+ghost use Rattle.gob.specs.Exit.{IsQuietIfClosed, IsToldOnce, IsUnopened, seen_after, seen_of, unused};
 
 mod asked;
 mod join;
@@ -65,7 +65,7 @@ const BLOCK: usize = 65536;
 
 // What ends the program with a line on standard error.
 #[derive(Drop)]
-enum Stop {
+enum Exit {
     Words(OrderFault),
     Run(ToolFault),
     // A refusal whose line is on standard output already.
@@ -87,54 +87,54 @@ enum Stop {
 // What came of a run: how it ends the program, the writer as it left it, and how many of its writes and flushes failed.
 #[derive(Drop)]
 struct AfterRun<W> {
-    ending: Result<(), Stop>,
+    ending: Result<(), Exit>,
     pipe: Pipe<W>,
     failures: u64,
 }
 
-impl Stop {
+impl Exit {
     fn status(&self) -> u8
         ensures { result ≡ stop_status self.now }
     {
         match self {
-            Stop::Words(fault) => fault.status(),
-            Stop::Run(fault) | Stop::Told(fault) | Stop::RefusedFile(fault, _) => status(fault),
-            Stop::LeftOut(_) | Stop::Lines(_) => 1,
-            Stop::Verified(verdict) => verdict.status(),
-            Stop::View(_) | Stop::Unread => 2,
+            Exit::Words(fault) => fault.status(),
+            Exit::Run(fault) | Exit::Told(fault) | Exit::RefusedFile(fault, _) => status(fault),
+            Exit::LeftOut(_) | Exit::Lines(_) => 1,
+            Exit::Verified(verdict) => verdict.status(),
+            Exit::View(_) | Exit::Unread => 2,
         }
     }
 }
 
-impl fmt::Display for Stop {
+impl fmt::Display for Exit {
     ghost use Rattle.std.specs.Prelude.{Some};
-    ghost use Rattle.gob.specs.Stop.{stop_line};
+    ghost use Rattle.gob.specs.Exit.{stop_line};
 
     ghost output = { λ stop. Some (stop_line stop) };
 
     fn fmt<W: fmt::Write>(&self, f: &mut fmt::Formatter<W>) -> fmt::Result {
         match self {
-            Stop::Words(fault) => write!(f, "{fault}"),
-            Stop::Run(fault) | Stop::Told(fault) => write!(f, "{fault}"),
-            Stop::View(line) => write!(f, "gob: {line}"),
-            Stop::RefusedFile(fault, line) => write!(f, "{fault}\n{line}"),
-            Stop::LeftOut(report) => f.write_str(report.as_str()),
-            Stop::Lines(line) => f.write_str(line.as_str()),
-            Stop::Verified(_) => Ok(()),
-            Stop::Unread => write!(f, "gob: write fault"),
+            Exit::Words(fault) => write!(f, "{fault}"),
+            Exit::Run(fault) | Exit::Told(fault) => write!(f, "{fault}"),
+            Exit::View(line) => write!(f, "gob: {line}"),
+            Exit::RefusedFile(fault, line) => write!(f, "{fault}\n{line}"),
+            Exit::LeftOut(report) => f.write_str(report.as_str()),
+            Exit::Lines(line) => f.write_str(line.as_str()),
+            Exit::Verified(_) => Ok(()),
+            Exit::Unread => write!(f, "gob: write fault"),
         }
     }
 }
 
-impl From<AllocError> for Stop {
+impl From<AllocError> for Exit {
     ghost use Rattle.std.specs.Prelude.{◌≡◌};
-    ghost use Rattle.gob.specs.declared.Stop.TheVariants.{Run};
+    ghost use Rattle.gob.specs.declared.Exit.TheVariants.{Run};
     ghost use Rattle.gob_tool.specs.declared.fault.ToolFault.TheVariants as fault;
 
     ghost from_gives = { λ _ stop. stop ≡ Run fault.Memory };
 
-    fn from(_: AllocError) -> Stop {
-        Stop::Run(ToolFault::Memory)
+    fn from(_: AllocError) -> Exit {
+        Exit::Run(ToolFault::Memory)
     }
 }
 
@@ -143,16 +143,16 @@ fn main(rt: HostRuntime) -> ExitCode {
 }
 
 // Tells what stopped the run, and gives the exit status.
-fn end(rt: &HostRuntime, ending: Result<(), Stop>) -> ExitCode
+fn end(rt: &HostRuntime, ending: Result<(), Exit>) -> ExitCode
     ensures { exit_status result ≡ ending_status ending }
 {
     match ending {
         Ok(()) => ExitCode::SUCCESS,
         // Whoever closed the pipe has what they wanted, so nothing is said.
-        Err(Stop::Unread) => ExitCode::from(Stop::Unread.status()),
-        Err(Stop::Told(fault)) => ExitCode::from(status(&fault)),
+        Err(Exit::Unread) => ExitCode::from(Exit::Unread.status()),
+        Err(Exit::Told(fault)) => ExitCode::from(status(&fault)),
         // Each file has its line on standard output.
-        Err(Stop::Verified(verdict)) => ExitCode::from(verdict.status()),
+        Err(Exit::Verified(verdict)) => ExitCode::from(verdict.status()),
         Err(stop) => {
             // Where standard error takes no line, the status still tells.
             let _ = eprintln!(rt; "{stop}");
@@ -162,7 +162,7 @@ fn end(rt: &HostRuntime, ending: Result<(), Stop>) -> ExitCode
 }
 
 // Judges the words, and does what they ask for.
-fn run(rt: &HostRuntime) -> Result<(), Stop> {
+fn run(rt: &HostRuntime) -> Result<(), Exit> {
     let words = words_of(rt)?;
     let names = words
         .iter()
@@ -178,30 +178,30 @@ fn run(rt: &HostRuntime) -> Result<(), Stop> {
         }
         Ok(Asked::Files(view, files)) => verify(rt, &view, &files),
         Err(ViewFault::Order(fault)) => answer(rt, fault),
-        Err(ViewFault::Word(line)) => Err(Stop::View(line)),
+        Err(ViewFault::Word(line)) => Err(Exit::View(line)),
     }
 }
 
 // Prints the help that was asked for; any other fault of the words stops the program.
-fn answer(rt: &HostRuntime, fault: OrderFault) -> Result<(), Stop>
+fn answer(rt: &HostRuntime, fault: OrderFault) -> Result<(), Exit>
     ensures { IsAnswered fault result }
 {
     match fault {
         OrderFault::Help(text) => printed(println!(rt; "{text}")),
-        OrderFault::Words => Err(Stop::Words(OrderFault::Words)),
-        OrderFault::Memory => Err(Stop::Words(OrderFault::Memory)),
+        OrderFault::Words => Err(Exit::Words(OrderFault::Words)),
+        OrderFault::Memory => Err(Exit::Words(OrderFault::Memory)),
     }
 }
 
 // Help that isn't printed is a failed write.
-fn printed(written: io::Result<()>) -> Result<(), Stop>
-    ensures { MatchResult written (λ _. result ≡ Ok tt) (λ _. result ≡ Err (Stop.Run fault.Write)) }
+fn printed(written: io::Result<()>) -> Result<(), Exit>
+    ensures { MatchResult written (λ _. result ≡ Ok tt) (λ _. result ≡ Err (Exit.Run fault.Write)) }
 {
-    written.map_err(|_| Stop::Run(ToolFault::Write))
+    written.map_err(|_| Exit::Run(ToolFault::Write))
 }
 
 // Opens the file that has the wanted type, if the command wants one.
-fn run_for(rt: &HostRuntime, order: &Order) -> Result<(), Stop> {
+fn run_for(rt: &HostRuntime, order: &Order) -> Result<(), Exit> {
     match order.wanted {
         None => run_on(rt, order, b"".as_slice()),
         Some(path) => {
@@ -212,7 +212,7 @@ fn run_for(rt: &HostRuntime, order: &Order) -> Result<(), Stop> {
 }
 
 // Opens the input, then runs.
-fn run_on<Q: Read + Drop>(rt: &HostRuntime, order: &Order, wanted: Q) -> Result<(), Stop> {
+fn run_on<Q: Read + Drop>(rt: &HostRuntime, order: &Order, wanted: Q) -> Result<(), Exit> {
     let writer = buffered(rt.alloc(), rt.stdout())?;
     let mut wanted = Input::new(wanted);
     match order.input {
@@ -228,7 +228,7 @@ fn run_on<Q: Read + Drop>(rt: &HostRuntime, order: &Order, wanted: Q) -> Result<
 }
 
 // Opens the input of a view, then shows it.
-fn run_view_on(rt: &HostRuntime, view: &View) -> Result<(), Stop> {
+fn run_view_on(rt: &HostRuntime, view: &View) -> Result<(), Exit> {
     let writer = buffered(rt.alloc(), rt.stdout())?;
     let mut told = None;
     let ending = match view.input {
@@ -254,7 +254,7 @@ fn show_watched<R: Read + Drop, W: Write + Drop>(
     size: Option<u64>,
     writer: BufWriter<Pipe<W>>,
     told: &mut Option<Salvaged>,
-) -> Result<(), Stop> {
+) -> Result<(), Exit> {
     let mut input = Input::new(watched(rt, reader, size, view.progress));
     let ending = show_out(rt.alloc(), view, &mut input, writer, told).ending;
     input.into_inner().end();
@@ -262,7 +262,7 @@ fn show_watched<R: Read + Drop, W: Write + Drop>(
 }
 
 // How the run of a view ends the program: where `why` has said why the input is refused, no line says it once more.
-fn told_once(command: ViewCommand, ending: Result<(), Stop>) -> Result<(), Stop>
+fn told_once(command: ViewCommand, ending: Result<(), Exit>) -> Result<(), Exit>
     ensures status { ending_status result ≡ ending_status ending }
     ensures why { command ≡ ViewCommand.Why → IsToldOnce ending result }
     ensures others { command ≢ ViewCommand.Why → result ≡ ending }
@@ -271,18 +271,18 @@ fn told_once(command: ViewCommand, ending: Result<(), Stop>) -> Result<(), Stop>
         return ending;
     }
     match ending {
-        Err(Stop::Run(ToolFault::Refused(refusal))) => {
-            Err(Stop::Told(ToolFault::Refused(refusal)))
+        Err(Exit::Run(ToolFault::Refused(refusal))) => {
+            Err(Exit::Told(ToolFault::Refused(refusal)))
         }
         other => other,
     }
 }
 
 // Tells what was kept of an input and what was left out: where that is damaged bytes, this stops the program.
-fn tell(rt: &HostRuntime, kept: &Salvaged) -> Result<(), Stop> {
+fn tell(rt: &HostRuntime, kept: &Salvaged) -> Result<(), Exit> {
     let text = report(rt.alloc(), kept)?;
     if kept.is_damaged() {
-        return Err(Stop::LeftOut(text));
+        return Err(Exit::LeftOut(text));
     }
     // Where standard error takes no line, the status still tells.
     let _ = eprintln!(rt; "{text}");
@@ -290,41 +290,41 @@ fn tell(rt: &HostRuntime, kept: &Salvaged) -> Result<(), Stop> {
 }
 
 // A run writes line by line, and each write to the system is dear.
-fn buffered<W: Write + Drop>(alloc: Global, writer: W) -> Result<BufWriter<Pipe<W>>, Stop>
+fn buffered<W: Write + Drop>(alloc: Global, writer: W) -> Result<BufWriter<Pipe<W>>, Exit>
     ensures { IfOk result (λ buffered.
         writer_contents (λ pipe. W.contents pipe.writer) buffered ≡ append_known (W.contents writer) []) }
 {
     match BufWriter::with_capacity(alloc, BLOCK, Pipe::new(writer)) {
         Ok(buffered) => Ok(buffered),
-        Err(_) => Err(Stop::Run(ToolFault::Memory)),
+        Err(_) => Err(Exit::Run(ToolFault::Memory)),
     }
 }
 
 // The words of the command line. One that isn't UTF-8 is none that the program knows.
-fn words_of(rt: &HostRuntime) -> Result<Vec<String>, Stop> {
+fn words_of(rt: &HostRuntime) -> Result<Vec<String>, Exit> {
     match env::args(rt) {
         Ok(words) => Ok(words.collect(rt.alloc())?),
-        Err(error) if error.kind() == ErrorKind::OutOfMemory => Err(Stop::Run(ToolFault::Memory)),
-        Err(_) => Err(Stop::Words(OrderFault::Words)),
+        Err(error) if error.kind() == ErrorKind::OutOfMemory => Err(Exit::Run(ToolFault::Memory)),
+        Err(_) => Err(Exit::Words(OrderFault::Words)),
     }
 }
 
 // A file that isn't opened is one that isn't read.
-fn opened(file: io::Result<File>) -> Result<File, Stop>
-    ensures { MatchResult file (λ file. result ≡ Ok file) (λ _. result ≡ Err (Stop.Run fault.Read)) }
+fn opened(file: io::Result<File>) -> Result<File, Exit>
+    ensures { MatchResult file (λ file. result ≡ Ok file) (λ _. result ≡ Err (Exit.Run fault.Read)) }
 {
-    file.map_err(|_| Stop::Run(ToolFault::Read))
+    file.map_err(|_| Exit::Run(ToolFault::Read))
 }
 
 // A view's file that isn't opened is told by its name, with the system's reason.
-fn opened_by_name(alloc: Global, path: &str, file: io::Result<File>) -> Result<File, Stop>
+fn opened_by_name(alloc: Global, path: &str, file: io::Result<File>) -> Result<File, Exit>
     ensures { MatchResult file (λ file. result ≡ Ok file) (λ _. IsErrAnd result IsUnopened) }
 {
     match file {
         Ok(file) => Ok(file),
         Err(error) => match unopened_line(alloc, path, &error) {
-            Ok(line) => Err(Stop::View(line)),
-            Err(_) => Err(Stop::Run(ToolFault::Memory)),
+            Ok(line) => Err(Exit::View(line)),
+            Err(_) => Err(Exit::Run(ToolFault::Memory)),
         },
     }
 }
@@ -409,13 +409,13 @@ fn but_for_lost(answer: Result<(), ToolFault>, lost: &[u8]) -> Result<(), ToolFa
 }
 
 // What ends the program behind a run that answered this.
-fn ended(answer: Result<(), ToolFault>, is_unread: bool) -> Result<(), Stop>
+fn ended(answer: Result<(), ToolFault>, is_unread: bool) -> Result<(), Exit>
     ensures answered { HasAnswered answer result }
-    ensures unread { result ≡ Err Stop.Unread → IsTrue is_unread }
+    ensures unread { result ≡ Err Exit.Unread → IsTrue is_unread }
 {
     match answer {
         Ok(()) => Ok(()),
-        Err(ToolFault::Write) if is_unread => Err(Stop::Unread),
-        Err(fault) => Err(Stop::Run(fault)),
+        Err(ToolFault::Write) if is_unread => Err(Exit::Unread),
+        Err(fault) => Err(Exit::Run(fault)),
     }
 }

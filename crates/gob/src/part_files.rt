@@ -2,7 +2,7 @@
 
 ghost use Rattle.std.specs.Prelude.{◌≡◌, None, IsTrue, OnErr, OnOk, is_some};
 
-use crate::{BLOCK, Stop, unopened_line};
+use crate::{BLOCK, Exit, unopened_line};
 use gob_split::{NotWritten, Parts};
 use gob_tool::ToolFault;
 use std::alloc::{AllocError, Global};
@@ -20,7 +20,7 @@ pub(crate) struct PartFiles<'a> {
     // The last one, until it is finished.
     last: Option<BufWriter<File>>,
     // What stops the program, where a call has failed.
-    stop: Option<Stop>,
+    stop: Option<Exit>,
 }
 
 impl<'a> PartFiles<'a> {
@@ -41,11 +41,11 @@ impl<'a> PartFiles<'a> {
     }
 
     /// How a run that answered so ends the program: behind a failed write by what is wrong with the file.
-    pub(crate) fn ending(self, answer: Result<(), ToolFault>) -> Result<(), Stop> {
+    pub(crate) fn ending(self, answer: Result<(), ToolFault>) -> Result<(), Exit> {
         match (answer, self.stop) {
             (Ok(()), _) => Ok(()),
             (Err(ToolFault::Write), Some(stop)) => Err(stop),
-            (Err(fault), _) => Err(Stop::Run(fault)),
+            (Err(fault), _) => Err(Exit::Run(fault)),
         }
     }
 
@@ -74,8 +74,8 @@ impl<'a> PartFiles<'a> {
             Err(memory) => Err(memory),
         };
         self.stop = Some(match line {
-            Ok(line) => Stop::View(line),
-            Err(_) => Stop::Run(ToolFault::Memory),
+            Ok(line) => Exit::View(line),
+            Err(_) => Exit::Run(ToolFault::Memory),
         });
         NotWritten
     }

@@ -2,7 +2,7 @@
 
 use crate::part_files::PartFiles;
 use crate::way_on::with_way_on;
-use crate::{Stop, opened_by_name, unopened_line};
+use crate::{Exit, opened_by_name, unopened_line};
 use gob_split::{PartSize, run_split};
 use gob_stream::Input;
 use gob_tool::ToolFault;
@@ -13,7 +13,7 @@ use std::fs::File;
 use std::io::Read;
 
 /// Opens the input, makes the directory where there is none, and splits the stream into files there.
-pub(crate) fn split(rt: &HostRuntime, view: &View, splitting: &Splitting) -> Result<(), Stop> {
+pub(crate) fn split(rt: &HostRuntime, view: &View, splitting: &Splitting) -> Result<(), Exit> {
     let ending = match view.input {
         None => split_into_files(rt, view, splitting, rt.stdin()),
         Some(path) => {
@@ -30,7 +30,7 @@ fn split_into_files<R: Read + Drop>(
     view: &View,
     splitting: &Splitting,
     reader: R,
-) -> Result<(), Stop> {
+) -> Result<(), Exit> {
     make_directory(rt, splitting.directory)?;
     let mut input = Input::new(reader);
     let mut files = PartFiles::new(rt, splitting.directory);
@@ -46,15 +46,15 @@ fn split_into_files<R: Read + Drop>(
 }
 
 // Makes the directory, and those around it, where there is none.
-fn make_directory(rt: &HostRuntime, name: &str) -> Result<(), Stop> {
+fn make_directory(rt: &HostRuntime, name: &str) -> Result<(), Exit> {
     if name.is_empty() {
         // The files of no directory would be those of the root.
         let line = format!(in rt.alloc(); "no directory has an empty name")?;
-        return Err(Stop::View(line));
+        return Err(Exit::View(line));
     }
     match fs::create_dir_all(rt, name) {
         Ok(()) => Ok(()),
-        Err(error) => Err(Stop::View(unopened_line(rt.alloc(), name, &error)?)),
+        Err(error) => Err(Exit::View(unopened_line(rt.alloc(), name, &error)?)),
     }
 }
 

@@ -1,10 +1,10 @@
 //! What is said of some files.
 
 ghost use Rattle.std.specs.Prelude.{◌≡◌};
-ghost use Rattle.gob.specs.Stop.{EndsWith};
+ghost use Rattle.gob.specs.Exit.{EndsWith};
 ghost use Rattle.gob.specs.Verdicts.{verdict_of, verdict_status, worse};
 
-use crate::Stop;
+use crate::Exit;
 use gob_tool::ToolFault;
 
 /// What was said of a file, or of the worst of some.
@@ -53,12 +53,12 @@ impl Verdict {
     }
 
     /// How the program ends where this was said of the worst file.
-    pub(crate) fn ending(self) -> Result<(), Stop>
+    pub(crate) fn ending(self) -> Result<(), Exit>
         ensures { EndsWith self result }
     {
         match self {
             Verdict::Whole => Ok(()),
-            Verdict::Refused | Verdict::NotRead => Err(Stop::Verified(self)),
+            Verdict::Refused | Verdict::NotRead => Err(Exit::Verified(self)),
         }
     }
 }

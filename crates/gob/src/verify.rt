@@ -2,7 +2,7 @@
 
 use crate::progress::{size_of, watched};
 use crate::verdict::Verdict;
-use crate::{Stop, unopened_line};
+use crate::{Exit, unopened_line};
 use gob_stream::Input;
 use gob_tool::ToolFault;
 use gob_views::{limits_of, tell_file};
@@ -15,7 +15,7 @@ use std::io::{ErrorKind, IsTerminal, Read, Write};
 const LARGE: u64 = 64_000_000;
 
 /// Verifies the files one after another, and goes on behind each that is refused or isn't read.
-pub(crate) fn verify(rt: &HostRuntime, view: &View, files: &[&str]) -> Result<(), Stop> {
+pub(crate) fn verify(rt: &HostRuntime, view: &View, files: &[&str]) -> Result<(), Exit> {
     let mut worst = Verdict::Whole;
     for file in files {
         worst = worst.or(verify_file(rt, view, file)?);
@@ -24,7 +24,7 @@ pub(crate) fn verify(rt: &HostRuntime, view: &View, files: &[&str]) -> Result<()
 }
 
 // Says on standard output what there is in a file, or why that can't be said. A minus sign is standard input.
-fn verify_file(rt: &HostRuntime, view: &View, name: &str) -> Result<Verdict, Stop> {
+fn verify_file(rt: &HostRuntime, view: &View, name: &str) -> Result<Verdict, Exit> {
     if name == "-" {
         return say(rt, view, name, rt.stdin(), None);
     }
@@ -48,13 +48,13 @@ fn say<R: Read + Drop>(
     name: &str,
     reader: R,
     size: Option<u64>,
-) -> Result<Verdict, Stop> {
+) -> Result<Verdict, Exit> {
     let is_waited_for = is_large(size) && rt.stderr().is_terminal();
     let mut input = Input::new(watched(rt, reader, size, view.progress || is_waited_for));
     let told = tell_file(rt.alloc(), name, &mut input, limits_of(view));
     input.into_inner().end();
     let Ok(told) = told else {
-        return Err(Stop::Run(ToolFault::Memory));
+        return Err(Exit::Run(ToolFault::Memory));
     };
     sent(rt.stdout().write_all(&told.line))?;
     Ok(Verdict::of(&told.answer))
@@ -66,10 +66,10 @@ fn is_large(size: Option<u64>) -> bool {
 }
 
 // A line that isn't written is a failed write, and ends the program quietly where the other end of a pipe is closed.
-fn sent(written: io::Result<()>) -> Result<(), Stop> {
+fn sent(written: io::Result<()>) -> Result<(), Exit> {
     match written {
         Ok(()) => Ok(()),
-        Err(error) if error.kind() == ErrorKind::BrokenPipe => Err(Stop::Unread),
-        Err(_) => Err(Stop::Run(ToolFault::Write)),
+        Err(error) if error.kind() == ErrorKind::BrokenPipe => Err(Exit::Unread),
+        Err(_) => Err(Exit::Run(ToolFault::Write)),
     }
 }

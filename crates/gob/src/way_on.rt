@@ -4,7 +4,7 @@ ghost use Rattle.std.specs.Prelude.{◌≡◌, ◌++◌, IfOk, codes, string_byt
 ghost use Rattle.gob_words.specs.Words.{text_of};
 ghost use Rattle.gob.specs.WayOn.{IsWayOn, TellsWayOn, WithWayOn, end_of_options, is_told, told_name};
 
-use crate::Stop;
+use crate::Exit;
 use gob_tool::ToolFault;
 use gob_words::{View, ViewCommand, escaped, quoted};
 use std::alloc::{AllocError, Global};
@@ -13,8 +13,8 @@ use std::alloc::{AllocError, Global};
 pub(crate) fn with_way_on(
     alloc: Global,
     view: &View<'_>,
-    ending: Result<(), Stop>,
-) -> Result<(), Stop>
+    ending: Result<(), Exit>,
+) -> Result<(), Exit>
     ensures { WithWayOn view.now ending result }
 {
     let Some(name) = told_name(view) else {
@@ -60,26 +60,26 @@ fn is_told(command: ViewCommand) -> bool
 }
 
 // What stops the program in place of this, where the file has this name.
-fn stop_in(alloc: Global, name: &str, stop: Stop) -> Stop
+fn stop_in(alloc: Global, name: &str, stop: Exit) -> Exit
     ensures { TellsWayOn name.now stop result }
 {
     match stop {
-        Stop::Run(fault) => fault_in(alloc, name, fault),
+        Exit::Run(fault) => fault_in(alloc, name, fault),
         stop => stop,
     }
 }
 
 // What stops the program where this stopped the run.
-fn fault_in(alloc: Global, name: &str, fault: ToolFault) -> Stop
-    ensures { TellsWayOn name.now (Stop.Run fault) result }
+fn fault_in(alloc: Global, name: &str, fault: ToolFault) -> Exit
+    ensures { TellsWayOn name.now (Exit.Run fault) result }
 {
     match fault {
         ToolFault::Refused(refusal) => match way_on(alloc, name) {
-            Ok(line) => Stop::RefusedFile(ToolFault::Refused(refusal), line),
+            Ok(line) => Exit::RefusedFile(ToolFault::Refused(refusal), line),
             // Without memory for the line the refusal is told alone.
-            Err(_) => Stop::Run(ToolFault::Refused(refusal)),
+            Err(_) => Exit::Run(ToolFault::Refused(refusal)),
         },
-        fault => Stop::Run(fault),
+        fault => Exit::Run(fault),
     }
 }
 

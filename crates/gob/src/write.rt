@@ -1,7 +1,7 @@
 //! The stream that lines say.
 
 use crate::pipe::Pipe;
-use crate::{Stop, buffered, opened_by_name, settled};
+use crate::{Exit, buffered, opened_by_name, settled};
 use gob_stream::{Input, Output};
 use gob_tool::ToolFault;
 use gob_views::limits_of;
@@ -12,7 +12,7 @@ use std::fs::File;
 use std::io::{BufWriter, Read, Write};
 
 /// Opens the file of the lines, then writes their stream.
-pub(crate) fn write(rt: &HostRuntime, view: &View) -> Result<(), Stop> {
+pub(crate) fn write(rt: &HostRuntime, view: &View) -> Result<(), Exit> {
     let writer = buffered(rt.alloc(), rt.stdout())?;
     match view.input {
         None => write_out(rt.alloc(), view, &mut Input::new(rt.stdin()), writer),
@@ -29,7 +29,7 @@ fn write_out<R: Read, W: Write + Drop>(
     view: &View,
     input: &mut Input<R>,
     writer: BufWriter<Pipe<W>>,
-) -> Result<(), Stop> {
+) -> Result<(), Exit> {
     let mut output = Output::new(writer);
     match run_write(alloc, input, &mut output, limits_of(view), view.line) {
         Ok(()) => settled(Ok(()), output).ending,
@@ -38,7 +38,7 @@ fn write_out<R: Read, W: Write + Drop>(
         Err(LinesFault::Memory) => settled(Err(ToolFault::Memory), output).ending,
         Err(fault) => {
             settled(Ok(()), output).ending?;
-            Err(Stop::Lines(fault.to_string(alloc)?))
+            Err(Exit::Lines(fault.to_string(alloc)?))
         }
     }
 }

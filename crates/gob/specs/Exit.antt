@@ -16,15 +16,15 @@ use Rattle.gob_words.specs.Words.{order_line, order_status}
 use Rattle.gob_words.specs.declared.view.View.{View}
 use Rattle.gob_views.specs.Running.{ViewAnswers}
 use Rattle.gob.specs.declared.AfterRun.{AfterRun}
-use Rattle.gob.specs.declared.Stop.{Stop}
-use Rattle.gob.specs.declared.Stop.TheVariants.{Words, Run, Told, RefusedFile, LeftOut, Lines, Verified, Unread}
-use Rattle.gob.specs.declared.Stop.TheVariants as stop
+use Rattle.gob.specs.declared.Exit.{Exit}
+use Rattle.gob.specs.declared.Exit.TheVariants.{Words, Run, Told, RefusedFile, LeftOut, Lines, Verified, Unread}
+use Rattle.gob.specs.declared.Exit.TheVariants as stop
 use Rattle.gob.specs.declared.verdict.Verdict.{Verdict}
 use Rattle.gob.specs.declared.verdict.Verdict.TheVariants as verdict
 use Rattle.gob.specs.Verdicts.{verdict_status}
 
 -- the exit status after what ends it with a line
-abbrev pub stop_status : Stop → ℕ
+abbrev pub stop_status : Exit → ℕ
 stop_status (Words fault) = order_status fault
 stop_status (Run fault) = fault_status fault
 stop_status (Told fault) = fault_status fault
@@ -36,13 +36,13 @@ stop_status (Verified said) = verdict_status said
 stop_status Unread = 2
 
 -- the exit status
-abbrev pub ending_status : Result (Unit {0}) Stop → ℕ
+abbrev pub ending_status : Result (Unit {0}) Exit → ℕ
 ending_status (Ok _) = 0
 ending_status (Err stop) = stop_status stop
 
 -- the line on standard error, or the two; none is printed where nobody reads what is written, where it is told already,
 -- or where each file has a line
-abbrev pub stop_line : Stop → List ℕ
+abbrev pub stop_line : Exit → List ℕ
 stop_line (Words fault) = order_line fault
 stop_line (Run fault) = fault_line fault
 stop_line (Told fault) = fault_line fault
@@ -54,7 +54,7 @@ stop_line (Verified said) = []
 stop_line Unread = fault_line run_fault.Write
 
 -- the run that ends the program so has answered this
-abbrev pub HasAnswered : Result (Unit {0}) ToolFault → Result (Unit {0}) Stop → Type 0
+abbrev pub HasAnswered : Result (Unit {0}) ToolFault → Result (Unit {0}) Exit → Type 0
 HasAnswered answer (Ok _) = answer ≡ Ok tt
 HasAnswered answer (Err (Words fault)) = ⊥
 HasAnswered answer (Err (Run fault)) = answer ≡ Err fault
@@ -67,22 +67,22 @@ HasAnswered answer (Err (Verified said)) = ⊥
 HasAnswered answer (Err Unread) = answer ≡ Err run_fault.Write
 
 -- a refusal is told once: where the run of `why` has said it, and by no other end
-abbrev pub IsToldOnce : (ending result : Result (Unit {0}) Stop) → Type 0
+abbrev pub IsToldOnce : (ending result : Result (Unit {0}) Exit) → Type 0
 IsToldOnce (Err (Run (run_fault.Refused refusal))) result = result ≡ Err (Told (run_fault.Refused refusal))
 IsToldOnce ending result = result ≡ ending
 
 -- a file wasn't opened: that is told, unless there is no memory to
-abbrev pub IsUnopened : Stop → Type 0
+abbrev pub IsUnopened : Exit → Type 0
 IsUnopened (stop.View line) = ⊤
 IsUnopened end = end ≡ Run run_fault.Memory
 
 -- how the program ends where this was said of the worst file
-abbrev pub EndsWith : Verdict → Result (Unit {0}) Stop → Type 0
+abbrev pub EndsWith : Verdict → Result (Unit {0}) Exit → Type 0
 EndsWith verdict.Whole result = result ≡ Ok tt
 EndsWith said result = result ≡ Err (Verified said)
 
 -- what comes of a fault of the words: help is printed, unless that fails, and any other stops the program
-abbrev pub IsAnswered : OrderFault → Result (Unit {0}) Stop → Type 0
+abbrev pub IsAnswered : OrderFault → Result (Unit {0}) Exit → Type 0
 IsAnswered (order_fault.Help text) result = (result ≡ Ok tt) ⊎ (result ≡ Err (Run run_fault.Write))
 IsAnswered other result = result ≡ Err (Words other)
 
@@ -112,7 +112,7 @@ seen_after contents settled = record { bytes = contents settled.pipe.writer; fai
 
 -- a run that answered so ends so, where it wrote these bytes, and the writer behind it has the new ones
 pub record IsSettled (answer : Result (Unit {0}) ToolFault) (wrote new : Option (List ℕ))
-    (result : Result (Unit {0}) Stop) : Type 0 where
+    (result : Result (Unit {0}) Exit) : Type 0 where
   -- what it wrote and the writer didn't take
   pub lost : List ℕ
   pub told : Result (Unit {0}) ToolFault
@@ -127,7 +127,7 @@ IsQuietIfClosed settled = settled.ending ≡ Err Unread → IsTrue settled.pipe.
 -- how a run of the order ends, where the wanted stream, the input and the output were the first of each pair, and are
 -- the second
 pub record EndsRun (order : Order) (wanted wanted_now input now old new : Seen)
-    (result : Result (Unit {0}) Stop) : Type 0 where
+    (result : Result (Unit {0}) Exit) : Type 0 where
   pub answer : Result (Unit {0}) ToolFault
   -- what it wrote and the writer behind it didn't take
   pub lost : List ℕ
@@ -142,7 +142,7 @@ pub record EndsRun (order : Order) (wanted wanted_now input now old new : Seen)
       (append_known new.bytes lost) answer
 
 -- how a run of the view ends, where the input and the output were the first of each pair, and are the second
-pub record EndsView (view : View) (input now old new : Seen) (result : Result (Unit {0}) Stop) : Type 0 where
+pub record EndsView (view : View) (input now old new : Seen) (result : Result (Unit {0}) Exit) : Type 0 where
   pub answer : Result (Unit {0}) ToolFault
   -- what it wrote and the writer behind it didn't take
   pub lost : List ℕ
