@@ -30,7 +30,7 @@ use Rattle.gob_filled.specs.Standing.{Level, in_value, in_filling, Stands, behin
 use Rattle.gob_go.specs.Meaning.{definitions_of}
 use Rattle.gob_filled.specs.Opens.{Open, opens, named}
 use Rattle.gob_go.specs.Reading.{RefusesWith, HasTypesWithin, within_value}
-use Rattle.gob_go.specs.declared.level.Held.{Held}
+use Rattle.gob_go.specs.declared.level.HeldFront.{HeldFront}
 use Rattle.gob_go.specs.declared.level.Level as declared
 use Rattle.gob_go.specs.declared.levels.Levels.{Levels}
 use Rattle.gob_go.specs.declared.number.NumberStage.{NumberStage}
@@ -118,14 +118,14 @@ pub record HeldChanges (levels levels' : Levels) : Type 0 where
   pub outer : levels'.outer ≡ levels.outer
   pub left : levels'.left ≡ levels.left
 
-abbrev pub with_held : Levels → Held → Levels
+abbrev pub with_held : Levels → HeldFront → Levels
 with_held levels held = record {
   innermost = record levels.innermost { held = held };
   outer = levels.outer;
   left = levels.left;
 }
 
-pub held_changes : (levels : Levels) (held : Held) → HeldChanges levels (with_held levels held)
+pub held_changes : (levels : Levels) (held : HeldFront) → HeldChanges levels (with_held levels held)
 held_changes levels held = record {
   id = refl;
   depth = refl;
@@ -379,7 +379,7 @@ pub record NameChanges (levels levels' : Levels) (more : List ℕ) : Type 0 wher
   pub name : levels'.innermost.held.name.items ≡ levels.innermost.held.name.items ++ more
   pub definitions : levels'.innermost.held.definitions.items ≡ levels.innermost.held.definitions.items
 
-pub name_changes : {more : List ℕ} (levels : Levels) (held : Held)
+pub name_changes : {more : List ℕ} (levels : Levels) (held : HeldFront)
     → held.name.items ≡ levels.innermost.held.name.items ++ more
     → held.definitions.items ≡ levels.innermost.held.definitions.items
     → NameChanges levels (with_held levels held) more

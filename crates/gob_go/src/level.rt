@@ -36,7 +36,7 @@ pub(crate) struct Level {
     /// What fills nils of it, as far as that is whole.
     pub(crate) fillings: Vec<Filling>,
     /// What fills the nil at hand, as far as it came.
-    pub(crate) held: Held,
+    pub(crate) held: HeldFront,
     /// Where its open segment ends in the stream.
     pub(crate) end: u64,
 }
@@ -57,29 +57,29 @@ impl Drop for Level {
 }
 
 /// What stands in front of a value that an interface holds.
-pub(crate) struct Held {
+pub(crate) struct HeldFront {
     /// The name of the concrete type.
     pub(crate) name: Vec<u8>,
     /// The types that are defined behind it.
     pub(crate) definitions: Vec<Definition>,
 }
 
-impl Drop for Held {
+impl Drop for HeldFront {
     fn drop(self) {
-        let Held {
+        let HeldFront {
             name: _,
             definitions: _,
         } = self;
     }
 }
 
-impl Held {
+impl HeldFront {
     /// Nothing of it came.
-    pub(crate) fn new(alloc: Global) -> Held
+    pub(crate) fn new(alloc: Global) -> HeldFront
         ensures name { result.name.items ≡ [] }
         ensures definitions { result.definitions.items ≡ [] }
     {
-        Held {
+        HeldFront {
             name: Vec::new(alloc),
             definitions: Vec::new(alloc),
         }
@@ -94,7 +94,7 @@ impl Held {
         ensures skeleton { (out-Filled (out-Filling result).value).skeleton ≡ value.skeleton.bytes }
         ensures fillings { (out-Filled (out-Filling result).value).fillings ≡ value.fillings }
     {
-        let Held { name, definitions } = self;
+        let HeldFront { name, definitions } = self;
         Filling {
             place,
             name,
@@ -129,7 +129,7 @@ impl Level {
             reader,
             skeleton: Skeleton::new(around.alloc),
             fillings: Vec::new(around.alloc),
-            held: Held::new(around.alloc),
+            held: HeldFront::new(around.alloc),
             end,
         })
     }
@@ -198,7 +198,7 @@ impl Level {
         ensures { IfOk result (λ _. Holds around.now.keeps value self.old self.new) }
     {
         let place = self.skeleton.length();
-        let held = mem::replace(&mut self.held, Held::new(around.alloc));
+        let held = mem::replace(&mut self.held, HeldFront::new(around.alloc));
         if around.keeps {
             self.fillings.push(held.filled_with(place, value))?;
         }

@@ -8,7 +8,7 @@ ghost use Rattle.gob_go.specs.declared.part.PutPart.TheVariants as part;
 
 use crate::around::Around;
 use crate::held::HeldTypeNumber;
-use crate::level::Held;
+use crate::level::HeldFront;
 use crate::levels::Levels;
 use crate::number::{NumberStage, NumberTaken};
 use crate::part::{PartTaken, PutPart};
@@ -67,7 +67,7 @@ impl NameLength {
             }
             NumberTaken::Whole { number: left, used } => {
                 around.behind(used).goes_on(levels.innermost.end)?;
-                levels.innermost.held = Held::new(around.alloc);
+                levels.innermost.held = HeldFront::new(around.alloc);
                 Ok(PartTaken::more(used, PutPart::Name(Name { left })))
             }
         }

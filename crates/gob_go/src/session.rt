@@ -142,13 +142,13 @@ impl GoSession {
         ensures taken { OnErr result (taken_of self.new ≡ taken_of self.old) }
         ensures limits { limits_of self.new ≡ limits_of self.old }
     {
+        let _most = self.limits.stream(); // its contract: no stream is so long that the sum wraps
         if self.has_failed() {
             return Err(Fault::Failed);
         }
         if piece.is_empty() {
             return Ok(Advance::nothing());
         }
-        let _most = self.limits.stream(); // its contract: no stream is so long that the sum wraps
         let around = Around {
             alloc,
             limits: self.limits,

@@ -8,7 +8,7 @@ use Rattle.gob_types.specs.declared.kind.Field.{Field}
 use Rattle.gob_types.specs.declared.kind.Kind.{Kind}
 use Rattle.gob_types.specs.declared.kind.Kind.TheVariants as kind
 use Rattle.gob_types.specs.Table.{Table}
-use Rattle.gob_tidy.specs.SameNil.{Step, StandBeforeField, its_delta, field_before, StandBefore, slice_element}
+use Rattle.gob_tidy.specs.SameNil.{PathStep, StandBeforeField, its_delta, field_before, StandBefore, slice_element}
 use Rattle.gob_tidy.specs.SameNil.{array_element, map_key, map_element, struct_field, LeadsTo, to_itself, by_part}
 use Rattle.gob_tidy.specs.SameNil.{LeadsFromTop, in_struct, behind_tag}
 use Rattle.gob_read.specs.Expected.{a_number, nil}
@@ -53,7 +53,7 @@ before_field (field_before {a = a} {b = b} {c = c} l e u p s) =
 
 -- ---- parts
 
-enters : {T : Table} {k : Kind} {step : Step} {q : List ℕ} {u : TypeId} → StandBefore T k step q u → Enters T k q u
+enters : {T : Table} {k : Kind} {step : PathStep} {q : List ℕ} {u : TypeId} → StandBefore T k step q u → Enters T k q u
 enters (slice_element u ps at l) = read.slice_element u ps (omega arith)
 enters (array_element u ps at l) = read.array_element u ps (omega arith)
 enters (map_key u ps at l) = next_key u ps (omega arith)
@@ -64,17 +64,17 @@ enters {T = T} (struct_field {types = types} {e = e} there s) =
 
 -- ---- ways
 
-abbrev pub way_depth : List Step → ℕ
+abbrev pub way_depth : List PathStep → ℕ
 way_depth [] = 1
 way_depth (s ∷ way) = suc (way_depth way)
 
-nil_expected : {T : Table} {t : TypeId} {way : List Step} {p : List ℕ} → LeadsTo T t way p
+nil_expected : {T : Table} {t : TypeId} {way : List PathStep} {p : List ℕ} → LeadsTo T t way p
     → Expects T t p (a_number nil) (way_depth way)
 nil_expected {T = T} (to_itself known is) =
     in_itself known (subst (λ k. ExpectsAt T k [] (a_number nil)) (sym is) (first {k = kind.Basic basic.Interface}))
 nil_expected (by_part known s l) = in_part known (enters s) (nil_expected l)
 
-pub nil_expected_top : {T : Table} {t : TypeId} {way : List Step} {p : List ℕ} → LeadsFromTop T t way p
+pub nil_expected_top : {T : Table} {t : TypeId} {way : List PathStep} {p : List ℕ} → LeadsFromTop T t way p
     → ExpectsTop T t p (a_number nil) (way_depth way)
 nil_expected_top (in_struct known is l) = read.in_struct known is (nil_expected l)
 nil_expected_top (behind_tag known not l) = read.behind_tag known not (nil_expected l)

@@ -15,6 +15,7 @@ ghost use Rattle.gob_go_writer.specs.Spelling.{SpellDefinitions, SpellsDefinitio
 
 use crate::segments::Segments;
 use gob_go::{Definition, Filled, Filling};
+use gob_stream::Limits;
 use gob_types::{Denial, Reason, Table, TypeId};
 use gob_value::{SpellFault, Value, spell};
 use std::alloc::Global;
@@ -67,7 +68,8 @@ pub(crate) fn write_description(
     ensures refused { IfErr result
         (IsUnfit (FitsWithin (types table.now) wire_type greatest_depth (view described.now))) }
 {
-    match spell(alloc, table, TypeId::WIRE_TYPE, described, 1000, out) {
+    let most = Limits::GREATEST_DEPTH;
+    match spell(alloc, table, TypeId::WIRE_TYPE, described, most, out) {
         Ok(()) => Ok(()),
         Err(SpellFault::Memory) => Err(Denial::Memory),
         Err(SpellFault::TooDeep | SpellFault::DoesNotFit) => Err(NO_ITEM),

@@ -17,8 +17,8 @@ use Rattle.gob_tape.specs.Flat.{Flat}
 use Rattle.gob_tape.specs.Meaning.{Means}
 use Rattle.gob_plain.specs.declared.style.Style.{Style}
 use Rattle.gob_plain.specs.declared.fillers.Filler.{Filler}
-use Rattle.gob_plain.specs.declared.go.level.Held.{Held}
-use Rattle.gob_plain.specs.declared.go.level.Level.{Level}
+use Rattle.gob_plain.specs.declared.go.level.HeldText.{HeldText}
+use Rattle.gob_plain.specs.declared.go.level.OwnText.{OwnText}
 use Rattle.gob_plain.specs.OpaqueText.{content_in}
 use Rattle.gob_plain.specs.Filled.{SaysIn, SaysInWith, shown}
 use Rattle.gob_plain.specs.Plain.{all_null, nils}
@@ -44,18 +44,18 @@ use Rattle.gob_plain.specs.HeldPlain.{says_held}
 -- ---- filling by filling
 
 -- what is said of the rest, behind what was put together, is said of all
-abbrev pub FitWithRest : Bool → Style → Table → (rest all : List Filling) → List Held → Type 0
-FitWithRest tagged style T rest all held = (more : List Held) → AllFit tagged style T rest more
+abbrev pub FitWithRest : Bool → Style → Table → (rest all : List Filling) → List HeldText → Type 0
+FitWithRest tagged style T rest all held = (more : List HeldText) → AllFit tagged style T rest more
     → AllFit tagged style T all (held ++ more)
 
 pub fit_more : {tagged : Bool} {style : Style} {T : Table} {kept : Filling} {rest all : List Filling}
-    {new : List Held} {one : Held} (held : List Held) → FitWithRest tagged style T (kept ∷ rest) all held
+    {new : List HeldText} {one : HeldText} (held : List HeldText) → FitWithRest tagged style T (kept ∷ rest) all held
     → new ≡ held ++ one ∷ [] → HeldFits tagged style T kept one → FitWithRest tagged style T rest all new
 fit_more {tagged = tagged} {style = style} {T = T} {all = all} {one = one} held so e p = λ more h.
     subst (AllFit tagged style T all) (sym (append_assoc held (one ∷ []) more) ∙ ap (λ l. l ++ more) (sym e))
     (so (one ∷ more) (then_fits p h))
 
-pub all_fit : {tagged : Bool} {style : Style} {T : Table} {all : List Filling} {held : List Held}
+pub all_fit : {tagged : Bool} {style : Style} {T : Table} {all : List Filling} {held : List HeldText}
     → FitWithRest tagged style T [] all held → AllFit tagged style T all held
 all_fit {tagged = tagged} {style = style} {T = T} {all = all} {held = held} so =
     subst (AllFit tagged style T all) (append-nil held) (so [] none_fits)
@@ -63,7 +63,8 @@ all_fit {tagged = tagged} {style = style} {T = T} {all = all} {held = held} so =
 -- ---- nil by nil
 
 pub held_in : {tagged : Bool} {style : Style} {T : Table} {behind : ℕ} {ns gaps : List ℕ} {kept : List Filling}
-    {held : List Held} {all : List (Option Held)} → AreIn behind ns gaps held all → AllFit tagged style T kept held
+    {held : List HeldText} {all : List (Option HeldText)} → AreIn behind ns gaps held all
+    → AllFit tagged style T kept held
     → AllSay all
 held_in none_left s = tt
 held_in (nothing_in h) s = (tt, held_in h s)
@@ -71,7 +72,7 @@ held_in (filler_in e h) (then_fits p s) = (p.some, held_in h s)
 
 -- what is said by the nils of a value that is spelled so, and by those that are parted
 pub record NilsSaid (tagged : Bool) (style : Style) (T : Table) (t : TypeId) (b ns : List ℕ) (fs : Fillings)
-    (texts : List (Option Filler)) (held : List (Option Held)) : Type 0 where
+    (texts : List (Option Filler)) (held : List (Option HeldText)) : Type 0 where
   pub nils : PartedSay texts held
   pub says : NilsSay tagged style T t b ns fs nils.said
 
@@ -82,8 +83,8 @@ tagged_named true name o i n =
 tagged_named false name o i n = ap (λ (o : Option (Bor (List ℕ))). named_json o i) n
 
 pub nils_said : {tagged : Bool} {style : Style} {T : Table} {t : TypeId} {b : List ℕ} {behind : ℕ} {ns gaps : List ℕ}
-    {kept : List Filling} {fillers : List Held} {all : List (Option Held)} {fs : Fillings} {texts : List (Option
-    Filler)} {held : List (Option Held)}
+    {kept : List Filling} {fillers : List HeldText} {all : List (Option HeldText)} {fs : Fillings} {texts : List (Option
+    Filler)} {held : List (Option HeldText)}
     → AreIn behind ns gaps fillers all → AreGaps T t b behind kept gaps → AllFit tagged style T kept fillers
     → AreFillings T kept fs → AreParted all texts held → NilsSaid tagged style T t b ns fs texts held
 nils_said none_left end_of_gaps none_fits no_fillings none_parted = record { nils = none_say; says = no_nil }
@@ -116,12 +117,12 @@ TapeText style T t tape texts text = (v : Tree) → Means tape v
     × (text ≡ print (json_tokens j)) × (tokens text ≡ json_tokens j)
 
 -- what a level says
-abbrev pub LevelText : Bool → Style → Table → TypeId → Filled → Level → Type 0
+abbrev pub LevelText : Bool → Style → Table → TypeId → Filled → OwnText → Type 0
 LevelText tagged style T t value level = (w : spelled.Filled) → IsFilled T t value w
     → (j : Json) × SaysFilled tagged style T t w j × LevelSays level j
 
 -- with what its nulls stand for
-pub own_held : (style : Style) (T : Table) (t : TypeId) (v : Tree) (own : Json) (level : Level) (texts : List (Option
+pub own_held : (style : Style) (T : Table) (t : TypeId) (v : Tree) (own : Json) (level : OwnText) (texts : List (Option
     Filler)) (p : PartedSay texts (held_of level))
     → SaysInWith (λ k i. FillerSays (slice_get texts (0 + k)) i) style T t v own
     → tokens (text_of level) ≡ json_tokens own
@@ -138,16 +139,17 @@ own_held style T t v own level texts p s e =
           (all_become p.said (nils T t w) (json_tokens own) (json_tokens h.json) h.becomes) h.alike,
     )
 
-pub some_said : (style : Style) (T : Table) (t : TypeId) {texts : List (Option Filler)} {all : List (Option Held)}
-    (level : Level) → AreParted all texts (held_of level) → AllSay all → (v : Tree)
+pub some_said : (style : Style) (T : Table) (t : TypeId) {texts : List (Option Filler)} {all : List (Option HeldText)}
+    (level : OwnText) → AreParted all texts (held_of level) → AllSay all → (v : Tree)
     → (own : Json) × SaysInWith (λ k i. FillerSays (slice_get texts (0 + k)) i) style T t v own
     × (text_of level ≡ print (json_tokens own)) × (tokens (text_of level) ≡ json_tokens own)
     → (j : Json) × LevelSays level j
 some_said style T t {texts = texts} level parted all v own =
     let h = own_held style T t v own.0 level texts (parted_say parted all) own.1 own.3 in (h.0, h.2)
 
-pub held_fits : {tagged : Bool} {style : Style} {T : Table} {kept : Filling} {held : Held} {name : Option (Bor (List
-    ℕ))} {level : Level} → name_of held ≡ name → level_of held ≡ level → IsTag tagged (out-Filling kept).name.items name
+pub held_fits : {tagged : Bool} {style : Style} {T : Table} {kept : Filling} {held : HeldText}
+    {name : Option (Bor (List ℕ))} {level : OwnText} → name_of held ≡ name → level_of held ≡ level
+    → IsTag tagged (out-Filling kept).name.items name
     → (i : Json) × LevelSays level i → LevelText tagged style T (out-Filling kept).id (out-Filling kept).value level
     → HeldFits tagged style T kept held
 held_fits {tagged = tagged} {style = style} {T = T} {kept = kept} n l tag some says = record {
@@ -157,7 +159,8 @@ held_fits {tagged = tagged} {style = style} {T = T} {kept = kept} n l tag some s
 }
 
 pub level_said : {tagged : Bool} {style : Style} {T : Table} {t : TypeId} {value : Filled} {tape : Flat}
-    {nils gaps : List ℕ} {fillers : List Held} {all : List (Option Held)} {texts : List (Option Filler)} (level : Level)
+    {nils gaps : List ℕ} {fillers : List HeldText} {all : List (Option HeldText)} {texts : List (Option Filler)}
+    (level : OwnText)
     → ((v : Tree) → SpellsTop T t v (out-Filled value).skeleton.items → Means tape v)
     → ((v : Tree) → Means tape v → nils ≡ nil_parts 0 v)
     → AreGaps T t (out-Filled value).skeleton.items 0 (out-Filled value).fillings.items gaps
@@ -218,7 +221,7 @@ BareText style T t tape text = (v : Tree) → Means tape v
     → (j : Json) × SaysIn style T t v j × (text ≡ print (json_tokens j)) × (tokens text ≡ json_tokens j)
 
 -- the text of the value of the tape as its level
-pub bare_said : {style : Style} {T : Table} {t : TypeId} {value : Filled} {tape : Flat} (level : Level)
+pub bare_said : {style : Style} {T : Table} {t : TypeId} {value : Filled} {tape : Flat} (level : OwnText)
     → ((v : Tree) → SpellsTop T t v (out-Filled value).skeleton.items → Means tape v)
     → (out-Filled value).fillings.items ≡ [] → held_of level ≡ []
     → BareText style T t tape (text_of level)

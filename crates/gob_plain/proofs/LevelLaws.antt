@@ -9,8 +9,8 @@ use Rattle.json.specs.Token.{Token}
 use Rattle.json.specs.Tree.{json_tokens}
 use Rattle.json.specs.declared.token.Token as token
 use Rattle.json.specs.declared.token.Token.TheVariants as kinds
-use Rattle.gob_plain.specs.declared.go.level.Level.{Level}
-use Rattle.gob_plain.specs.declared.go.level.Held.{Held}
+use Rattle.gob_plain.specs.declared.go.level.OwnText.{OwnText}
+use Rattle.gob_plain.specs.declared.go.level.HeldText.{HeldText}
 use Rattle.gob_plain.specs.Machine.Levels.{HeldSay, LevelSays, level_says, none_held, nothing_held, then_held}
 use Rattle.gob_plain.specs.Machine.Levels.{held_of, level_of, name_of, named_json, text_of}
 use Rattle.gob_plain.specs.Machine.Nulls.{left_held, token_held, with_held}
@@ -18,15 +18,15 @@ use Rattle.gob_plain.proofs.GoodTokens.{AreGood, json_good}
 use Rattle.gob_plain.proofs.NullLaws.{none_stay}
 
 -- the next one
-pub record NextSays (x : Option Held) (said rest : List Json) : Type 0 where
+pub record NextSays (x : Option HeldText) (said rest : List Json) : Type 0 where
   pub none : x ≡ None → said ≡ json.null ∷ rest
-  pub some : (held : Held) → x ≡ Some held
+  pub some : (held : HeldText) → x ≡ Some held
       → (i : Json) × LevelSays (level_of held) i × (said ≡ named_json (name_of held) i ∷ rest)
 
 some_one : {X : Type 0} {x y : X} → Some x ≡ Some y → x ≡ y
 some_one e = cc
 
-at_next : {all : List (Option Held)} {said : List Json} (n : ℕ) (x : Option Held) → HeldSay all said
+at_next : {all : List (Option HeldText)} {said : List Json} (n : ℕ) (x : Option HeldText) → HeldSay all said
     → n < length all → x ≡ get_or all n x → NextSays x (drop n said) (drop (suc n) said)
 at_next n x none_held l e = absurd (omega (arith, l))
 at_next zero x (nothing_held {said = said} h) l e = record {
@@ -41,7 +41,7 @@ at_next zero x (then_held {held = held} {i = i} {said = said} s h) l e = record 
   some = λ y f.
       let same : held ≡ y = some_one (sym e ∙ f) in
       subst
-      (λ (k : Held). (k_says : Json) × LevelSays (level_of k) k_says
+      (λ (k : HeldText). (k_says : Json) × LevelSays (level_of k) k_says
       × (named_json (name_of held) i ∷ said ≡ named_json (name_of k) k_says ∷ said))
       same (i, s, refl);
 }
@@ -53,13 +53,13 @@ at_next (suc n) x (nothing_held {all = all} {said = said} h) l e =
 at_next (suc n) x (then_held {all = all} {said = said} s h) l e =
     at_next {all = all} {said = said} n x h (omega (arith, l)) e
 
-pub next_says : {all : List (Option Held)} {said : List Json} (n : ℕ) (x : Option Held) → HeldSay all said
+pub next_says : {all : List (Option HeldText)} {said : List Json} (n : ℕ) (x : Option HeldText) → HeldSay all said
     → n < length all → x ≡ get_or all n x → NextSays x (drop n said) (drop (n + 1) said)
 next_says {said = said} n x h l e =
     let same : suc n ≡ n + 1 = omega arith in
     subst (λ m. NextSays x (drop n said) (drop m said)) same (at_next n x h l e)
 
-pub none_next : {all : List (Option Held)} {said : List Json} (n : ℕ) → HeldSay all said → length all ≤ n
+pub none_next : {all : List (Option HeldText)} {said : List Json} (n : ℕ) → HeldSay all said → length all ≤ n
     → drop n said ≡ []
 none_next zero none_held l = refl
 none_next (suc n) none_held l = refl
@@ -107,10 +107,10 @@ same_left kinds.Bad D n = refl
 
 -- ---- the text of a level
 
-pub level_good : {level : Level} {j : Json} → LevelSays level j → AreGood (tokens (text_of level))
+pub level_good : {level : OwnText} {j : Json} → LevelSays level j → AreGood (tokens (text_of level))
 level_good (level_says own said e h w o) = subst AreGood (sym e) (json_good own)
 
-pub level_told : {level : Level} {j : Json} {new : List Token} (old : List Token) → LevelSays level j
+pub level_told : {level : OwnText} {j : Json} {new : List Token} (old : List Token) → LevelSays level j
     → ((said : List Json) → HeldSay (held_of level) said → new ≡ old ++ with_held said (tokens (text_of level)))
     → new ≡ old ++ json_tokens j
 level_told old (level_says own said e h w o) told =
@@ -118,13 +118,13 @@ level_told old (level_says own said e h w o) told =
 
 -- ---- a level in which nothing is held
 
-pub bare_told : {level : Level} {j : Json} → held_of level ≡ [] → LevelSays level j
+pub bare_told : {level : OwnText} {j : Json} → held_of level ≡ [] → LevelSays level j
     → tokens (text_of level) ≡ json_tokens j
 bare_told none (level_says own said e h w o) =
     let empty : said ≡ [] = none_next 0 (subst (λ l. HeldSay l said) none h) (omega arith) in
     e ∙ sym (none_stay (json_tokens own)) ∙ ap (λ (l : List Json). with_held l (json_tokens own)) (sym empty) ∙ w
 
-pub bare_says : {level : Level} {j : Json} → held_of level ≡ [] → tokens (text_of level) ≡ json_tokens j
+pub bare_says : {level : OwnText} {j : Json} → held_of level ≡ [] → tokens (text_of level) ≡ json_tokens j
     → LevelSays level j
 bare_says {j = j} none e =
     level_says j [] e (subst (λ l. HeldSay l []) (sym none) none_held) (none_stay (json_tokens j)) refl

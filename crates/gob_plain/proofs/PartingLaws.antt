@@ -11,8 +11,8 @@ use Rattle.json.specs.Tree.{depth, json_tokens}
 use Rattle.json.proofs.Printed.Trees.{value-json_tokens}
 use Rattle.gob_types.proofs.PublicLaws.{some_injective}
 use Rattle.gob_plain.specs.declared.fillers.Filler.{Filler}
-use Rattle.gob_plain.specs.declared.go.level.Held.{Held}
-use Rattle.gob_plain.specs.declared.go.level.Level.{Level}
+use Rattle.gob_plain.specs.declared.go.level.HeldText.{HeldText}
+use Rattle.gob_plain.specs.declared.go.level.OwnText.{OwnText}
 use Rattle.gob_plain.specs.Fillers.{AreFillers, FillerSays, HasJson, SaysFiller, SaysMaybeNamed}
 use Rattle.gob_plain.specs.Machine.Levels.{HeldSay, LevelSays, level_of, level_says, name_of, named_json, none_held}
 use Rattle.gob_plain.specs.Machine.Levels.{nothing_held, text_of, then_held}
@@ -63,7 +63,7 @@ null_held (json.array js) e = refl
 null_held (json.object ms) e = refl
 
 -- a text is what it says with what its nulls stand for
-text_said : {level : Level} {i : Json} → LevelSays level i
+text_said : {level : OwnText} {i : Json} → LevelSays level i
     → ((own : Json) → tokens (text_of level) ≡ json_tokens own → is_text own ≡ true)
     → (s : List ℕ) × (i ≡ json.string s) × (tokens (text_of level) ≡ json_tokens i)
 text_said {level = level} {i = i} (level_says own said e h w alike) text =
@@ -71,7 +71,7 @@ text_said {level = level} {i = i} (level_says own said e h w alike) text =
     let same : i ≡ json.string s.0 = own_string i s.0 (alike ∙ ap own_json s.1) in
     (s.0, same, e ∙ ap json_tokens (s.1 ∙ sym same))
 
-value_said : {i : Json} (held : Held) → LevelSays (level_of held) i → IsNoText held
+value_said : {i : Json} (held : HeldText) → LevelSays (level_of held) i → IsNoText held
     → own_json (named_json (name_of held) i) ≡ json.null
 value_said {i = i} held (level_says own said e h w alike) none = by (name_of held) refl
   where
@@ -85,7 +85,7 @@ abbrev pub EachSays : List (Option Filler) → List Json → Type 0
 EachSays texts said = (k : ℕ) (j : Json) → FillerSays (slice_get texts k) j → j ≡ own_json (get_or said k json.null)
 
 -- what the nils say: in the own text of their value, and by what its nulls stand for
-pub record PartedSay (texts : List (Option Filler)) (held : List (Option Held)) : Type 0 where
+pub record PartedSay (texts : List (Option Filler)) (held : List (Option HeldText)) : Type 0 where
   pub said : List Json
   pub each : EachSays texts said
   pub nulls : HeldSay held (all_held said)
@@ -103,7 +103,7 @@ one_each text i texts said first rest (suc k) j p = rest k j p
 abbrev pub none_say : PartedSay [] []
 none_say = record { said = []; each = none_each; nulls = none_held }
 
-abbrev pub nothing_says : {texts : List (Option Filler)} {held : List (Option Held)} → PartedSay texts held
+abbrev pub nothing_says : {texts : List (Option Filler)} {held : List (Option HeldText)} → PartedSay texts held
     → PartedSay (None ∷ texts) ((None ∷ []) ++ held)
 nothing_says {texts = texts} p = record {
   said = json.null ∷ p.said;
@@ -120,7 +120,8 @@ bare_said f i j n e p =
     (λ i. tokens (string_bytes f.text) ≡ json_tokens i) j) n p in
     json_one j i (sym read ∙ e)
 
-pub held_says : {one : Held} {text : Option Filler} {own held : List (Option Held)} {texts : List (Option Filler)}
+pub held_says : {one : HeldText} {text : Option Filler} {own held : List (Option HeldText)}
+    {texts : List (Option Filler)}
     → IsParted (Some one) text own → (i : Json) → LevelSays (level_of one) i → (p : PartedSay texts held)
     → (all : PartedSay (text ∷ texts) (own ++ held)) × (all.said ≡ named_json (name_of one) i ∷ p.said)
 held_says {one = one} {held = held} {texts = texts} (text_parted {f = f} text bare same) i h p =
@@ -147,26 +148,26 @@ held_says {one = one} {held = held} {texts = texts} (value_parted none) i h p =
     )
 
 -- each that is held says something
-abbrev pub SomeSay : Option Held → Type 0
+abbrev pub SomeSay : Option HeldText → Type 0
 SomeSay None = ⊤
 SomeSay (Some held) = (i : Json) × LevelSays (level_of held) i
 
-abbrev pub AllSay : List (Option Held) → Type 0
+abbrev pub AllSay : List (Option HeldText) → Type 0
 AllSay [] = ⊤
 AllSay (x ∷ all) = SomeSay x × AllSay all
 
-pub parted_say : {all : List (Option Held)} {texts : List (Option Filler)} {held : List (Option Held)}
+pub parted_say : {all : List (Option HeldText)} {texts : List (Option Filler)} {held : List (Option HeldText)}
     → AreParted all texts held → AllSay all → PartedSay texts held
 parted_say none_parted s = none_say
 parted_say (then_parted nothing_parted p) s = nothing_says (parted_say p s.1)
 parted_say (then_parted (text_parted t b e) p) s = (held_says (text_parted t b e) s.0.0 s.0.1 (parted_say p s.1)).0
 parted_say (then_parted (value_parted n) p) s = (held_says (value_parted n) s.0.0 s.0.1 (parted_say p s.1)).0
 
-text_has_json : {level : Level} {i : Json} (f : Filler) → LevelSays level i → string_bytes f.text ≡ text_of level
+text_has_json : {level : OwnText} {i : Json} (f : Filler) → LevelSays level i → string_bytes f.text ≡ text_of level
     → HasJson f
 text_has_json f (level_says own said e h w o) same = (own, ap tokens same ∙ e)
 
-pub texts_fill : {all : List (Option Held)} {texts : List (Option Filler)} {held : List (Option Held)}
+pub texts_fill : {all : List (Option HeldText)} {texts : List (Option Filler)} {held : List (Option HeldText)}
     → AreParted all texts held → AllSay all → AreFillers texts
 texts_fill none_parted s = tt
 texts_fill (then_parted nothing_parted p) s = (tt, texts_fill p s.1)

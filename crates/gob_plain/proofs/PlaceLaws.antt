@@ -22,8 +22,8 @@ use Rattle.gob_walk.proofs.TellLaws.{ElementsLeft}
 use Rattle.gob_walk.specs.Event.{elements_told}
 use Rattle.gob_walk.specs.Event.{Event, leaf, raw, map_begins, map_ends, entry, entry_ends, present, struct_ends}
 use Rattle.gob_plain.specs.declared.style.Style.{Style}
-use Rattle.gob_plain.specs.declared.visitor.Place.{Place}
-use Rattle.gob_plain.specs.declared.visitor.Place.TheVariants as place
+use Rattle.gob_plain.specs.declared.visitor.VisitorPlace.{VisitorPlace}
+use Rattle.gob_plain.specs.declared.visitor.VisitorPlace.TheVariants as place
 use Rattle.gob_plain.specs.AbsentFields.{AbsentTokens}
 use Rattle.gob_plain.specs.OpaqueText.{SaysContent, content_of}
 use Rattle.gob_plain.specs.Plain.{gives_names, key_text, name_text, text_bytes}
@@ -39,7 +39,7 @@ use Rattle.gob_walk.proofs.AnswerLaws.{reached_both, reached_prefix}
 
 module _ {style : Style} {T : Table} where
   -- what is no name is said between two parts alone
-  pub no_name : {a b : Place} {es : List Event} {ts : List Token} → (a ≡ place.Free → b ≡ place.Free)
+  pub no_name : {a b : VisitorPlace} {es : List Event} {ts : List Token} → (a ≡ place.Free → b ≡ place.Free)
       → (a ≢ place.Free → b ≡ place.Lost) → SaysEvents style T place.Free es ts place.Free
       → SaysEvents style T a es ts b
   no_name {a = place.Free} {es = es} {ts = ts} free lost p =
@@ -50,7 +50,7 @@ module _ {style : Style} {T : Table} where
       subst (λ b. SaysEvents style T place.Lost es ts b) (sym (lost (λ e. cc))) said.says_lost
 
   -- a name is due
-  pub name_due : {a b c : Place} {k : TypeId} {later : Bool} → gives_names k ≡ true
+  pub name_due : {a b c : VisitorPlace} {k : TypeId} {later : Bool} → gives_names k ≡ true
       → (a ≡ place.Free → b ≡ place.Free) → (a ≢ place.Free → b ≡ place.Lost)
       → (b ≡ place.Free → c ≡ place.Name) → (b ≡ place.Lost → c ≡ place.Lost)
       → SaysEvents style T a (entry k later ∷ []) [] c
@@ -63,7 +63,7 @@ module _ {style : Style} {T : Table} where
       subst (λ c. SaysEvents style T place.Lost (entry k later ∷ []) [] c) (sym (gone (lost (λ e. cc)))) said.says_lost
 
   -- the name
-  pub name_said : {a b : Place} (x : Tree) → is_utf8 (text_bytes x) ≡ true → (a ≡ place.Name) × (b ≡ place.Free)
+  pub name_said : {a b : VisitorPlace} (x : Tree) → is_utf8 (text_bytes x) ≡ true → (a ≡ place.Name) × (b ≡ place.Free)
       → SaysEvents style T a (leaf x ∷ []) (Token.key (key_text x) ∷ []) b
   name_said {a = place.Free} x u is = absurd (let e = is.0 in cc)
   name_said {a = place.Lost} x u is = absurd (let e = is.0 in cc)
@@ -72,11 +72,12 @@ module _ {style : Style} {T : Table} where
       (said.says_name u said.says_nothing)
 
   -- nothing is said any more
-  pub lost_said : {a b : Place} {es : List Event} {ts : List Token} → b ≡ place.Lost → SaysEvents style T a es ts b
+  pub lost_said : {a b : VisitorPlace} {es : List Event} {ts : List Token} → b ≡ place.Lost
+      → SaysEvents style T a es ts b
   lost_said {a = a} {es = es} {ts = ts} is = subst (λ b. SaysEvents style T a es ts b) (sym is) said.says_lost
 
   -- a value without parts
-  pub leaf_said : {a b : Place} (v : Tree) → (a ≢ place.Name) × (b ≡ a) → (ts : List Token)
+  pub leaf_said : {a b : VisitorPlace} (v : Tree) → (a ≢ place.Name) × (b ≡ a) → (ts : List Token)
       → AreTokensOf (LeafSays v) ts → SaysEvents style T a (leaf v ∷ []) ts b
   leaf_said {a = place.Name} v is ts t = absurd (is.0 refl)
   leaf_said {a = place.Lost} v is ts t =

@@ -19,7 +19,7 @@ use Rattle.gob_walk.specs.Event.{entry_ends, map_ends, struct_begins, present, f
 use Rattle.gob_walk.specs.Event.{value_told, elements_told, entries_told, entry_told, fields_told}
 use Rattle.gob_plain.specs.declared.style.Style.{Style}
 use Rattle.gob_plain.specs.declared.style.Taken.{Taken}
-use Rattle.gob_plain.specs.declared.visitor.Place.TheVariants as place
+use Rattle.gob_plain.specs.declared.visitor.VisitorPlace.TheVariants as place
 use Rattle.gob_plain.specs.AbsentFields.{AbsentTokens}
 use Rattle.gob_plain.specs.Filled.{SaysIn}
 use Rattle.gob_plain.specs.OpaqueText.{SaysContent, content_in, content_of, said_or, taken_as}

@@ -13,8 +13,8 @@ use Rattle.gob_value.specs.Tree.{Tree}
 use Rattle.gob_json.specs.Json.{field_name, no_type}
 use Rattle.gob_walk.specs.Event.{Event, leaf, raw, list_begins, element, list_ends, map_begins, entry, between}
 use Rattle.gob_walk.specs.Event.{entry_ends, map_ends, struct_begins, present, field_ends, struct_ends}
-use Rattle.gob_plain.specs.declared.visitor.Place.{Place}
-use Rattle.gob_plain.specs.declared.visitor.Place.TheVariants as place
+use Rattle.gob_plain.specs.declared.visitor.VisitorPlace.{VisitorPlace}
+use Rattle.gob_plain.specs.declared.visitor.VisitorPlace.TheVariants as place
 use Rattle.gob_plain.specs.declared.style.Style.{Style}
 use Rattle.gob_plain.specs.AbsentFields.{AbsentTokens}
 use Rattle.gob_plain.specs.declared.opaque.Content.TheVariants as content
@@ -40,65 +40,72 @@ entry_closes false = Token.end_array ∷ []
 
 -- The tokens say the events, which lead from one place to another, where nothing is said of types. Where a part stands
 -- in place of a name, which it does in no value, and in some maps, they say nothing.
-pub data SaysEvents (style : Style) (T : Table) : Place → List Event → List Token → Place → Type 0 where
-  says_nothing : {a : Place} → SaysEvents style T a [] [] a
-  says_lost : {a : Place} {es : List Event} {ts : List Token} → SaysEvents style T a es ts place.Lost
-  says_leaf : {v : Tree} (j : Json) {es : List Event} {ts : List Token} {a : Place} → LeafSays v j
+pub data SaysEvents (style : Style) (T : Table) : VisitorPlace → List Event → List Token → VisitorPlace → Type 0 where
+  says_nothing : {a : VisitorPlace} → SaysEvents style T a [] [] a
+  says_lost : {a : VisitorPlace} {es : List Event} {ts : List Token} → SaysEvents style T a es ts place.Lost
+  says_leaf : {v : Tree} (j : Json) {es : List Event} {ts : List Token} {a : VisitorPlace} → LeafSays v j
       → SaysEvents style T place.Free es ts a → SaysEvents style T place.Free (leaf v ∷ es) (json_tokens j ++ ts) a
-  says_raw : {s : Option Shape} {b : List ℕ} (j : Json) {es : List Event} {ts : List Token} {a : Place}
+  says_raw : {s : Option Shape} {b : List ℕ} (j : Json) {es : List Event} {ts : List Token} {a : VisitorPlace}
       → SaysContent (content_of style.raw s) b j → SaysEvents style T place.Free es ts a
       → SaysEvents style T place.Free (raw s b ∷ es) (json_tokens j ++ ts) a
-  says_list : {es : List Event} {ts : List Token} {a : Place} → SaysEvents style T place.Free es ts a
+  says_list : {es : List Event} {ts : List Token} {a : VisitorPlace} → SaysEvents style T place.Free es ts a
       → SaysEvents style T place.Free (list_begins ∷ es) (Token.begin_array ∷ ts) a
-  says_element : {later : Bool} {es : List Event} {ts : List Token} {a : Place} → SaysEvents style T place.Free es ts a
+  says_element : {later : Bool} {es : List Event} {ts : List Token} {a : VisitorPlace}
+      → SaysEvents style T place.Free es ts a
       → SaysEvents style T place.Free (element later ∷ es) ts a
-  says_list_end : {es : List Event} {ts : List Token} {a : Place} → SaysEvents style T place.Free es ts a
+  says_list_end : {es : List Event} {ts : List Token} {a : VisitorPlace} → SaysEvents style T place.Free es ts a
       → SaysEvents style T place.Free (list_ends ∷ es) (Token.end_array ∷ ts) a
   -- where keys are interfaces, an entry may be a member or not
-  says_map : {k : TypeId} {es : List Event} {ts : List Token} {a : Place} → (k.0 == 8) ≡ false
+  says_map : {k : TypeId} {es : List Event} {ts : List Token} {a : VisitorPlace} → (k.0 == 8) ≡ false
       → SaysEvents style T place.Free es ts a
       → SaysEvents style T place.Free (map_begins k ∷ es) (map_opens (gives_names k) ∷ ts) a
-  says_entry : {k : TypeId} {later : Bool} {es : List Event} {ts : List Token} {a : Place} → gives_names k ≡ false
+  says_entry : {k : TypeId} {later : Bool} {es : List Event} {ts : List Token} {a : VisitorPlace}
+      → gives_names k ≡ false
       → SaysEvents style T place.Free es ts a
       → SaysEvents style T place.Free (entry k later ∷ es) (Token.begin_array ∷ ts) a
   -- where keys give names, a name is due
-  says_due : {k : TypeId} {later : Bool} {es : List Event} {ts : List Token} {a : Place} → gives_names k ≡ true
+  says_due : {k : TypeId} {later : Bool} {es : List Event} {ts : List Token} {a : VisitorPlace} → gives_names k ≡ true
       → SaysEvents style T place.Name es ts a → SaysEvents style T place.Free (entry k later ∷ es) ts a
   -- that of a text that isn't UTF-8 may be that of another key
-  says_name : {x : Tree} {es : List Event} {ts : List Token} {a : Place} → is_utf8 (text_bytes x) ≡ true
+  says_name : {x : Tree} {es : List Event} {ts : List Token} {a : VisitorPlace} → is_utf8 (text_bytes x) ≡ true
       → SaysEvents style T place.Free es ts a
       → SaysEvents style T place.Name (leaf x ∷ es) (Token.key (key_text x) ∷ ts) a
-  says_between : {k : TypeId} {es : List Event} {ts : List Token} {a : Place} → SaysEvents style T place.Free es ts a
+  says_between : {k : TypeId} {es : List Event} {ts : List Token} {a : VisitorPlace}
+      → SaysEvents style T place.Free es ts a
       → SaysEvents style T place.Free (between k ∷ es) ts a
-  says_entry_end : {k : TypeId} {es : List Event} {ts : List Token} {a : Place} → SaysEvents style T place.Free es ts a
+  says_entry_end : {k : TypeId} {es : List Event} {ts : List Token} {a : VisitorPlace}
+      → SaysEvents style T place.Free es ts a
       → SaysEvents style T place.Free (entry_ends k ∷ es) (entry_closes (gives_names k) ++ ts) a
-  says_map_end : {k : TypeId} {es : List Event} {ts : List Token} {a : Place} → SaysEvents style T place.Free es ts a
+  says_map_end : {k : TypeId} {es : List Event} {ts : List Token} {a : VisitorPlace}
+      → SaysEvents style T place.Free es ts a
       → SaysEvents style T place.Free (map_ends k ∷ es) (map_closes (gives_names k) ∷ ts) a
-  says_struct : {es : List Event} {ts : List Token} {a : Place} → SaysEvents style T place.Free es ts a
+  says_struct : {es : List Event} {ts : List Token} {a : VisitorPlace} → SaysEvents style T place.Free es ts a
       → SaysEvents style T place.Free (struct_begins ∷ es) (Token.begin_object ∷ ts) a
   -- behind the zeros of absent fields
-  says_field : {types : List Field} {next f : ℕ} (zs : List Token) {es : List Event} {ts : List Token} {a : Place}
+  says_field : {types : List Field} {next f : ℕ} (zs : List Token) {es : List Event} {ts : List Token}
+      {a : VisitorPlace}
       → AbsentTokens style T types next f zs → SaysEvents style T place.Free es ts a
       → SaysEvents style T place.Free (present types next f ∷ es)
       (zs ++ Token.key (name_text (field_name (slice_get types f))) ∷ ts) a
-  says_field_end : {es : List Event} {ts : List Token} {a : Place} → SaysEvents style T place.Free es ts a
+  says_field_end : {es : List Event} {ts : List Token} {a : VisitorPlace} → SaysEvents style T place.Free es ts a
       → SaysEvents style T place.Free (field_ends ∷ es) ts a
-  says_struct_end : {types : List Field} {next : ℕ} (zs : List Token) {es : List Event} {ts : List Token} {a : Place}
+  says_struct_end : {types : List Field} {next : ℕ} (zs : List Token) {es : List Event} {ts : List Token}
+      {a : VisitorPlace}
       → AbsentTokens style T types next (length types) zs → SaysEvents style T place.Free es ts a
       → SaysEvents style T place.Free (struct_ends types next ∷ es) (zs ++ Token.end_object ∷ ts) a
 
 -- ---- events behind others
 
 module _ (style : Style) (T : Table) where
-  abbrev pub SaysBetween : Place → List Event → List Token → Place → Type 0
+  abbrev pub SaysBetween : VisitorPlace → List Event → List Token → VisitorPlace → Type 0
   SaysBetween a es ts b = SaysEvents style T a es ts b
 
   -- nothing leads back from where a part stood in place of a name
-  stays_lost : {es : List Event} {ts : List Token} {b : Place} → SaysBetween place.Lost es ts b → b ≡ place.Lost
+  stays_lost : {es : List Event} {ts : List Token} {b : VisitorPlace} → SaysBetween place.Lost es ts b → b ≡ place.Lost
   stays_lost says_nothing = refl
   stays_lost says_lost = refl
 
-  lost_both : {a b c : Place} (es : List Event) {fs : List Event} (ts : List Token) {us : List Token}
+  lost_both : {a b c : VisitorPlace} (es : List Event) {fs : List Event} (ts : List Token) {us : List Token}
       → b ≡ place.Lost → SaysBetween b fs us c
       → SaysBetween a (es ++ fs) (ts ++ us) c
   lost_both {a = a} {c = c} es {fs = fs} ts {us = us} is q =
@@ -106,7 +113,7 @@ module _ (style : Style) (T : Table) where
       (sym (stays_lost (subst (λ b. SaysBetween b fs us c) is q))) says_lost
 
   -- events behind others
-  pub says_both : {a b c : Place} {es fs : List Event} {ts us : List Token} → SaysBetween a es ts b
+  pub says_both : {a b c : VisitorPlace} {es fs : List Event} {ts us : List Token} → SaysBetween a es ts b
       → SaysBetween b fs us c → SaysBetween a (es ++ fs) (ts ++ us) c
   says_both says_nothing q = q
   says_both (says_lost {es = es} {ts = ts}) q = lost_both es ts refl q

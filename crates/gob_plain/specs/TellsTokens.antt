@@ -5,7 +5,7 @@ use Rattle.json.specs.Written.{Written}
 use Rattle.gob_types.specs.Table.{Table}
 use Rattle.gob_walk.specs.Event.{Event}
 use Rattle.gob_plain.specs.declared.style.Style.{Style}
-use Rattle.gob_plain.specs.declared.visitor.Place.TheVariants as place
+use Rattle.gob_plain.specs.declared.visitor.VisitorPlace.TheVariants as place
 use Rattle.gob_plain.specs.PlainEvents.{SaysEvents}
 use Rattle.gob_plain.specs.WritesPlain.{WritesSome}
 

@@ -1,7 +1,7 @@
 //! The tokens of plain JSON, as a visitor is told of a value.
 
 ghost use Rattle.std.specs.Prelude.{◌≡◌, ◌≢◌, true, false};
-ghost use Rattle.gob_plain.specs.declared.visitor.Place.TheVariants as place;
+ghost use Rattle.gob_plain.specs.declared.visitor.VisitorPlace.TheVariants as place;
 
 use crate::ints::write_ints;
 use crate::leaf::{
@@ -20,7 +20,7 @@ use std::str;
 
 /// Where a visitor is in what it is told.
 #[derive(Clone, Copy)]
-pub(crate) enum Place {
+pub(crate) enum VisitorPlace {
     /// Between two parts.
     Free,
     /// Before a key that gives a member its name.
@@ -40,7 +40,7 @@ pub(crate) struct Plain<'a, S: Shapes> {
     /// How values are written.
     pub(crate) style: Style<'a>,
     /// Where it is.
-    pub(crate) place: Place,
+    pub(crate) place: VisitorPlace,
     /// What is told.
     pub(crate) out: Writer,
 }
@@ -49,15 +49,15 @@ pub(crate) struct Plain<'a, S: Shapes> {
 #[derive(Drop)]
 pub(crate) struct NoHeads;
 
-impl Place {
+impl VisitorPlace {
     // Whether a name is due; then the next part is behind it.
     #[inline(always)]
     fn takes_name(&mut self) -> bool
         ensures name { result ≡ true → (self.old ≡ place.Name) × (self.new ≡ place.Free) }
         ensures other { result ≡ false → (self.old ≢ place.Name) × (self.new ≡ self.old) }
     {
-        if let Place::Name = *self {
-            *self = Place::Free;
+        if let VisitorPlace::Name = *self {
+            *self = VisitorPlace::Free;
             return true;
         }
         false
@@ -69,8 +69,8 @@ impl Place {
         ensures free { self.old ≡ place.Free → self.new ≡ place.Name }
         ensures lost { self.old ≡ place.Lost → self.new ≡ place.Lost }
     {
-        if let Place::Free = *self {
-            *self = Place::Name;
+        if let VisitorPlace::Free = *self {
+            *self = VisitorPlace::Name;
         }
     }
 
@@ -80,8 +80,8 @@ impl Place {
         ensures free { self.old ≡ place.Free → self.new ≡ place.Free }
         ensures lost { self.old ≢ place.Free → self.new ≡ place.Lost }
     {
-        if let Place::Name = *self {
-            *self = Place::Lost;
+        if let VisitorPlace::Name = *self {
+            *self = VisitorPlace::Lost;
         }
     }
 
@@ -90,7 +90,7 @@ impl Place {
     fn gets_lost(&mut self)
         ensures { self.new ≡ place.Lost }
     {
-        *self = Place::Lost;
+        *self = VisitorPlace::Lost;
     }
 }
 

@@ -5,11 +5,11 @@ ghost use Rattle.json.specs.Lex.{tokens};
 ghost use Rattle.json.specs.Print.{print};
 ghost use Rattle.gob_types.specs.Defined.{types};
 ghost use Rattle.gob_plain.specs.BodyText.{IsBodyText};
-ghost use Rattle.gob_plain.specs.declared.visitor.Place.TheVariants as places;
+ghost use Rattle.gob_plain.specs.declared.visitor.VisitorPlace.TheVariants as places;
 
 use crate::style::Style;
 use crate::text::{ROOM, plain_text, text_of};
-use crate::visitor::{Place, Plain};
+use crate::visitor::{Plain, VisitorPlace};
 use gob_json_writer::tape_of;
 use gob_num::Memory;
 use gob_types::{Shapes, Table, TypeId};
@@ -67,7 +67,7 @@ fn told_text_of<S: Shapes>(
         alloc,
         shapes,
         style,
-        place: Place::Free,
+        place: VisitorPlace::Free,
         out,
     };
     let told = walk_whole::<S, Plain<'_, S>, false>(
@@ -92,14 +92,14 @@ fn told_text_of<S: Shapes>(
 }
 
 // The text that the writer holds, where it is that of a value.
-fn text_if_free(place: Place, out: Writer) -> Option<String>
+fn text_if_free(place: VisitorPlace, out: Writer) -> Option<String>
     requires { out.before ≡ [] }
     ensures free { IfSome result (λ text. place ≡ places.Free) }
     ensures text { IfSome result (λ text. string_bytes text ≡ print out.tokens) }
     ensures read { IfSome result (λ text. tokens (string_bytes text) ≡ out.tokens) }
 {
     match place {
-        Place::Free => Some(text_of(out)),
+        VisitorPlace::Free => Some(text_of(out)),
         _ => None,
     }
 }

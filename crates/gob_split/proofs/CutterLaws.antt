@@ -13,7 +13,7 @@ use Rattle.gob_split.specs.Machine.Cutting.{PutsText, TurnAnswers}
 use Rattle.gob_split.specs.Machine.Items.{text_in}
 use Rattle.gob_split.specs.Parts.{SendsSome}
 use Rattle.gob_split.specs.Split.{all_parts, cut_between, cut_within, definitions_of, HasRoom, IsCut, IsDone}
-use Rattle.gob_split.specs.Split.{Part, part_then, stays, turns, value_count, with_text}
+use Rattle.gob_split.specs.Split.{StreamPart, part_then, stays, turns, value_count, with_text}
 use Rattle.gob_split.specs.Text.{Text, text_bytes}
 use Rattle.gob_split.specs.declared.cutter.Cutter.{Cutter}
 use Rattle.gob_split.specs.declared.cutter.Filling.{Filling}
@@ -55,14 +55,14 @@ cut_nothing all x = cut_between (x ∷ []) refl
 -- ---- a part is there for the next item
 module _ (how : PartSize) (defining : List ℕ) (full : List (List ℕ)) (before : List (List ℕ))
     (Are : List (List ℕ) → Type 0) where
-  pub stays_so : (part : Option Part) (f : Filling) → CountsLast (Some f) part
-      → ((p : Part) → CountsPart f p → HasRoom how p) → Are (before ++ all_parts full part)
+  pub stays_so : (part : Option StreamPart) (f : Filling) → CountsLast (Some f) part
+      → ((p : StreamPart) → CountsPart f p → HasRoom how p) → Are (before ++ all_parts full part)
       → HasTurned how defining full part (λ made. Are (before ++ made)) f
   stays_so None f k room out = absurd k
   stays_so (Some p) f k room out =
       record { full' = full; part = p; turns = stays (room p k); counts = k; out = out }
 
-  pub turns_so : (part : Option Part) (r : Result Filling NotWritten) → IsDone how part
+  pub turns_so : (part : Option StreamPart) (r : Result Filling NotWritten) → IsDone how part
       → BeginsPart defining (before ++ all_parts full part) Are r
       → TurnAnswers how defining full part (λ made. Are (before ++ made)) r
   turns_so part (Ok f) done b = record {
@@ -91,12 +91,12 @@ module _ (how : PartSize) (defining : List ℕ) (full : List (List ℕ)) (before
     out = subst Are (append_assoc before (all_parts full part) (prefix ∷ [])) out;
   }
 
-pub done_so : (how : PartSize) (part : Option Part) (f : Filling) → CountsLast (Some f) part
-    → ((p : Part) → CountsPart f p → IsDone how (Some p)) → IsDone how part
+pub done_so : (how : PartSize) (part : Option StreamPart) (f : Filling) → CountsLast (Some f) part
+    → ((p : StreamPart) → CountsPart f p → IsDone how (Some p)) → IsDone how part
 done_so how None f k done = absurd k
 done_so how (Some p) f k done = done p k
 
-pub none_done : (how : PartSize) (part : Option Part) → CountsLast None part → IsDone how part
+pub none_done : (how : PartSize) (part : Option StreamPart) → CountsLast None part → IsDone how part
 none_done how None k = tt
 none_done how (Some p) k = absurd k
 
@@ -106,7 +106,8 @@ pub begins_at : (bytes : List ℕ) (all : List (List ℕ)) (Are : List (List ℕ
 begins_at bytes all Are (Ok f) is h = cc
 begins_at bytes all Are (Err e) is h = h
 
-pub puts_at : (how : PartSize) (c : Cutter) (texts : List Text) (full : List (List ℕ)) (last : Option Part) (t : Text)
+pub puts_at : (how : PartSize) (c : Cutter) (texts : List Text) (full : List (List ℕ)) (last : Option StreamPart)
+    (t : Text)
     (Are : List (List ℕ) → Type 0) (r : Result (Unit {0}) ToolFault) → IsErrAnd r (λ e. e ≡ fault.Write)
     → HasPutSome how (texts ++ t ∷ []) Are → PutsText how c texts full last t Are r
 puts_at how c texts full last t Are (Ok u) is h = absurd is
@@ -131,20 +132,21 @@ rest_same n old more all e l = ap (λ (z : List ℕ). drop n z) e ∙ drop_at ol
 
 -- ---- a text is put
 pub turned_as : (how : PartSize) (due : List ℕ) {size : PartSize} {defining : List ℕ} {full : List (List ℕ)}
-    {last : Option Part} {Are : List (List ℕ) → Type 0} {f : Filling} → size ≡ how → defining ≡ due
+    {last : Option StreamPart} {Are : List (List ℕ) → Type 0} {f : Filling} → size ≡ how → defining ≡ due
     → HasTurned size defining full last Are f → HasTurned how due full last Are f
 turned_as how due {defining = defining} {full = full} {last = last} {Are = Are} {f = f} e d h =
     subst (λ (d : List ℕ). HasTurned how d full last Are f) d
     (subst (λ (s : PartSize). HasTurned s defining full last Are f) e h)
 
 pub not_turned_as : (how : PartSize) (due : List ℕ) {size : PartSize} {defining : List ℕ} {full : List (List ℕ)}
-    {last : Option Part} {Are : List (List ℕ) → Type 0} → size ≡ how → defining ≡ due
+    {last : Option StreamPart} {Are : List (List ℕ) → Type 0} → size ≡ how → defining ≡ due
     → HasNotTurned size defining full last Are → HasNotTurned how due full last Are
 not_turned_as how due {defining = defining} {full = full} {last = last} {Are = Are} e d h =
     subst (λ (d : List ℕ). HasNotTurned how d full last Are) d
     (subst (λ (s : PartSize). HasNotTurned s defining full last Are) e h)
 
-module _ (how : PartSize) {texts : List Text} {full : List (List ℕ)} {last : Option Part} {Are : List (List ℕ) → Type 0}
+module _ (how : PartSize) {texts : List Text} {full : List (List ℕ)} {last : Option StreamPart}
+    {Are : List (List ℕ) → Type 0}
   where
     pub put_so : {c c' : Cutter} {f f' : Filling} (t : Text) → IsCutting how c texts full last
         → (h : HasTurned how (definitions_of texts) full last Are f) → c'.size ≡ c.size

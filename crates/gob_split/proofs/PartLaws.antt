@@ -11,7 +11,8 @@ use Rattle.gob_go.proofs.WholeSteps.{more_behind}
 use Rattle.gob_split.proofs.CutterLaws.{definitions_more}
 use Rattle.gob_split.specs.Laws.{apart, AreNoLonger, AreStreamsOf, definitions_among, no_streams, size_of}
 use Rattle.gob_split.specs.Laws.{streams_then}
-use Rattle.gob_split.specs.Split.{all_parts, definitions_of, IsSplit, no_parts, Part, part_then, stays, Turns, turns}
+use Rattle.gob_split.specs.Split.{all_parts, definitions_of, IsSplit, no_parts, StreamPart, part_then, stays}
+use Rattle.gob_split.specs.Split.{Turns, turns}
 use Rattle.gob_split.specs.Split.{with_text}
 use Rattle.gob_split.specs.Text.{definitions_in, HaveTexts, IsTextOf, no_texts, StandsApart, Text, text_bytes}
 use Rattle.gob_split.specs.Text.{texts_then, value_in}
@@ -46,21 +47,21 @@ one_end (v ∷ texts) (w ∷ others) t u e =
     both e f = cc
 
 -- ---- how a split ends
-split_none : {how : PartSize} {all : List Text} {full : List (List ℕ)} {last : Option Part}
+split_none : {how : PartSize} {all : List Text} {full : List (List ℕ)} {last : Option StreamPart}
     → IsSplit how all full last → all ≡ [] → (full ≡ []) × (last ≡ None)
 split_none no_parts e = (refl, refl)
 split_none (part_then {texts = texts} t s turn) e = absurd (no_end texts t e)
 
-record SplitLast (how : PartSize) (texts : List Text) (t : Text) (full : List (List ℕ)) (last : Option Part)
+record SplitLast (how : PartSize) (texts : List Text) (t : Text) (full : List (List ℕ)) (last : Option StreamPart)
     : Type 0 where
   full_before : List (List ℕ)
-  last_before : Option Part
-  part : Part
+  last_before : Option StreamPart
+  part : StreamPart
   split : IsSplit how texts full_before last_before
   turn : Turns how (definitions_of texts) full_before last_before full part
   last_is : last ≡ Some (with_text part t)
 
-split_last : {how : PartSize} {all : List Text} {full : List (List ℕ)} {last : Option Part} (texts : List Text)
+split_last : {how : PartSize} {all : List Text} {full : List (List ℕ)} {last : Option StreamPart} (texts : List Text)
     (t : Text) → IsSplit how all full last → all ≡ texts ++ t ∷ [] → SplitLast how texts t full last
 split_last texts t no_parts e = absurd (no_end texts t (sym e))
 split_last {how = how} texts t (part_then {texts = us} {full = full} {full' = full'} {last = last} {p = p} u s turn) e =
@@ -109,14 +110,14 @@ apart_more (j ∷ items) i =
     ∙ sym (append_assoc (definitions_in j ++ value_in j) (apart items) (definitions_in i ++ value_in i))
 
 -- ---- the parts so far: the last one may get more
-data HasGrown (M : Bounds) (size : ℕ) (T : Table) : List FilledItem → List (List ℕ) → Option Part → Type 0 where
+data HasGrown (M : Bounds) (size : ℕ) (T : Table) : List FilledItem → List (List ℕ) → Option StreamPart → Type 0 where
   not_begun : HasGrown M size T [] [] None
-  begun : {before : List FilledItem} {full : List (List ℕ)} {p : Part} (own : List FilledItem)
+  begun : {before : List FilledItem} {full : List (List ℕ)} {p : StreamPart} (own : List FilledItem)
       → AreStreamsOf M before full → FilledStream base_table M (definitions_among before ++ apart own) p.bytes T
       → length p.bytes ≤ size → HasGrown M size T (before ++ own) full (Some p)
 
 grown_streams : {M : Bounds} {size : ℕ} {T : Table} {items : List FilledItem} {full : List (List ℕ)}
-    {last : Option Part} → HasGrown M size T items full last → AreStreamsOf M items (all_parts full last)
+    {last : Option StreamPart} → HasGrown M size T items full last → AreStreamsOf M items (all_parts full last)
 grown_streams not_begun = no_streams
 grown_streams (begun own s f l) = streams_then own s f
 
@@ -139,7 +140,7 @@ module _ {M : Bounds} {T U : Table} {i : FilledItem} {t : Text} (free : StandsFr
   defined_then {b = b} s room = more_behind s (omega arith) (free (length b) room).definitions_are
 
   -- the part gets more
-  part_stays : (before own : List FilledItem) (p : Part)
+  part_stays : (before own : List FilledItem) (p : StreamPart)
       → FilledStream base_table M (definitions_among before ++ apart own) p.bytes T
       → length p.bytes + length (text_bytes t) ≤ M.stream
       → FilledStream base_table M (definitions_among before ++ apart (own ++ i ∷ [])) (with_text p t).bytes U
@@ -149,7 +150,7 @@ module _ {M : Bounds} {T U : Table} {i : FilledItem} {t : Text} (free : StandsFr
       ∙ ap (λ (l : List FilledItem). definitions_among before ++ l) (sym (apart_more own i))) (stream_then s room)
 
   grown_then : {how : PartSize} {size : ℕ} {items : List FilledItem} {full full' : List (List ℕ)}
-      {last : Option Part} {p : Part} (defining : List ℕ) → HasGrown M size T items full last
+      {last : Option StreamPart} {p : StreamPart} (defining : List ℕ) → HasGrown M size T items full last
       → Turns how defining full last full' p → FilledStream base_table M (definitions_among items) defining T
       → length defining ≤ size → size + length (text_bytes t) ≤ M.stream
       → HasGrown M (size + length (text_bytes t)) U (items ++ i ∷ []) full' (Some (with_text p t))
@@ -168,12 +169,12 @@ module _ {M : Bounds} {T U : Table} {i : FilledItem} {t : Text} (free : StandsFr
 
 -- ---- all of them
 record AreGrown (M : Bounds) (items : List FilledItem) (texts : List Text) (full : List (List ℕ))
-    (last : Option Part) (T : Table) : Type 0 where
+    (last : Option StreamPart) (T : Table) : Type 0 where
   defined : FilledStream base_table M (definitions_among items) (definitions_of texts) T
   parts : HasGrown M (size_of texts) T items full last
 
 all_grown : {how : PartSize} {L M : Bounds} {bytes front : List ℕ} {items : List FilledItem} {texts : List Text}
-    {full : List (List ℕ)} {last : Option Part} {T : Table} (rest : List ℕ) → L.depth ≤ greatest_depth
+    {full : List (List ℕ)} {last : Option StreamPart} {T : Table} (rest : List ℕ) → L.depth ≤ greatest_depth
     → M.depth ≡ L.depth → M.types ≡ L.types → HaveTexts L bytes items texts → AreNoLonger M.item texts
     → size_of texts ≤ M.stream → IsSplit how texts full last → FilledStream base_table L items front T
     → bytes ≡ front ++ rest → AreGrown M items texts full last T
@@ -211,7 +212,7 @@ all_grown {L = L} {M = M} {front = front} {full = full} {last = last} {T = T} re
     }
 
 pub parts_are_streams : {how : PartSize} {L M : Bounds} {bytes : List ℕ} {items : List FilledItem}
-    {texts : List Text} {full : List (List ℕ)} {last : Option Part} → L.depth ≤ greatest_depth → M.depth ≡ L.depth
+    {texts : List Text} {full : List (List ℕ)} {last : Option StreamPart} → L.depth ≤ greatest_depth → M.depth ≡ L.depth
     → M.types ≡ L.types → HaveTexts L bytes items texts → AreNoLonger M.item texts → size_of texts ≤ M.stream
     → IsSplit how texts full last → AreStreamsOf M items (all_parts full last)
 parts_are_streams {L = L} {bytes = bytes} depth same types no_texts longer size split =

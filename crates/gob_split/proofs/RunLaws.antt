@@ -25,7 +25,7 @@ use Rattle.gob_split.specs.Machine.Cutting.{HasPut, HasPutSome, IsCutting, PutsT
 use Rattle.gob_split.specs.Machine.Items.{TakesText, text_in}
 use Rattle.gob_split.specs.Machine.Splitting.{HasSplit, SplitsSo}
 use Rattle.gob_split.specs.Running.{IsWritten, OfParts, SplitAnswers}
-use Rattle.gob_split.specs.Split.{all_parts, cut_between, no_parts, Part}
+use Rattle.gob_split.specs.Split.{all_parts, cut_between, no_parts, StreamPart}
 use Rattle.gob_split.specs.Text.{HaveTexts, IsTextOf, no_texts, Text, texts_then}
 use Rattle.gob_split.specs.declared.cutter.Cutter.{Cutter}
 use Rattle.gob_split.specs.declared.item_text.ItemText.{ItemText}
@@ -79,7 +79,7 @@ module _ {how : PartSize} {r r' : GoReader} {c : Cutter} {read now next : Option
 
   pub split_turn : {q : GoReader} {c' : Cutter} {New : List (List ℕ) → Type 0} {x : ItemText}
       → TakesText q r' read next s.given x
-      → ((texts : List Text) (full : List (List ℕ)) (last : Option Part) (before : List (List ℕ))
+      → ((texts : List Text) (full : List (List ℕ)) (last : Option StreamPart) (before : List (List ℕ))
       → IsCutting how c texts full last → Mid (before ++ all_parts full last)
       → HasPut how c' (texts ++ text_in x ∷ []) (λ made. New (before ++ made)))
       → SplitsSo how r' c' read next Old New
@@ -104,7 +104,7 @@ module _ {how : PartSize} {r r' : GoReader} {c : Cutter} {read now next : Option
   pub split_cut : (New : List (List ℕ) → Type 0) {q : GoReader} {x : ItemText} → TakesText q r' read next s.given x
       → (bytes : List ℕ) (before : List (List ℕ)) → read ≡ Some bytes
       → Old before
-      → ((texts : List Text) (full : List (List ℕ)) (last : Option Part)
+      → ((texts : List Text) (full : List (List ℕ)) (last : Option StreamPart)
       → IsCutting how c texts full last → Mid (before ++ all_parts full last)
       → HasPutSome how (texts ++ text_in x ∷ []) (λ made. New (before ++ made)))
       → BeginsOutcome profile (within_trees (limits_of (session_of r'))) bytes (λ T items.
@@ -129,7 +129,7 @@ module _ {how : PartSize} {r r' : GoReader} {c : Cutter} {read now next : Option
   pub split_unput : (New : List (List ℕ) → Type 0) (c' : Cutter) {q : GoReader} {x : ItemText} (f : ToolFault)
       → TakesText q r' read next s.given x → session_of q ≡ session_of r
       → HasReadFrom q read next s.given → (bytes : List ℕ) (before : List (List ℕ)) → read ≡ Some bytes → Old before
-      → ((texts : List Text) (full : List (List ℕ)) (last : Option Part)
+      → ((texts : List Text) (full : List (List ℕ)) (last : Option StreamPart)
       → IsCutting how c texts full last → Mid (before ++ all_parts full last)
       → PutsText how c' texts full last (text_in x) (λ made. New (before ++ made)) (Err f))
       → SplitAnswers how (within_trees (limits_of (session_of r))) bytes next (λ made. New (before ++ made)) (Err f)

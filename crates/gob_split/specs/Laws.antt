@@ -4,7 +4,7 @@ use Rattle.gob_types.specs.Base.{base_table}
 use Rattle.gob_types.specs.Table.{Table}
 use Rattle.gob_stream.specs.Bounds.{Bounds, greatest_depth}
 use Rattle.gob_filled.specs.Stream.{FilledItem, FilledStream}
-use Rattle.gob_split.specs.Split.{Part, all_parts, IsSplit}
+use Rattle.gob_split.specs.Split.{StreamPart, all_parts, IsSplit}
 use Rattle.gob_split.specs.Text.{definitions_in, HaveTexts, Text, text_bytes, value_in}
 use Rattle.gob_split.specs.declared.part_size.PartSize.{PartSize}
 
@@ -41,6 +41,6 @@ size_of (t ∷ texts) = length (text_bytes t) + size_of texts
 -- types, and so many bytes as each text and all of them together have
 abbrev pub PartsAreStreams : Type 0
 PartsAreStreams = (how : PartSize) (L M : Bounds) (bytes : List ℕ) (items : List FilledItem) (texts : List Text)
-    (full : List (List ℕ)) (last : Option Part) → L.depth ≤ greatest_depth → M.depth ≡ L.depth → M.types ≡ L.types
+    (full : List (List ℕ)) (last : Option StreamPart) → L.depth ≤ greatest_depth → M.depth ≡ L.depth → M.types ≡ L.types
     → HaveTexts L bytes items texts → AreNoLonger M.item texts → size_of texts ≤ M.stream
     → IsSplit how texts full last → AreStreamsOf M items (all_parts full last)

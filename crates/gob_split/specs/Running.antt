@@ -6,7 +6,7 @@ use Rattle.gob_filled.specs.Outcome.{profile}
 use Rattle.gob_filled.specs.Stream.{FilledItem}
 use Rattle.gob_tool.specs.Answering.{RunAnswersIn}
 use Rattle.gob_tool.specs.declared.fault.ToolFault.{ToolFault}
-use Rattle.gob_split.specs.Split.{Part, all_parts, IsCut, IsSplit}
+use Rattle.gob_split.specs.Split.{StreamPart, all_parts, IsCut, IsSplit}
 use Rattle.gob_split.specs.Text.{Text, HaveTexts}
 use Rattle.gob_split.specs.declared.part_size.PartSize.{PartSize}
 
@@ -16,7 +16,7 @@ pub record OfParts (how : PartSize) (L : Bounds) (bytes : List ℕ) (P : List (L
   pub texts : List Text
   pub are : HaveTexts L bytes items texts
   pub full : List (List ℕ)
-  pub last : Option Part
+  pub last : Option StreamPart
   pub split : IsSplit how texts full last
   pub holds : P (all_parts full last)
 

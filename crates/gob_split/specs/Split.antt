@@ -5,13 +5,13 @@ use Rattle.gob_split.specs.declared.part_size.PartSize.{PartSize}
 use Rattle.gob_split.specs.declared.part_size.PartSize.TheVariants as size
 
 -- a part so far: its bytes, how many values there are in it, and how many in its last item
-pub record Part : Type 0 where
+pub record StreamPart : Type 0 where
   pub bytes : List ℕ
   pub values : ℕ
   pub ends : ℕ
 
 -- the parts, of which the last one may get more
-abbrev pub all_parts : List (List ℕ) → Option Part → List (List ℕ)
+abbrev pub all_parts : List (List ℕ) → Option StreamPart → List (List ℕ)
 all_parts full None = full
 all_parts full (Some p) = full ++ p.bytes ∷ []
 
@@ -29,24 +29,25 @@ values_of [] = 0
 values_of (t ∷ texts) = value_count t.value + values_of texts
 
 -- ---- where a part ends
-abbrev pub IsDone : PartSize → Option Part → Type 0
+abbrev pub IsDone : PartSize → Option StreamPart → Type 0
 IsDone how None = Unit {0}
 IsDone (size.Bytes n) (Some p) = (0 < p.ends) × (n ≤ length p.bytes)
 IsDone (size.Values n) (Some p) = (0 < p.ends) × (n ≤ p.values)
 
-abbrev pub HasRoom : PartSize → Part → Type 0
+abbrev pub HasRoom : PartSize → StreamPart → Type 0
 HasRoom (size.Bytes n) p = (p.ends ≡ 0) ⊎ (length p.bytes < n)
 HasRoom (size.Values n) p = (p.ends ≡ 0) ⊎ (p.values < n)
 
 -- the next item goes into a new part, which begins with the definitions in force, where the last one is done, or there
 -- is none; else into that
-pub data Turns (how : PartSize) (defining : List ℕ) (full : List (List ℕ)) : Option Part → List (List ℕ) → Part
+pub data Turns (how : PartSize) (defining : List ℕ) (full : List (List ℕ)) : Option StreamPart → List (List ℕ)
+    → StreamPart
     → Type 0 where
-  turns : {last : Option Part} → IsDone how last
+  turns : {last : Option StreamPart} → IsDone how last
       → Turns how defining full last (all_parts full last) (record { bytes = defining; values = 0; ends = 0 })
-  stays : {p : Part} → HasRoom how p → Turns how defining full (Some p) full p
+  stays : {p : StreamPart} → HasRoom how p → Turns how defining full (Some p) full p
 
-abbrev pub with_text : Part → Text → Part
+abbrev pub with_text : StreamPart → Text → StreamPart
 with_text p t = record {
   bytes = p.bytes ++ text_bytes t;
   values = p.values + value_count t.value;
@@ -54,9 +55,9 @@ with_text p t = record {
 }
 
 -- the texts, one behind another, are split so
-pub data IsSplit (how : PartSize) : List Text → List (List ℕ) → Option Part → Type 0 where
+pub data IsSplit (how : PartSize) : List Text → List (List ℕ) → Option StreamPart → Type 0 where
   no_parts : IsSplit how [] [] None
-  part_then : {texts : List Text} {full full' : List (List ℕ)} {last : Option Part} {p : Part} (t : Text)
+  part_then : {texts : List Text} {full full' : List (List ℕ)} {last : Option StreamPart} {p : StreamPart} (t : Text)
       → IsSplit how texts full last → Turns how (definitions_of texts) full last full' p
       → IsSplit how (texts ++ t ∷ []) full' (Some (with_text p t))
 

@@ -2,7 +2,7 @@
 
 ghost use Rattle.std.specs.Prelude.{◌≡◌, ◌≢◌, ◌≤◌, ℕ, List, [], ◌∷◌, ◌++◌, Option, None, IfErr, OnErr, OnOk, length};
 ghost use Rattle.gob_tool.specs.declared.fault.ToolFault.TheVariants as fault;
-ghost use Rattle.gob_split.specs.Split.{Part, all_parts, value_count, with_text};
+ghost use Rattle.gob_split.specs.Split.{StreamPart, all_parts, value_count, with_text};
 ghost use Rattle.gob_split.specs.Text.{Text};
 ghost use Rattle.gob_split.specs.Machine.Cutting.{BeginsPart, CountsLast, CountsPart, IsCutting, PutsText};
 ghost use Rattle.gob_split.specs.Machine.Cutting.{TurnAnswers};
@@ -28,7 +28,7 @@ impl Filling {
     // With the text of an item behind it.
     fn with(self, text: &ItemText) -> Filling
         requires { text.now.definitions ≤ length text.now.bytes.items }
-        ensures { (p : Part) → CountsPart self p → CountsPart result (with_text p (text_in text.now)) }
+        ensures { (p : StreamPart) → CountsPart self p → CountsPart result (with_text p (text_in text.now)) }
     {
         let values = values_in(text);
         Filling {
@@ -75,7 +75,7 @@ impl Cutter {
     /// Puts the text of an item behind the others: into the last part, or into a new one where that is done.
     pub(crate) fn put<P: Parts>(&mut self, parts: &mut P, text: &ItemText) -> Result<(), ToolFault>
         requires { text.now.definitions ≤ length text.now.bytes.items }
-        ensures put { (how : PartSize) (texts : List Text) (full : List (List ℕ)) (last : Option Part)
+        ensures put { (how : PartSize) (texts : List Text) (full : List (List ℕ)) (last : Option StreamPart)
             (before : List (List ℕ)) → IsCutting how self.old texts full last
             → P.are parts.old (before ++ all_parts full last)
             → PutsText how self.new texts full last (text_in text.now) (λ made. P.are parts.new (before ++ made))
@@ -107,7 +107,7 @@ fn turn<P: Parts>(
     last: Option<Filling>,
     defining: &[u8],
 ) -> Result<Filling, NotWritten>
-    ensures turned { (full : List (List ℕ)) (part : Option Part) (before : List (List ℕ)) → CountsLast last part
+    ensures turned { (full : List (List ℕ)) (part : Option StreamPart) (before : List (List ℕ)) → CountsLast last part
         → P.are parts.old (before ++ all_parts full part)
         → TurnAnswers size defining.now full part (λ made. P.are parts.new (before ++ made)) result }
     ensures failed { OnErr result (P.has_failed parts.new) }

@@ -1,7 +1,7 @@
 //! How large parts are.
 
 ghost use Rattle.std.specs.Prelude.{◌≡◌, true, false};
-ghost use Rattle.gob_split.specs.Split.{HasRoom, IsDone, Part};
+ghost use Rattle.gob_split.specs.Split.{HasRoom, IsDone, StreamPart};
 ghost use Rattle.gob_split.specs.Machine.Cutting.{CountsPart};
 
 use crate::cutter::Filling;
@@ -18,8 +18,8 @@ pub enum PartSize {
 impl PartSize {
     // Whether a part with so much in it is done.
     pub(crate) fn is_done(self, filling: Filling) -> bool
-        ensures done { result ≡ true → (p : Part) → CountsPart filling p → IsDone self (Some p) }
-        ensures room { result ≡ false → (p : Part) → CountsPart filling p → HasRoom self p }
+        ensures done { result ≡ true → (p : StreamPart) → CountsPart filling p → IsDone self (Some p) }
+        ensures room { result ≡ false → (p : StreamPart) → CountsPart filling p → HasRoom self p }
     {
         if !filling.ends_with_value {
             return false;

@@ -10,13 +10,13 @@ use Rattle.gob_read.specs.Event.{tell_bytes, tell_text, tell_opaque, tell_many, 
 use Rattle.gob_read.specs.Event.{tell_none, tell_each, PairsHaveEvents, tell_no_pair, tell_pair, FieldsHaveEvents}
 use Rattle.gob_read.specs.Event.{tell_no_field, tell_field}
 use Rattle.gob_read.specs.WellFormed.{of_bool, of_int, of_uint, of_float, of_complex, of_nil}
-use Rattle.gob_read.specs.Machine.Built.{Part, raw, many, pairs, fields, Work, told, all_told}
+use Rattle.gob_read.specs.Machine.Built.{OpenPart, raw, many, pairs, fields, Work, told, all_told}
 use Rattle.gob_read.proofs.PublicLaws.{all_told-append, tells_built}
 use Rattle.gob_tape.specs.Machine.Coming.{IsFree, in_list, in_map, in_struct, MayEnd, of_raw, of_list, of_map}
 use Rattle.gob_tape.specs.Machine.Coming.{of_struct, MayCome, a_number, a_raw_part, raw_bytes, a_group, a_field, an_end}
 use Rattle.gob_tape.specs.Machine.Coming.{MayAllCome, none_comes, comes}
 
-abbrev work : List Part → Option Tree → Work
+abbrev work : List OpenPart → Option Tree → Work
 work parts whole = record { parts = parts; whole = whole }
 
 -- the last event may come behind the others
@@ -37,21 +37,22 @@ truth_small false = omega arith
 truth_small true = omega arith
 
 -- these events may come in the open part, and lead to one that may end
-pub record Lead (p : Part) (ps : List Part) (whole : Option Tree) (us : List Event) : Type 0 where
+pub record Lead (p : OpenPart) (ps : List OpenPart) (whole : Option Tree) (us : List Event) : Type 0 where
   pub come : MayAllCome (work (p ∷ ps) whole) us
-  pub part : Part
+  pub part : OpenPart
   pub led : all_told (work (p ∷ ps) whole) us ≡ work (part ∷ ps) whole
   pub may_end : MayEnd part
 
 -- a part from its beginning to its end
-part_comes : {p : Part} {ps : List Part} {whole : Option Tree} {t : Event} {us : List Event} → MayCome ps whole t
+part_comes : {p : OpenPart} {ps : List OpenPart} {whole : Option Tree} {t : Event} {us : List Event}
+    → MayCome ps whole t
     → told (work ps whole) t ≡ work (p ∷ ps) whole → Lead p ps whole us
     → MayAllCome (work ps whole) ((t ∷ us) ++ leave ∷ [])
 part_comes {p = p} {ps = ps} {whole = whole} {t = t} {us = us} m e l =
     comes m (subst (λ w. MayAllCome w (us ++ leave ∷ [])) (sym e)
     (then_come l.come (subst (λ w. MayAllCome w (leave ∷ [])) (sym l.led) (one_comes (an_end l.may_end)))))
 
-raw_leads : {s : List ℕ} {us : List Event} {ps : List Part} {whole : Option Tree} → HasRawEvents s us
+raw_leads : {s : List ℕ} {us : List Event} {ps : List OpenPart} {whole : Option Tree} → HasRawEvents s us
     → (k : RawKind) (r : List ℕ) → Lead (raw k r) ps whole us
 raw_leads no_bytes k r = record { come = none_comes; part = raw k r; led = refl; may_end = of_raw }
 raw_leads {ps = ps} {whole = whole} (more_bytes {us = us} c t) k r = grow (whole_raw t)
@@ -78,7 +79,8 @@ raw_leads {ps = ps} {whole = whole} (more_bytes {us = us} c t) k r = grow (whole
 
 mutual
   -- the events of a value may come where a part may begin
-  pub tells_come : {v : Tree} {us : List Event} {ps : List Part} {whole : Option Tree} {f : Option ℕ} → HasEvents v us
+  pub tells_come : {v : Tree} {us : List Event} {ps : List OpenPart} {whole : Option Tree} {f : Option ℕ}
+      → HasEvents v us
       → IsFree ps whole f → MayAllCome (work ps whole) us
   tells_come (tell_bool {b = b}) h = one_comes (a_number h (of_bool (truth_small b)))
   tells_come tell_not_negative h = one_comes (a_number h of_int)
@@ -94,7 +96,7 @@ mutual
   tells_come (tell_pairs t) h = part_comes (a_group h) refl (pairs_lead t [])
   tells_come (tell_fields t) h = part_comes (a_group h) refl (fields_lead t [])
 
-  each_leads : {vs : Trees} {us : List Event} {ps : List Part} {whole : Option Tree} → HaveEvents vs us
+  each_leads : {vs : Trees} {us : List Event} {ps : List OpenPart} {whole : Option Tree} → HaveEvents vs us
       → (xs : List Tree) → Lead (many xs) ps whole us
   each_leads tell_none xs = record { come = none_comes; part = many xs; led = refl; may_end = of_list }
   each_leads {ps = ps} {whole = whole} (tell_each {v = v} {us = us} {ws = ws} t ts) xs =
@@ -107,7 +109,7 @@ mutual
         may_end = x.may_end;
       }
 
-  pairs_lead : {es : Pairs} {us : List Event} {ps : List Part} {whole : Option Tree} → PairsHaveEvents es us
+  pairs_lead : {es : Pairs} {us : List Event} {ps : List OpenPart} {whole : Option Tree} → PairsHaveEvents es us
       → (xs : List (Tree × Tree)) → Lead (pairs xs None) ps whole us
   pairs_lead tell_no_pair xs = record { come = none_comes; part = pairs xs None; led = refl; may_end = of_map }
   pairs_lead {ps = ps} {whole = whole} (tell_pair {k = k} {e = e} {us = us} {ws = ws} {xs = ys} t u ts) xs =
@@ -124,7 +126,7 @@ mutual
         may_end = x.may_end;
       }
 
-  fields_lead : {fs : Fields} {us : List Event} {ps : List Part} {whole : Option Tree} → FieldsHaveEvents fs us
+  fields_lead : {fs : Fields} {us : List Event} {ps : List OpenPart} {whole : Option Tree} → FieldsHaveEvents fs us
       → (xs : List (ℕ × Tree)) → Lead (fields xs None) ps whole us
   fields_lead tell_no_field xs = record { come = none_comes; part = fields xs None; led = refl; may_end = of_struct }
   fields_lead {ps = ps} {whole = whole} (tell_field {f = f} {v = v} {us = us} {ws = ws} t ts) xs =

@@ -16,7 +16,7 @@ use Rattle.gob_read.specs.declared.event.RawKind.TheVariants as kind
 use Rattle.gob_read.specs.declared.event.GroupKind.{GroupKind}
 use Rattle.gob_read.specs.declared.event.GroupKind.TheVariants as group
 use Rattle.gob_read.specs.WellFormed.{AreNumbers}
-use Rattle.gob_read.specs.Machine.Built.{Part, raw, fields, closed, opened_part, put_in}
+use Rattle.gob_read.specs.Machine.Built.{OpenPart, raw, fields, closed, opened_part, put_in}
 use Rattle.gob_read.specs.Leaf.{number_tree, raw_tree}
 use Rattle.gob_tape.specs.declared.node.Content.{Content}
 use Rattle.gob_tape.specs.declared.node.Content.TheVariants as content
@@ -52,7 +52,7 @@ key_kept : {nodes after : List Node} {pool grown : List ℕ} {low high i j : ℕ
 key_kept x l h no_key = no_key
 key_kept x l h (a_key m) = a_key (at_kept x l h m)
 
-open_rises : {nodes : List Node} {pool : List ℕ} {i j count : ℕ} {f : Option ℕ} {p : Part}
+open_rises : {nodes : List Node} {pool : List ℕ} {i j count : ℕ} {f : Option ℕ} {p : OpenPart}
     → IsOpenPart nodes pool i j count f p → i < j
 open_rises (open_raw s n l e) = omega arith
 open_rises (open_list s c m) = omega (arith, each_rises m)
@@ -60,7 +60,7 @@ open_rises (open_map s c m k) = omega (arith, pairs_rise m, key_rises k)
 open_rises (open_struct s c m) = omega (arith, fields_rise m)
 
 -- the open parts stay where no raw bytes come into one of them
-pub open_kept : {nodes after : List Node} {pool grown : List ℕ} {j : ℕ} {os : List Begun} {ps : List Part}
+pub open_kept : {nodes after : List Node} {pool grown : List ℕ} {j : ℕ} {os : List Begun} {ps : List OpenPart}
     {f : Option ℕ} → AreOpen nodes pool j os ps → IsFree ps None f → Kept nodes after pool grown 0 j
     → AreOpen after grown j os ps
 open_kept no_open h k = no_open
@@ -149,7 +149,7 @@ fields_length (f ∷ fs) = omega (arith, fields_length fs)
 counted_once : {c n : ℕ} → c ≡ n → n + 1 < 2 ^ 64 → min (c + 1) (2 ^ 64 - 1) ≡ n + 1
 counted_once e l = omega arith
 
-pub put_shown : {s : State} {i : ℕ} {os : List Begun} {ps : List Part} {f : Option ℕ} {v : Tree}
+pub put_shown : {s : State} {i : ℕ} {os : List Begun} {ps : List OpenPart} {f : Option ℕ} {v : Tree}
     → AreOpen s.nodes s.pool i os ps → IsFree ps None f → MeansAt s.nodes s.pool i (length s.nodes) f v
     → length s.nodes < 2 ^ 63 → s.begun ≡ counted os → s.field ≡ None
     → s.deepest ≡ max (parts_depth ps) (length ps + depth v)
@@ -180,13 +180,13 @@ put_shown {s = s} {v = v} (in_part {ps = ps} a g (open_struct {fs = fs} t c ms))
 
 -- ---- each event
 
-free_field : {ps : List Part} {whole : Option Tree} {f : Option ℕ} → IsFree ps whole f → standing.next_field ps ≡ f
+free_field : {ps : List OpenPart} {whole : Option Tree} {f : Option ℕ} → IsFree ps whole f → standing.next_field ps ≡ f
 free_field at_top = refl
 free_field in_list = refl
 free_field in_map = refl
 free_field in_struct = refl
 
-open_length : {nodes : List Node} {pool : List ℕ} {j : ℕ} {os : List Begun} {ps : List Part}
+open_length : {nodes : List Node} {pool : List ℕ} {j : ℕ} {os : List Begun} {ps : List OpenPart}
     → AreOpen nodes pool j os ps → length os ≡ length ps
 open_length no_open = refl
 open_length (in_part a g q) = omega (arith, open_length a)
@@ -196,7 +196,7 @@ seam [] x = refl
 seam (y ∷ xs) x = seam xs x
 
 -- the node that comes last
-last_node : (s : State) {ps : List Part} {whole : Option Tree} {f : Option ℕ} (c : Content)
+last_node : (s : State) {ps : List OpenPart} {whole : Option Tree} {f : Option ℕ} (c : Content)
     → s.field ≡ standing.next_field ps → IsFree ps whole f → slice_get (s.nodes ++ node s.field c ∷ []) (length s.nodes)
     ≡ Some (node f c)
 last_node s c e h = seam s.nodes (node s.field c) ∙ ap (λ g. Some (node g c)) (e ∙ free_field h)
@@ -212,7 +212,7 @@ pushed_kept nodes pool x = record {
       sym (append-nil pool);
 }
 
-pub shows_added : (s : State) {ps : List Part} {whole : Option Tree} {f : Option ℕ} (k : Basic) (a b : ℕ)
+pub shows_added : (s : State) {ps : List OpenPart} {whole : Option Tree} {f : Option ℕ} (k : Basic) (a b : ℕ)
     → ShowsTree s ps whole → IsFree ps whole f → AreNumbers k a b → length (added_node s (content.Number k a b)).nodes <
     2 ^ 63
     → ShowsTree (added_node s (content.Number k a b)) (put_in ps whole (number_tree k a b)).parts
@@ -236,7 +236,7 @@ opened_list {nodes = nodes} {pool = pool} {i = i} {f = f} group.Pairs t e =
 opened_list {nodes = nodes} {pool = pool} {i = i} {f = f} group.Fields t e =
     subst (λ j. IsOpenPart nodes pool i j 0 f (opened_part group.Fields)) e (open_struct t refl end_of_fields)
 
-opened_next : (k : GroupKind) (ps : List Part) → None ≡ standing.next_field (opened_part k ∷ ps)
+opened_next : (k : GroupKind) (ps : List OpenPart) → None ≡ standing.next_field (opened_part k ∷ ps)
 opened_next group.Many ps = refl
 opened_next group.Pairs ps = refl
 opened_next group.Fields ps = refl
@@ -246,7 +246,7 @@ opened_depth group.Many = omega arith
 opened_depth group.Pairs = omega arith
 opened_depth group.Fields = omega arith
 
-pub shows_entered : (s : State) {ps : List Part} {whole : Option Tree} {f : Option ℕ} (k : GroupKind)
+pub shows_entered : (s : State) {ps : List OpenPart} {whole : Option Tree} {f : Option ℕ} (k : GroupKind)
     → ShowsTree s ps whole → IsFree ps whole f → ShowsTree (state.opened_node s (content.Group k 0 0))
     (opened_part k ∷ ps) whole
 shows_entered s k (whole m e d) h = elim h [ ]
@@ -257,7 +257,7 @@ shows_entered s {ps = ps} k (under_way o e d) h =
     (opened_list k (last_node s c e h) (one_more s.nodes x)))
     (opened_next k ps) (omega (arith, d, open_length o, opened_depth k))
 
-pub shows_started : (s : State) {ps : List Part} {whole : Option Tree} {f : Option ℕ} (k : RawKind)
+pub shows_started : (s : State) {ps : List OpenPart} {whole : Option Tree} {f : Option ℕ} (k : RawKind)
     → ShowsTree s ps whole → IsFree ps whole f
     → ShowsTree (state.opened_node s (content.Raw k (length s.pool) 0)) (raw k [] ∷ ps) whole
 shows_started s k (whole m e d) h = elim h [ ]
@@ -269,7 +269,8 @@ shows_started s {ps = ps} k (under_way o e d) h =
     refl (omega (arith, d, open_length o))
 
 -- raw bytes come into the innermost part
-bytes_come : {nodes : List Node} {pool : List ℕ} {j : ℕ} {os : List Begun} {k : RawKind} {r : List ℕ} {ps : List Part}
+bytes_come : {nodes : List Node} {pool : List ℕ} {j : ℕ} {os : List Begun} {k : RawKind} {r : List ℕ}
+    {ps : List OpenPart}
     (more : List ℕ) → AreOpen nodes pool j os (raw k r ∷ ps)
     → AreOpen nodes (pool ++ more) j os (raw k (r ++ more) ∷ ps)
 bytes_come {nodes = nodes} {pool = pool} more (in_part a g (open_raw {start = start} t n l e)) =
@@ -277,16 +278,16 @@ bytes_come {nodes = nodes} {pool = pool} more (in_part a g (open_raw {start = st
     (open_raw t n (omega (arith, length-append pool more)) (ap (λ r. r ++ more) e
     ∙ sym (drop-append-le start pool more l)))
 
-pub shows_more : (s : State) {k : RawKind} {r : List ℕ} {ps : List Part} {whole : Option Tree} (more : List ℕ)
+pub shows_more : (s : State) {k : RawKind} {r : List ℕ} {ps : List OpenPart} {whole : Option Tree} (more : List ℕ)
     → ShowsTree s (raw k r ∷ ps) whole → ShowsTree (record s { pool = s.pool ++ more }) (raw k (r ++ more) ∷ ps) whole
 shows_more s more (under_way o e d) = under_way (bytes_come more o) e d
 
 -- the number of the next part comes
-number_comes : {nodes : List Node} {pool : List ℕ} {j : ℕ} {os : List Begun} {fs : List (ℕ × Tree)} {ps : List Part}
+number_comes : {nodes : List Node} {pool : List ℕ} {j : ℕ} {os : List Begun} {fs : List (ℕ × Tree)} {ps : List OpenPart}
     (f : ℕ) → AreOpen nodes pool j os (fields fs None ∷ ps) → AreOpen nodes pool j os (fields fs (Some f) ∷ ps)
 number_comes f (in_part a g (open_struct t c m)) = in_part a g (open_struct t c m)
 
-pub shows_field : (s : State) {fs : List (ℕ × Tree)} {ps : List Part} {whole : Option Tree} (f : ℕ)
+pub shows_field : (s : State) {fs : List (ℕ × Tree)} {ps : List OpenPart} {whole : Option Tree} (f : ℕ)
     → ShowsTree s (fields fs None ∷ ps) whole → ShowsTree (record s { field = Some f }) (fields fs (Some f) ∷ ps) whole
 shows_field s f (under_way o e d) = under_way (number_comes f o) refl d
 
@@ -317,7 +318,7 @@ set_kept nodes pool i low high x apart = record {
 }
 
 -- the part is whole then
-ended_means : {nodes : List Node} {pool : List ℕ} {i j count : ℕ} {f : Option ℕ} {p : Part} (x : Node)
+ended_means : {nodes : List Node} {pool : List ℕ} {i j count : ℕ} {f : Option ℕ} {p : OpenPart} (x : Node)
     → slice_get nodes i ≡ Some x → j ≡ length nodes → IsOpenPart nodes pool i j count f p → MayEnd p
     → MeansAt (set nodes i (node x.field (ended x.content count i j (length pool)))) pool i j f (closed p)
 ended_means {nodes = nodes} {pool = pool} {i = i} {j = j} {count = count} {f = f} x g l
@@ -362,13 +363,13 @@ ended_means {nodes = nodes} {pool = pool} {i = i} {j = j} {count = count} {f = f
     ∙ sym (fields_length fs))
     (fields_kept (set_kept nodes pool i (i + 1) j y (λ k a b e. absurd (omega arith))) (omega arith) (omega arith) m)
 
-closed_depth : {p : Part} → MayEnd p → depth (closed p) ≡ part_depth p
+closed_depth : {p : OpenPart} → MayEnd p → depth (closed p) ≡ part_depth p
 closed_depth (of_raw {k = k} {s = s}) = raw_depth k s
 closed_depth of_list = refl
 closed_depth of_map = omega arith
 closed_depth of_struct = refl
 
-left_shown : (s : State) {j : ℕ} {o : Begun} {os : List Begun} {p : Part} {ps : List Part} (x : Node)
+left_shown : (s : State) {j : ℕ} {o : Begun} {os : List Begun} {p : OpenPart} {ps : List OpenPart} (x : Node)
     → AreOpen s.nodes s.pool j (o ∷ os) (p ∷ ps) → j ≡ length s.nodes → MayEnd p → s.deepest ≡ parts_depth (p ∷ ps)
     → slice_get s.nodes o.node ≡ Some x → length s.nodes < 2 ^ 63
     → ShowsTree (record {
@@ -398,7 +399,8 @@ left_shown s {j = j} {o = o} {os = os} {p = p} {ps = ps} x (in_part {f = f} a g 
     (omega (arith, length-set s.nodes o.node y)) refl refl (omega (arith, d, closed_depth h))
 
 -- the innermost part ends
-pub shows_left : (s : State) {o : Begun} {os : List Begun} {p : Part} {ps : List Part} {whole : Option Tree} (x : Node)
+pub shows_left : (s : State) {o : Begun} {os : List Begun} {p : OpenPart} {ps : List OpenPart} {whole : Option Tree}
+    (x : Node)
     → s.begun ≡ o ∷ os → ShowsTree s (p ∷ ps) whole → MayEnd p
     → slice_get s.nodes o.node ≡ Some x → length s.nodes < 2 ^ 63
     → ShowsTree (record {
@@ -415,6 +417,6 @@ shows_left s {p = p} {ps = ps} x b (under_way a e d) h t l =
     left_shown s x (subst (λ os. AreOpen s.nodes s.pool (length s.nodes) os (p ∷ ps)) b a) refl h d t l
 
 -- which node it is
-pub node_stands : {nodes : List Node} {pool : List ℕ} {j : ℕ} {o : Begun} {os : List Begun} {ps : List Part}
+pub node_stands : {nodes : List Node} {pool : List ℕ} {j : ℕ} {o : Begun} {os : List Begun} {ps : List OpenPart}
     → AreOpen nodes pool j (o ∷ os) ps → o.node < j
 node_stands (in_part a g q) = open_rises q

@@ -9,7 +9,7 @@ use Rattle.gob_read.specs.declared.event.RawKind.{RawKind}
 use Rattle.gob_read.specs.declared.event.GroupKind.{GroupKind}
 use Rattle.gob_read.specs.Event.{Event, number, raw_start, raw_more, enter, field, leave, HasEvents}
 use Rattle.gob_read.specs.Weight.{parts_told, raw_told}
-use Rattle.gob_read.specs.Machine.Built.{Part, Work, no_work, told, all_told}
+use Rattle.gob_read.specs.Machine.Built.{OpenPart, Work, no_work, told, all_told}
 use Rattle.gob_read.proofs.PublicLaws.{all_told-append, tells_built, parts_told-append, raw_told-append}
 use Rattle.gob_tape.specs.declared.node.Content.TheVariants as content
 use Rattle.gob_tape.specs.declared.node.Node.{Node}
@@ -61,7 +61,7 @@ pub more_told : {old new : State} {before after : ℕ} {us : List Event} (c : Li
     → AreTaped new after (us ++ raw_more c ∷ [])
 more_told {old = old} {new = new} c e n = told_more (raw_more c) (λ w m s. by w.parts w.whole m s) (omega arith)
   where
-    by : (ps : List Part) (v : Option Tree) → MayCome ps v (raw_more c) → ShowsTree old ps v
+    by : (ps : List OpenPart) (v : Option Tree) → MayCome ps v (raw_more c) → ShowsTree old ps v
         → ShowsTree new (told (record { parts = ps; whole = v }) (raw_more c)).parts v
     by ps v raw_bytes s = rw e (shows_more old c s)
 
@@ -78,29 +78,30 @@ pub field_told : {old : State} {before : ℕ} {us : List Event} (f : ℕ) → Ar
     → AreTaped (record old { field = Some f }) before (us ++ field f ∷ [])
 field_told {old = old} f = told_more (field f) (λ w m s. by w.parts w.whole m s) (omega arith)
   where
-    by : (ps : List Part) (v : Option Tree) → MayCome ps v (field f) → ShowsTree old ps v
+    by : (ps : List OpenPart) (v : Option Tree) → MayCome ps v (field f) → ShowsTree old ps v
         → ShowsTree (record old { field = Some f }) (told (record { parts = ps; whole = v }) (field f)).parts v
     by ps v a_field s = shows_field old f s
 
-no_number : {p : Part} (ps : List Part) → MayEnd p → next_field (p ∷ ps) ≡ None
+no_number : {p : OpenPart} (ps : List OpenPart) → MayEnd p → next_field (p ∷ ps) ≡ None
 no_number ps of_raw = refl
 no_number ps of_list = refl
 no_number ps of_map = refl
 no_number ps of_struct = refl
 
-shown_field : {s : State} {p : Part} {ps : List Part} {v : Option Tree} → ShowsTree s (p ∷ ps) v → MayEnd p
+shown_field : {s : State} {p : OpenPart} {ps : List OpenPart} {v : Option Tree} → ShowsTree s (p ∷ ps) v → MayEnd p
     → s.field ≡ None
 shown_field {ps = ps} (under_way a e d) h = e ∙ no_number ps h
 
 -- where a part ends, there is one, with its node
-some_open : {s : State} {p : Part} {ps : List Part} {v : Option Tree} → ShowsTree s (p ∷ ps) v → length s.begun ≡ 0 → ⊥
+some_open : {s : State} {p : OpenPart} {ps : List OpenPart} {v : Option Tree} → ShowsTree s (p ∷ ps) v
+    → length s.begun ≡ 0 → ⊥
 some_open (under_way a e d) n = none a n
   where
-    none : {nodes : List Node} {pool : List ℕ} {j : ℕ} {os : List Begun} {p : Part} {ps : List Part}
+    none : {nodes : List Node} {pool : List ℕ} {j : ℕ} {os : List Begun} {p : OpenPart} {ps : List OpenPart}
         → AreOpen nodes pool j os (p ∷ ps) → length os ≡ 0 → ⊥
     none (in_part a g q) n = absurd (omega arith)
 
-place_stands : {s : State} {o : Begun} {os : List Begun} {p : Part} {ps : List Part} {v : Option Tree}
+place_stands : {s : State} {o : Begun} {os : List Begun} {p : OpenPart} {ps : List OpenPart} {v : Option Tree}
     → s.begun ≡ o ∷ os → ShowsTree s (p ∷ ps) v → o.node < length s.nodes
 place_stands {s = s} {p = p} {ps = ps} b (under_way a e d) =
     node_stands (subst (λ os. AreOpen s.nodes s.pool (length s.nodes) os (p ∷ ps)) b a)
@@ -112,7 +113,7 @@ pub leave_told : {old new : State} {before after : ℕ} {us : List Event} (o : B
     → after ≡ before → AreTaped old before us → AreTaped new after (us ++ leave ∷ [])
 leave_told {old = old} {new = new} o os b l e n = told_more leave (λ w m s. by w.parts w.whole m s) (omega arith)
   where
-    by : (ps : List Part) (v : Option Tree) → MayCome ps v leave → ShowsTree old ps v
+    by : (ps : List OpenPart) (v : Option Tree) → MayCome ps v leave → ShowsTree old ps v
         → ShowsTree new (told (record { parts = ps; whole = v }) leave).parts (told (record { parts = ps; whole = v })
         leave).whole
     by [] v h s = elim h [ ]
@@ -130,7 +131,7 @@ pub none_left : {old new : State} {before : ℕ} {us : List Event} → length ol
     → AreTaped old before us → AreTaped new before (us ++ leave ∷ [])
 none_left {old = old} {new = new} n e = told_more leave (λ w m s. by w.parts w.whole m s) (omega arith)
   where
-    by : (ps : List Part) (v : Option Tree) → MayCome ps v leave → ShowsTree old ps v
+    by : (ps : List OpenPart) (v : Option Tree) → MayCome ps v leave → ShowsTree old ps v
         → ShowsTree new (told (record { parts = ps; whole = v }) leave).parts (told (record { parts = ps; whole = v })
         leave).whole
     by [] v h s = elim h [ ]

@@ -11,7 +11,8 @@ use Rattle.gob_types.specs.Table.{Table, shape_of}
 use Rattle.gob_value.specs.Spelling.{Spells, SpellsEach, SpellsPairs}
 use Rattle.gob_value.specs.Spelling as spelling
 use Rattle.gob_value.specs.Tree.{Tree, no_tree, no_pair, tree_count, pair_count}
-use Rattle.gob_tidy.specs.SameNil.{Step, StandBefore, slice_element, array_element, map_key, map_element, struct_field}
+use Rattle.gob_tidy.specs.SameNil.{PathStep, StandBefore, slice_element, array_element, map_key, map_element}
+use Rattle.gob_tidy.specs.SameNil.{struct_field}
 use Rattle.gob_tidy.specs.SameNil.{field_before, by_part}
 use Rattle.gob_tidy.specs.Machine.Tidying.{Fronts, IsAsked, LeadAlike, LeadAmong, among, LeadInList, in_list}
 use Rattle.gob_tidy.specs.Machine.Tidying.{LeadInEntries, in_key, in_element, LeadInMap, in_map, LeadInFields, in_field}
@@ -198,7 +199,7 @@ behind_kept {T = T} {types = types} {next = next} {kept = kept} {a = a} {d = d} 
 
 -- ---- ways into values with parts
 
-by_step : {T : Table} {t u : TypeId} {s : Shape} {step : Step} {a b f g : List ℕ} → shape_of T t ≡ Some s
+by_step : {T : Table} {t u : TypeId} {s : Shape} {step : PathStep} {a b f g : List ℕ} → shape_of T t ≡ Some s
     → StandBefore T s.kind step a u → StandBefore T s.kind step b u → LeadAlike T u f g
     → LeadAlike T t (a ++ f) (b ++ g)
 by_step known p q l = record {
@@ -220,8 +221,9 @@ module _ {T : Table} {t : TypeId} {s : Shape} (known : shape_of T t ≡ Some s) 
   slice_way {e = e} is
       (in_list {a = a} {b = c} admitted u v (among {vs = vs} {b = b} {c = d} {f = f} {g = g} few alike ps qs l)) =
       grouped a b f c d g (by_step known
-      (subst (λ k. StandBefore T k (Step.element (tree_count vs)) (a ++ b) e) (sym is) (slice_element u ps refl few))
-      (subst (λ k. StandBefore T k (Step.element (tree_count vs)) (c ++ d) e) (sym is)
+      (subst (λ k. StandBefore T k (PathStep.element (tree_count vs)) (a ++ b) e) (sym is)
+      (slice_element u ps refl few))
+      (subst (λ k. StandBefore T k (PathStep.element (tree_count vs)) (c ++ d) e) (sym is)
       (slice_element v qs alike few)) l)
 
   pub array_way : {e : TypeId} {n : ℕ} {f g : List ℕ} → s.kind ≡ kind.Array e n → LeadInList T e (Some n) f g
@@ -231,17 +233,17 @@ module _ {T : Table} {t : TypeId} {s : Shape} (known : shape_of T t ≡ Some s) 
       (among {vs = vs} {b = b} {c = d} {f = f} {g = g} few alike ps qs l)) =
       let low : tree_count vs < n = omega (arith, admitted) in
       grouped a b f c d g (by_step known
-      (subst (λ k. StandBefore T k (Step.element (tree_count vs)) (a ++ b) e) (sym is)
+      (subst (λ k. StandBefore T k (PathStep.element (tree_count vs)) (a ++ b) e) (sym is)
       (array_element (subst (λ k. IsUnsigned k a) admitted u) ps refl low))
-      (subst (λ k. StandBefore T k (Step.element (tree_count vs)) (c ++ d) e) (sym is)
+      (subst (λ k. StandBefore T k (PathStep.element (tree_count vs)) (c ++ d) e) (sym is)
       (array_element (subst (λ k. IsUnsigned k c) admitted v) qs alike low)) l)
 
   pub map_way : {k e : TypeId} {f g : List ℕ} → s.kind ≡ kind.Map k e → LeadInMap T k e f g → LeadAlike T t f g
   map_way {k = k} {e = e} is
       (in_map {a = a} {b = c} u v (in_key {ps = ps} {b = b} {c = d} {f = f} {g = g} few alike p q l)) =
       grouped a b f c d g (by_step known
-      (subst (λ i. StandBefore T i (Step.key (pair_count ps)) (a ++ b) k) (sym is) (map_key u p refl few))
-      (subst (λ i. StandBefore T i (Step.key (pair_count ps)) (c ++ d) k) (sym is) (map_key v q alike few)) l)
+      (subst (λ i. StandBefore T i (PathStep.key (pair_count ps)) (a ++ b) k) (sym is) (map_key u p refl few))
+      (subst (λ i. StandBefore T i (PathStep.key (pair_count ps)) (c ++ d) k) (sym is) (map_key v q alike few)) l)
   map_way {k = k} {e = e} is
       (in_map {a = a} {b = c} u v
       (in_element {ps = ps} {b = b} {c = d} {a = h} {d = o} {f = f} {g = g} few alike p q x y l)) =
@@ -249,13 +251,13 @@ module _ {T : Table} {t : TypeId} {s : Shape} (known : shape_of T t ≡ Some s) 
       subst (LeadAlike T t (a ++ (b ++ (h ++ f)))) (to c d o g)
       (subst (λ z. LeadAlike T t z ((c ++ (d ++ o)) ++ g)) (to a b h f)
       (by_step known
-      (subst (λ i. StandBefore T i (Step.entry_element (pair_count ps)) (a ++ (b ++ h)) e) (sym is)
+      (subst (λ i. StandBefore T i (PathStep.entry_element (pair_count ps)) (a ++ (b ++ h)) e) (sym is)
       (map_element u p refl few x))
-      (subst (λ i. StandBefore T i (Step.entry_element (pair_count ps)) (c ++ (d ++ o)) e) (sym is)
+      (subst (λ i. StandBefore T i (PathStep.entry_element (pair_count ps)) (c ++ (d ++ o)) e) (sym is)
       (map_element v q alike few y)) l))
 
   pub struct_way : {types : List Field} {f g : List ℕ} → s.kind ≡ kind.Struct types → LeadInFields T types 0 0 f g
       → LeadAlike T t f g
   struct_way {types = types} is (in_field {number = n} {e = e} {a = a} {b = b} at p q l) = by_step known
-      (subst (λ i. StandBefore T i (Step.field n) a e.id) (sym is) (struct_field at p))
-      (subst (λ i. StandBefore T i (Step.field n) b e.id) (sym is) (struct_field at q)) l
+      (subst (λ i. StandBefore T i (PathStep.field n) a e.id) (sym is) (struct_field at p))
+      (subst (λ i. StandBefore T i (PathStep.field n) b e.id) (sym is) (struct_field at q)) l

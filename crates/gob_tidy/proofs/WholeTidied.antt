@@ -27,7 +27,7 @@ use Rattle.gob_value.specs.Tree.{Tree, Trees, no_tree, tree, no_pair, pair, no_f
 use Rattle.gob_value.specs.Tree.{trees_depth}
 use Rattle.gob_value.specs.Tree as Value
 use Rattle.gob_value.proofs.PublicLaws.{whole_of_two}
-use Rattle.gob_tidy.specs.SameNil.{Step, LeadsTo, to_itself, by_part, LeadsFromTop, in_struct, its_delta, IsSameNil}
+use Rattle.gob_tidy.specs.SameNil.{PathStep, LeadsTo, to_itself, by_part, LeadsFromTop, in_struct, its_delta, IsSameNil}
 use Rattle.gob_tidy.specs.SameNil as same_nil
 use Rattle.gob_tidy.specs.Machine.Tidying.{Admits, BeginsDropped, BeginsZero, CopiesEach, CopiesNumber, GivesEach}
 use Rattle.gob_tidy.specs.Machine.Tidying.{GivesEntries, GivesFields, GivesList, GivesMap, GivesTop, GivesValue, IsLeaf}
@@ -579,7 +579,7 @@ module _ {T : Table} {t : TypeId} (limit size : ℕ) (asked : List ℕ) (old : F
   behind_tag n (spelling.of_type {s = s} e p) =
       tagged e (λ struct. n (record { shape = s; found = e; struct = struct })) (spelling.of_type e p)
 
-  leads_behind_tag : {way : List Step} {f : List ℕ} → ¬ HasStructs T t → LeadsTo T t way f
+  leads_behind_tag : {way : List PathStep} {f : List ℕ} → ¬ HasStructs T t → LeadsTo T t way f
       → LeadsFromTop T t way (0 ∷ f)
   leads_behind_tag n (to_itself {s = s} e k) =
       same_nil.behind_tag e (λ struct. n (record { shape = s; found = e; struct = struct })) (to_itself e k)

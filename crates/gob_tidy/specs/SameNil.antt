@@ -17,15 +17,15 @@ use Rattle.gob_value.specs.Tree.{Tree, Trees, Pairs, tree_count, pair_count}
 use Rattle.gob_tidy.specs.TidiedWhole.{TidiesWhole}
 
 -- which part of a value, by its number among those of its sort
-pub data Step : Type 0 where
+pub data PathStep : Type 0 where
   -- of a slice or an array
-  element : ℕ → Step
+  element : ℕ → PathStep
   -- of the entry of a map
-  key : ℕ → Step
+  key : ℕ → PathStep
   -- the element of that entry
-  entry_element : ℕ → Step
+  entry_element : ℕ → PathStep
   -- of a struct
-  field : ℕ → Step
+  field : ℕ → PathStep
 
 -- these bytes stand before the value of the field, where the next field has the one number or a greater one: whole
 -- fields, each behind its delta, and the delta of this one
@@ -37,7 +37,7 @@ pub data StandBeforeField (T : Table) (types : List Field) : (next number : ℕ)
       → StandBeforeField T types (other + 1) number c → StandBeforeField T types next number (a ++ (b ++ c))
 
 -- these bytes stand in a part of the kind before this part of it, which is of the type
-pub data StandBefore (T : Table) : Kind → Step → List ℕ → TypeId → Type 0 where
+pub data StandBefore (T : Table) : Kind → PathStep → List ℕ → TypeId → Type 0 where
   slice_element : {e : TypeId} {n at : ℕ} {vs : Trees} {c b : List ℕ} → IsUnsigned n c → SpellsEach T e vs b
       → tree_count vs ≡ at → at < n → StandBefore T (kind.Slice e) (element at) (c ++ b) e
   array_element : {e : TypeId} {n at : ℕ} {vs : Trees} {c b : List ℕ} → IsUnsigned n c → SpellsEach T e vs b
@@ -51,20 +51,20 @@ pub data StandBefore (T : Table) : Kind → Step → List ℕ → TypeId → Typ
       → StandBeforeField T types 0 number a → StandBefore T (kind.Struct types) (field number) a e.id
 
 -- the way leads from the first byte of a value of the type to a nil in it, or to the value itself, past these bytes
-pub data LeadsTo (T : Table) : TypeId → List Step → List ℕ → Type 0 where
+pub data LeadsTo (T : Table) : TypeId → List PathStep → List ℕ → Type 0 where
   to_itself : {t : TypeId} {s : Shape} → shape_of T t ≡ Some s → s.kind ≡ kind.Basic basic.Interface → LeadsTo T t [] []
-  by_part : {t u : TypeId} {s : Shape} {step : Step} {way : List Step} {p q : List ℕ} → shape_of T t ≡ Some s
+  by_part : {t u : TypeId} {s : Shape} {step : PathStep} {way : List PathStep} {p q : List ℕ} → shape_of T t ≡ Some s
       → StandBefore T s.kind step q u → LeadsTo T u way p → LeadsTo T t (step ∷ way) (q ++ p)
 
 -- so it does from the first byte of the body of an item, where a value that isn't a struct stands behind its tag
-pub data LeadsFromTop (T : Table) : TypeId → List Step → List ℕ → Type 0 where
-  in_struct : {t : TypeId} {s : Shape} {way : List Step} {p : List ℕ} → shape_of T t ≡ Some s → IsStruct s.kind
+pub data LeadsFromTop (T : Table) : TypeId → List PathStep → List ℕ → Type 0 where
+  in_struct : {t : TypeId} {s : Shape} {way : List PathStep} {p : List ℕ} → shape_of T t ≡ Some s → IsStruct s.kind
       → LeadsTo T t way p → LeadsFromTop T t way p
-  behind_tag : {t : TypeId} {s : Shape} {way : List Step} {p : List ℕ} → shape_of T t ≡ Some s → ¬ IsStruct s.kind
+  behind_tag : {t : TypeId} {s : Shape} {way : List PathStep} {p : List ℕ} → shape_of T t ≡ Some s → ¬ IsStruct s.kind
       → LeadsTo T t way p → LeadsFromTop T t way (0 ∷ p)
 
 -- the way leads to the nil, a byte 0, that stands behind so many of the bytes
-pub record IsNilAt (T : Table) (t : TypeId) (way : List Step) (bytes : List ℕ) (place : ℕ) : Type 0 where
+pub record IsNilAt (T : Table) (t : TypeId) (way : List PathStep) (bytes : List ℕ) (place : ℕ) : Type 0 where
   pub front : List ℕ
   pub rest : List ℕ
   pub leads : LeadsFromTop T t way front
@@ -73,7 +73,7 @@ pub record IsNilAt (T : Table) (t : TypeId) (way : List Step) (bytes : List ℕ)
 
 -- the nils of two values of the type stand at these places, and are the same
 pub record IsSameNil (T : Table) (t : TypeId) (bytes others : List ℕ) (place other : ℕ) : Type 0 where
-  pub way : List Step
+  pub way : List PathStep
   pub from : IsNilAt T t way bytes place
   pub to : IsNilAt T t way others other
 

@@ -14,7 +14,7 @@ use Rattle.gob_filled.specs.Standing.{Level}
 use Rattle.gob_filled.specs.Opens.{Open}
 use Rattle.gob_go.specs.Meaning.{AreFillings, definitions_of}
 use Rattle.gob_go.specs.declared.level.Level as declared
-use Rattle.gob_go.specs.declared.level.Held.{Held}
+use Rattle.gob_go.specs.declared.level.HeldFront.{HeldFront}
 use Rattle.gob_go.specs.Machine.Skeleton.{SkeletonIs}
 
 -- under the table U, the program's level is this one, and has read these bytes behind what is done of it; its skeleton
@@ -35,7 +35,7 @@ abbrev pub FillingsAre : Bool → Table → declared.Level → Open → Type 0
 FillingsAre keep U l o = IsTrue keep → AreFillings U l.fillings.items o.fillings
 
 -- and so is what stands in front of what fills the nil at hand
-pub record HeldIs (held : Held) (o : Open) : Type 0 where
+pub record HeldIs (held : HeldFront) (o : Open) : Type 0 where
   pub name : held.name.items ≡ o.name
   pub definitions : definitions_of held.definitions.items ≡ o.definitions
 

@@ -7,13 +7,11 @@ ghost use Rattle.gob_go_writer.specs.Machine.Tidied.{AreDefinitionsTidied, IsDes
 
 use gob_go::Definition;
 use gob_num::Memory;
+use gob_stream::Limits;
 use gob_types::{Table, TypeId};
 use gob_value::{Value, fits, tidy};
 use std::alloc::Global;
 use std::mem;
-
-// How deep a description may be that is looked at. Those of a session are no deeper than 5.
-const MOST_DEPTH: u64 = 1000;
 
 /// Gives a description its tidy form.
 pub(crate) fn tidy_description(
@@ -25,7 +23,7 @@ pub(crate) fn tidy_description(
 {
     // its contract says that the types are those of a stream
     let _count = table.count();
-    if fits(table, TypeId::WIRE_TYPE, described, MOST_DEPTH).is_err() {
+    if fits(table, TypeId::WIRE_TYPE, described, Limits::GREATEST_DEPTH).is_err() {
         return Err(Memory);
     }
     let spelled = mem::replace(described, Value::Nil);

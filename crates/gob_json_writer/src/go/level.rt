@@ -11,19 +11,22 @@ ghost use Rattle.gob_json_writer.specs.Gaps.{AreGaps};
 use gob_go::Filling;
 use gob_num::Memory;
 use gob_read::{BodyReader, CheckBuilder, Progress};
+use gob_stream::Limits;
 use gob_tape::{Tape, TapeBuilder};
 use gob_types::{Table, TypeId};
 use std::alloc::Global;
-
-// The depth of the deepest value that a reader takes.
-const DEEPEST: u64 = 65536;
 
 /// The tape of a value of the type, which this spells, with its tag. `Memory` also where it spells none.
 pub fn tape_of(alloc: Global, table: &Table, id: TypeId, skeleton: &[u8]) -> Result<Tape, Memory>
     requires { IsReady (types table.now) id }
     ensures { IfOk result (λ tape. (v : Tree) → SpellsTop (types table.now) id v skeleton.now → Means tape v) }
 {
-    let mut reader = BodyReader::<TapeBuilder>::new(alloc, id, skeleton.len() as u64, DEEPEST)?;
+    let mut reader = BodyReader::<TapeBuilder>::new(
+        alloc,
+        id,
+        skeleton.len() as u64,
+        Limits::DEEPEST,
+    )?;
     match reader.push(alloc, table, skeleton) {
         Ok(Progress::Done { out, used: _ }) => Ok(out),
         _ => Err(Memory),
@@ -43,7 +46,12 @@ pub fn gaps_of(
     requires { IsReady (types table.now) id }
     ensures { IfOk result (λ gaps. AreGaps (types table.now) id skeleton.now 0 fillings.now gaps.items) }
 {
-    let mut reader = BodyReader::<CheckBuilder>::new(alloc, id, skeleton.len() as u64, DEEPEST)?;
+    let mut reader = BodyReader::<CheckBuilder>::new(
+        alloc,
+        id,
+        skeleton.len() as u64,
+        Limits::DEEPEST,
+    )?;
     let mut gaps = Vec::new(alloc);
     let mut from = 0;
     let mut number = 0;

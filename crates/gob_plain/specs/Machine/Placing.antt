@@ -7,7 +7,7 @@ use Rattle.gob_tape.specs.declared.kind.ValueKind.{ValueKind}
 use Rattle.gob_tape.specs.declared.kind.ValueKind.TheVariants as kind
 use Rattle.gob_plain.specs.declared.style.Style.{Style}
 use Rattle.gob_plain.specs.declared.fillers.Filler.{Filler}
-use Rattle.gob_plain.specs.declared.go.level.Held.{Held}
+use Rattle.gob_plain.specs.declared.go.level.HeldText.{HeldText}
 use Rattle.gob_plain.specs.Machine.Levels.{LevelSays, level_of, name_of}
 use Rattle.gob_plain.specs.Machine.Parting.{AreParted}
 use Rattle.gob_filled.specs.Filled as spelled
@@ -27,37 +27,37 @@ own_nil kind.Nil n = n ∷ []
 own_nil _ n = []
 
 -- the value says what the filling has its nil hold
-pub record HeldFits (tagged : Bool) (style : Style) (T : Table) (kept : Filling) (held : Held) : Type 0 where
+pub record HeldFits (tagged : Bool) (style : Style) (T : Table) (kept : Filling) (held : HeldText) : Type 0 where
   pub name : IsTag tagged (out-Filling kept).name.items (name_of held)
   pub some : (i : Json) × LevelSays (level_of held) i
   pub says : (w : spelled.Filled) → IsFilled T (out-Filling kept).id (out-Filling kept).value w
       → (i : Json) × SaysFilled tagged style T (out-Filling kept).id w i × LevelSays (level_of held) i
 
 -- one for each filling
-pub data AllFit (tagged : Bool) (style : Style) (T : Table) : List Filling → List Held → Type 0 where
+pub data AllFit (tagged : Bool) (style : Style) (T : Table) : List Filling → List HeldText → Type 0 where
   none_fits : AllFit tagged style T [] []
-  then_fits : {kept : Filling} {held : Held} {all : List Filling} {more : List Held}
+  then_fits : {kept : Filling} {held : HeldText} {all : List Filling} {more : List HeldText}
       → HeldFits tagged style T kept held → AllFit tagged style T all more
       → AllFit tagged style T (kept ∷ all) (held ∷ more)
 
 -- the nils are parts of these numbers, and each filler stands so many parts further than the one before: what fills
 -- each nil
-pub data AreIn : ℕ → (nils gaps : List ℕ) → List Held → List (Option Held) → Type 0 where
+pub data AreIn : ℕ → (nils gaps : List ℕ) → List HeldText → List (Option HeldText) → Type 0 where
   none_left : {behind : ℕ} → AreIn behind [] [] [] []
-  nothing_in : {behind n : ℕ} {nils gaps : List ℕ} {fs : List Held} {all : List (Option Held)}
+  nothing_in : {behind n : ℕ} {nils gaps : List ℕ} {fs : List HeldText} {all : List (Option HeldText)}
       → AreIn behind nils gaps fs all → AreIn behind (n ∷ nils) gaps fs (None ∷ all)
-  filler_in : {behind n gap : ℕ} {nils gaps : List ℕ} {f : Held} {fs : List Held} {all : List (Option Held)}
+  filler_in : {behind n gap : ℕ} {nils gaps : List ℕ} {f : HeldText} {fs : List HeldText} {all : List (Option HeldText)}
       → n ≡ behind + gap → AreIn (n + 1) nils gaps fs all
       → AreIn behind (n ∷ nils) (gap ∷ gaps) (f ∷ fs) (Some f ∷ all)
 
 -- so, and parted
-abbrev pub ArePlaced : (nils gaps : List ℕ) → List Held → List (Option Filler) → List (Option Held) → Type 0
-ArePlaced nils gaps fillers texts held = (all : List (Option Held)) × AreIn 0 nils gaps fillers all
+abbrev pub ArePlaced : (nils gaps : List ℕ) → List HeldText → List (Option Filler) → List (Option HeldText) → Type 0
+ArePlaced nils gaps fillers texts held = (all : List (Option HeldText)) × AreIn 0 nils gaps fillers all
     × AreParted all texts held
 
 -- of the fillers that are left
 abbrev pub gaps_left : Left → List ℕ
 gaps_left left = drop left.next left.gaps.now
 
-abbrev pub fillers_left : Left → List Held
+abbrev pub fillers_left : Left → List HeldText
 fillers_left left = reverse left.fillers.items

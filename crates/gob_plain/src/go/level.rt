@@ -16,47 +16,47 @@ use std::alloc::{AllocError, Global};
 /// The JSON of a value, but for what its interfaces hold.
 #[derive(Drop)]
 #[cycle(level)]
-pub(crate) struct Level<'a> {
+pub(crate) struct OwnText<'a> {
     /// The text. Where an interface holds a value it is `null`, but for a text, which stands there as it is.
     pub(crate) text: String,
     /// What each `null` of the text stands for, in their order: nothing, or a value.
-    pub(crate) held: Vec<Option<Held<'a>>>,
+    pub(crate) held: Vec<Option<HeldText<'a>>>,
 }
 
-impl<'a> Level<'a> {
+impl<'a> OwnText<'a> {
     /// The text with what its nulls stand for.
-    pub(crate) fn of(text: String, held: Vec<Option<Held<'a>>>) -> Level<'a>
+    pub(crate) fn of(text: String, held: Vec<Option<HeldText<'a>>>) -> OwnText<'a>
         ensures text { text_of result ≡ string_bytes text }
         ensures held { held_of result ≡ held.entry.items }
     {
-        Level { text, held }
+        OwnText { text, held }
     }
 }
 
 /// A value that an interface holds.
 #[derive(Drop)]
 #[cycle(level)]
-pub(crate) struct Held<'a> {
+pub(crate) struct HeldText<'a> {
     /// The name that is shown before the value, where one is, as in `{"NAME":value}`. It need not be UTF-8.
     pub(crate) name: Option<&'a [u8]>,
     /// The value.
-    pub(crate) level: Level<'a>,
+    pub(crate) level: OwnText<'a>,
 }
 
-impl<'a> Held<'a> {
+impl<'a> HeldText<'a> {
     /// The value with the name before it.
-    pub(crate) fn of(name: Option<&'a [u8]>, level: Level<'a>) -> Held<'a>
+    pub(crate) fn of(name: Option<&'a [u8]>, level: OwnText<'a>) -> HeldText<'a>
         ensures name { name_of result ≡ name.entry }
         ensures level { level_of result ≡ level.entry }
     {
-        Held { name, level }
+        HeldText { name, level }
     }
 }
 
 /// Writes the JSON of a value with what its interfaces hold. The writing goes as deep as values hold one another.
 pub(crate) fn write_level(
     alloc: Global,
-    level: &Level<'_>,
+    level: &OwnText<'_>,
     out: &mut Writer,
 ) -> Result<(), AllocError>
     ensures before { out.new.before ≡ out.old.before }
@@ -70,7 +70,7 @@ pub(crate) fn write_level(
 #[cycle(level)]
 fn write_inner(
     alloc: Global,
-    level: &Level<'_>,
+    level: &OwnText<'_>,
     scratch: &mut Scratch,
     out: &mut Writer,
 ) -> Result<(), AllocError>
@@ -103,7 +103,7 @@ fn scratch_of(alloc: Global) -> Result<Box<Scratch>, AllocError> {
 #[cycle(level)]
 fn write_next(
     alloc: Global,
-    level: &Level<'_>,
+    level: &OwnText<'_>,
     nulls: &mut usize,
     scratch: &mut Scratch,
     out: &mut Writer,
@@ -128,7 +128,7 @@ fn write_next(
 #[cycle(level)]
 fn write_held(
     alloc: Global,
-    held: &Held<'_>,
+    held: &HeldText<'_>,
     scratch: &mut Scratch,
     out: &mut Writer,
 ) -> Result<(), AllocError>

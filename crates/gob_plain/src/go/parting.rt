@@ -5,12 +5,12 @@ ghost use Rattle.json.specs.Json.{Json};
 ghost use Rattle.json.specs.Lex.{tokens};
 ghost use Rattle.json.specs.Tree.{json_tokens};
 ghost use Rattle.gob_plain.specs.declared.fillers.Filler as filler;
-ghost use Rattle.gob_plain.specs.declared.go.level.Held as declared;
+ghost use Rattle.gob_plain.specs.declared.go.level.HeldText as declared;
 ghost use Rattle.gob_plain.specs.Machine.Levels.{level_of, text_of};
 ghost use Rattle.gob_plain.specs.Machine.Parting.{IsNoText, IsParted, IsText, is_text};
 
 use crate::Filler;
-use crate::go::level::{Held, Level};
+use crate::go::level::{HeldText, OwnText};
 use json::{Reader, Scratch, Token};
 use std::alloc::AllocError;
 
@@ -20,16 +20,16 @@ pub(crate) struct Parted<'a> {
     /// For each nil the text that it says, if it says a text.
     pub(crate) texts: Vec<Option<Filler<'a>>>,
     /// For each nil that says none what fills it.
-    pub(crate) held: Vec<Option<Held<'a>>>,
+    pub(crate) held: Vec<Option<HeldText<'a>>>,
 }
 
 /// Puts what fills the next nil to the others of its sort.
 pub(crate) fn part<'a>(
-    next: Option<Held<'a>>,
+    next: Option<HeldText<'a>>,
     scratch: &mut Scratch,
     parted: &mut Parted<'a>,
 ) -> Result<(), AllocError>
-    ensures { OnOk result ((text : Option filler.Filler) × (held : List (Option declared.Held))
+    ensures { OnOk result ((text : Option filler.Filler) × (held : List (Option declared.HeldText))
         × IsParted next.entry text held × (parted.new.texts.items ≡ parted.old.texts.items ++ text ∷ [])
         × (parted.new.held.items ≡ parted.old.held.items ++ held)) }
 {
@@ -47,7 +47,7 @@ pub(crate) fn part<'a>(
 }
 
 /// Whether the value is a text that no name is shown before.
-fn is_text(held: &Held<'_>, scratch: &mut Scratch) -> Result<bool, AllocError>
+fn is_text(held: &HeldText<'_>, scratch: &mut Scratch) -> Result<bool, AllocError>
     ensures { IfOk result (λ is. MatchBool is (IsText held.now) (IsNoText held.now)) }
 {
     if held.name.is_some() {
@@ -66,10 +66,10 @@ fn begins_text(json: &str, scratch: &mut Scratch) -> Result<bool, AllocError>
 }
 
 /// The value's own text.
-fn own_text(held: Held<'_>) -> String
+fn own_text(held: HeldText<'_>) -> String
     ensures { string_bytes result ≡ text_of (level_of held.entry) }
 {
-    let Held { name: _, level } = held;
-    let Level { text, held: _ } = level;
+    let HeldText { name: _, level } = held;
+    let OwnText { text, held: _ } = level;
     text
 }

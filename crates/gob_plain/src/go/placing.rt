@@ -1,10 +1,10 @@
 //! What fills each nil of a value, where it is known in which parts the fillings stand.
 
 ghost use Rattle.std.specs.Prelude.{◌≡◌, ℕ, [], ◌∷◌, List, Option, IfOk, IsTrue, reverse};
-ghost use Rattle.gob_plain.specs.declared.go.level.Held as declared;
+ghost use Rattle.gob_plain.specs.declared.go.level.HeldText as declared;
 ghost use Rattle.gob_plain.specs.Machine.Placing.{AreIn, ArePlaced, fillers_left, gaps_left};
 
-use crate::go::level::Held;
+use crate::go::level::HeldText;
 use crate::go::parting::{Parted, part};
 use gob_num::Memory;
 use json::Scratch;
@@ -17,7 +17,7 @@ pub(crate) fn in_nils<'a>(
     alloc: Global,
     nils: &[u64],
     gaps: &[u64],
-    fillers: Vec<Held<'a>>,
+    fillers: Vec<HeldText<'a>>,
 ) -> Result<Parted<'a>, Memory>
     ensures { IfOk result (λ parted. ArePlaced nils.now gaps.now fillers.entry.items parted.texts.items
         parted.held.items) }
@@ -48,12 +48,12 @@ struct Left<'g, 'a> {
     /// The number of the part behind the nil of the filler before.
     behind: u64,
     /// Those that are left, the next one last.
-    fillers: Vec<Held<'a>>,
+    fillers: Vec<HeldText<'a>>,
 }
 
 impl<'g, 'a> Left<'g, 'a> {
     // All of them.
-    fn new(gaps: &'g [u64], fillers: Vec<Held<'a>>) -> Left<'g, 'a>
+    fn new(gaps: &'g [u64], fillers: Vec<HeldText<'a>>) -> Left<'g, 'a>
         ensures behind { result.behind ≡ 0 }
         ensures gaps { gaps_left result ≡ gaps.entry.now }
         ensures fillers { fillers_left result ≡ fillers.entry.items }
@@ -69,8 +69,8 @@ impl<'g, 'a> Left<'g, 'a> {
     }
 
     // Goes past the nil that is the part of this number. Answers what fills it.
-    fn take(&mut self, nil: u64) -> Option<Held<'a>>
-        ensures { (nils : List ℕ) (all : List (Option declared.Held))
+    fn take(&mut self, nil: u64) -> Option<HeldText<'a>>
+        ensures { (nils : List ℕ) (all : List (Option declared.HeldText))
             → AreIn self.new.behind nils (gaps_left self.new) (fillers_left self.new) all
             → AreIn self.old.behind (nil ∷ nils) (gaps_left self.old) (fillers_left self.old) (result ∷ all) }
     {

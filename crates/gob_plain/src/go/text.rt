@@ -14,7 +14,7 @@ ghost use Rattle.gob_plain.specs.HeldPlain.{SaysFilled};
 ghost use Rattle.gob_plain.specs.Machine.Levels.{LevelSays};
 ghost use Rattle.gob_plain.specs.Machine.Placing.{AllFit, HeldFits, IsTag};
 
-use crate::go::level::{Held, Level, write_level};
+use crate::go::level::{HeldText, OwnText, write_level};
 use crate::go::nils::nils_of;
 use crate::go::parting::Parted;
 use crate::go::placing::in_nils;
@@ -59,7 +59,7 @@ fn level_of<'a>(
     table: &Table,
     style: Style<'_>,
     tagged: bool,
-) -> Result<Level<'a>, Memory>
+) -> Result<OwnText<'a>, Memory>
     ensures said { IfOk result (λ level. (w : spelled.Filled) → IsFilled (types table.now) id value.now w
         → (j : Json) × SaysFilled tagged style.entry (types table.now) id w j × LevelSays level j) }
     ensures some { IfOk result (λ level. (j : Json) × LevelSays level j) }
@@ -82,7 +82,7 @@ fn level_of<'a>(
         passed: 0,
     };
     let text = plain_text_with(alloc, id, &tape, table, style, &mut fillers)?;
-    Ok(Level::of(text, held))
+    Ok(OwnText::of(text, held))
 }
 
 /// The JSON of a value that holds none.
@@ -92,7 +92,7 @@ fn bare_level<'a>(
     value: &Filled,
     table: &Table,
     style: Style<'_>,
-) -> Result<Level<'a>, Memory>
+) -> Result<OwnText<'a>, Memory>
     requires kept { IsReady (types table.now) id }
     requires bare { (out-Filled value.now).fillings.items ≡ [] }
     ensures said { IfOk result (λ level. (tagged : Bool) (w : spelled.Filled)
@@ -106,7 +106,7 @@ fn bare_level<'a>(
     let mut text = plain_text(alloc, id, &tape, table, style)?;
     // there may be many of them, and most are short
     text.shrink_to_fit();
-    Ok(Level::of(text, Vec::new(alloc)))
+    Ok(OwnText::of(text, Vec::new(alloc)))
 }
 
 /// The values that the fillings have their interfaces hold.
@@ -117,7 +117,7 @@ fn all_held<'a>(
     table: &Table,
     style: Style<'_>,
     tagged: bool,
-) -> Result<Vec<Held<'a>>, Memory>
+) -> Result<Vec<HeldText<'a>>, Memory>
     ensures { IfOk result (λ held. AllFit tagged style.entry (types table.now)
         (out-Filled value.now).fillings.items held.items) }
 {
@@ -137,12 +137,12 @@ fn held_by<'a>(
     table: &Table,
     style: Style<'_>,
     tagged: bool,
-) -> Result<Held<'a>, Memory>
+) -> Result<HeldText<'a>, Memory>
     ensures { IfOk result (λ held. HeldFits tagged style.entry (types table.now) filling.now held) }
 {
     let level = level_of(alloc, filling.id, &filling.value, table, style, tagged)?;
     let name = tag_of(tagged, &filling.name);
-    Ok(Held::of(name, level))
+    Ok(HeldText::of(name, level))
 }
 
 /// The name, where values are tagged by it.

@@ -19,7 +19,7 @@ use Rattle.gob_read.specs.Event.{tell_fields, HaveEvents, tell_none, tell_each, 
 use Rattle.gob_read.specs.Event.{tell_pair, FieldsHaveEvents, tell_no_field, tell_field}
 use Rattle.gob_read.specs.Building.{HasRoomFor}
 use Rattle.gob_read.specs.Weight.{parts_told, raw_told}
-use Rattle.gob_read.specs.Machine.Built.{Part, raw, many, pairs, fields, Work, no_work, put, told, all_told}
+use Rattle.gob_read.specs.Machine.Built.{OpenPart, raw, many, pairs, fields, Work, no_work, put, told, all_told}
 use Rattle.gob_read.specs.Leaf.{signed_of, raw_tree}
 use Rattle.gob_read.specs.Machine.Received.{AreBuilt}
 use Rattle.gob_read.proofs.Events.CountLaws.{parts_told-append, raw_told-append}
@@ -63,10 +63,10 @@ signed_is u i h s = let b = unsigned_spelled u h in from b.spelled (s b.bytes b.
     from {u = u} h (not_negative {n = n} s) = sym (ap signed_of (unsigned_value h s) ∙ signed_even n)
     from {u = u} h (negative {n = n} s) = sym (ap signed_of (unsigned_value h s) ∙ signed_odd n)
 
-abbrev work : List Part → Option Tree → Work
+abbrev work : List OpenPart → Option Tree → Work
 work parts whole = record { parts = parts; whole = whole }
 
-raw_built : {s : List ℕ} {us : List Event} → HasRawEvents s us → (k : RawKind) (r : List ℕ) (ps : List Part)
+raw_built : {s : List ℕ} {us : List Event} → HasRawEvents s us → (k : RawKind) (r : List ℕ) (ps : List OpenPart)
     (whole : Option Tree) → all_told (work (raw k r ∷ ps) whole) us ≡ work (raw k (r ++ s) ∷ ps) whole
 raw_built no_bytes k r ps whole = ap (λ l. work (raw k l ∷ ps) whole) (sym (append-nil r))
 raw_built (more_bytes {s = s} {us = us} c t) k r ps whole =
@@ -135,7 +135,7 @@ mutual
       ∙ ap (λ l. put w (Tree.fields l)) (fields_of-field_list fs)
 
   each_built : {vs : Trees} {us : List Event} → HaveEvents vs us
-      → (xs : List Tree) (ps : List Part) (whole : Option Tree) → all_told (work (many xs ∷ ps) whole) us ≡ work
+      → (xs : List Tree) (ps : List OpenPart) (whole : Option Tree) → all_told (work (many xs ∷ ps) whole) us ≡ work
       (many (xs ++ list_of vs) ∷ ps) whole
   each_built tell_none xs ps whole = ap (λ l. work (many l ∷ ps) whole) (sym (append-nil xs))
   each_built (tell_each {v = v} {vs = vs} {us = us} {ws = ws} t ts) xs ps whole =
@@ -145,8 +145,8 @@ mutual
       ∙ ap (λ l. work (many l ∷ ps) whole) (append_assoc xs (v ∷ []) (list_of vs))
 
   pairs_built : {es : Pairs} {us : List Event} → PairsHaveEvents es us
-      → (xs : List (Tree × Tree)) (ps : List Part) (whole : Option Tree) → all_told (work (pairs xs None ∷ ps) whole)
-      us ≡ work (pairs (xs ++ pair_list es) None ∷ ps) whole
+      → (xs : List (Tree × Tree)) (ps : List OpenPart) (whole : Option Tree)
+      → all_told (work (pairs xs None ∷ ps) whole) us ≡ work (pairs (xs ++ pair_list es) None ∷ ps) whole
   pairs_built tell_no_pair xs ps whole = ap (λ l. work (pairs l None ∷ ps) whole) (sym (append-nil xs))
   pairs_built (tell_pair {k = k} {e = e} {ps = es} {us = us} {ws = ws} {xs = ys} t u ts) xs ps whole =
       all_told-append (work (pairs xs None ∷ ps) whole) us (ws ++ ys)
@@ -157,8 +157,8 @@ mutual
       ∙ ap (λ l. work (pairs l None ∷ ps) whole) (append_assoc xs ((k, e) ∷ []) (pair_list es))
 
   fields_built : {fs : Fields} {us : List Event} → FieldsHaveEvents fs us
-      → (xs : List (ℕ × Tree)) (ps : List Part) (whole : Option Tree) → all_told (work (fields xs None ∷ ps) whole) us ≡
-      work (fields (xs ++ field_list fs) None ∷ ps) whole
+      → (xs : List (ℕ × Tree)) (ps : List OpenPart) (whole : Option Tree)
+      → all_told (work (fields xs None ∷ ps) whole) us ≡ work (fields (xs ++ field_list fs) None ∷ ps) whole
   fields_built tell_no_field xs ps whole = ap (λ l. work (fields l None ∷ ps) whole) (sym (append-nil xs))
   fields_built (tell_field {f = f} {v = v} {fs = fs} {us = us} {ws = ws} t ts) xs ps whole =
       all_told-append (work (fields xs (Some f) ∷ ps) whole) us ws

@@ -5,10 +5,10 @@ use Rattle.std.proofs.lemmas.List.{reverse-append, set_split}
 use Rattle.std.proofs.lemmas.Grind.{common_steps}
 use Rattle.gob_value.specs.Tree.{Tree}
 use Rattle.gob_read.specs.declared.tree_part.TreePart.{TreePart}
-use Rattle.gob_read.specs.Machine.Built.{Part, Work, added_part, closed, changed, put_in, left_in}
+use Rattle.gob_read.specs.Machine.Built.{OpenPart, Work, added_part, closed, changed, put_in, left_in}
 use Rattle.gob_read.specs.Machine.Stack.{part_view, stack_view}
 
-abbrev pub work : List Part → Option Tree → Work
+abbrev pub work : List OpenPart → Option Tree → Work
 work parts whole = record { parts = parts; whole = whole }
 
 abbrev pub seen : List TreePart → Option Tree → Work
@@ -41,7 +41,7 @@ pub stack_set : (parts : List TreePart) (i : ℕ) (y : TreePart) → i + 1 ≡ l
 stack_set parts i y h = ap stack_view (set_last parts i y h) ∙ stack_pushed (take i parts) y
 
 -- the innermost part is changed
-pub stack_changed : (f : Part → Part) (parts : List TreePart) (i : ℕ) (x y : TreePart) → i + 1 ≡ length parts
+pub stack_changed : (f : OpenPart → OpenPart) (parts : List TreePart) (i : ℕ) (x y : TreePart) → i + 1 ≡ length parts
     → x ≡ get_or parts i x → part_view y ≡ f (part_view x) → stack_view (set parts i y) ≡ changed f (stack_view parts)
 stack_changed f parts i x y h e c = stack_set parts i y h ∙ ap (λ p. p ∷ stack_view (take i parts)) c
     ∙ ap (changed f) (sym (stack_top parts i x h e))
@@ -67,7 +67,7 @@ pub none_left : (parts : List TreePart) (whole : Option Tree) → length parts �
 none_left [] whole h = refl
 none_left (x ∷ parts) whole h = absurd (omega arith)
 
-pub none_changed : (f : Part → Part) (parts : List TreePart) → length parts ≡ 0
+pub none_changed : (f : OpenPart → OpenPart) (parts : List TreePart) → length parts ≡ 0
     → stack_view parts ≡ changed f (stack_view parts)
 none_changed f [] h = refl
 none_changed f (x ∷ parts) h = absurd (omega arith)

@@ -7,7 +7,7 @@ use Rattle.gob_go.specs.Calls.Reader.{GoReader, HasReadFrom, session_of}
 use Rattle.gob_go.specs.Calls.Session.{limits_of}
 use Rattle.gob_go.specs.GoStepping.{go_stepping}
 use Rattle.gob_split.specs.Machine.Cutting.{IsCutting}
-use Rattle.gob_split.specs.Split.{Part, all_parts}
+use Rattle.gob_split.specs.Split.{StreamPart, all_parts}
 use Rattle.gob_split.specs.Text.{HaveTexts, Text}
 use Rattle.gob_split.specs.declared.cutter.Cutter.{Cutter}
 use Rattle.gob_split.specs.declared.part_size.PartSize.{PartSize}
@@ -18,7 +18,7 @@ pub record HasSplit (how : PartSize) (r : GoReader) (c : Cutter) (bytes : List â
   pub texts : List Text
   pub are : HaveTexts (within_trees (limits_of (session_of r))) bytes given texts
   pub full : List (List â„•)
-  pub last : Option Part
+  pub last : Option StreamPart
   pub cutting : IsCutting how c texts full last
   pub holds : Are (all_parts full last)
 

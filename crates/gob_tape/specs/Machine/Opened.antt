@@ -5,7 +5,7 @@ use Rattle.gob_value.specs.Tree.{Tree}
 use Rattle.gob_value.specs.View.{trees_of, pairs_of, fields_of}
 use Rattle.gob_read.specs.declared.event.RawKind.{RawKind}
 use Rattle.gob_read.specs.declared.event.GroupKind.TheVariants as group
-use Rattle.gob_read.specs.Machine.Built.{Part, raw, many, pairs, fields}
+use Rattle.gob_read.specs.Machine.Built.{OpenPart, raw, many, pairs, fields}
 use Rattle.gob_tape.specs.declared.node.Content.TheVariants as content
 use Rattle.gob_tape.specs.declared.node.Node.{Node}
 use Rattle.gob_tape.specs.declared.node.Begun.{Begun}
@@ -23,7 +23,7 @@ key_count None = 0
 key_count (Some x) = 1
 
 -- the node and those behind it, up to this place, are an open part in which so many parts have ended
-pub data IsOpenPart (nodes : List Node) (pool : List ℕ) : ℕ → ℕ → ℕ → Option ℕ → Part → Type 0 where
+pub data IsOpenPart (nodes : List Node) (pool : List ℕ) : ℕ → ℕ → ℕ → Option ℕ → OpenPart → Type 0 where
   open_raw : {i j count start length_so_far : ℕ} {f : Option ℕ} {k : RawKind} {s : List ℕ}
       → slice_get nodes i ≡ Some (node f (content.Raw k start length_so_far))
       → j ≡ i + 1 → start ≤ length pool → s ≡ drop start pool → IsOpenPart nodes pool i j count f (raw k s)
@@ -40,8 +40,8 @@ pub data IsOpenPart (nodes : List Node) (pool : List ℕ) : ℕ → ℕ → ℕ 
       → IsOpenPart nodes pool i j count f (fields fs next)
 
 -- the nodes up to this place are the open parts, innermost first
-pub data AreOpen (nodes : List Node) (pool : List ℕ) : ℕ → List Begun → List Part → Type 0 where
+pub data AreOpen (nodes : List Node) (pool : List ℕ) : ℕ → List Begun → List OpenPart → Type 0 where
   no_open : AreOpen nodes pool 0 [] []
-  in_part : {j : ℕ} {o : Begun} {os : List Begun} {p : Part} {ps : List Part} {f : Option ℕ}
+  in_part : {j : ℕ} {o : Begun} {os : List Begun} {p : OpenPart} {ps : List OpenPart} {f : Option ℕ}
       → AreOpen nodes pool o.node os ps → IsFree ps None f
       → IsOpenPart nodes pool o.node j o.parts f p → AreOpen nodes pool j (o ∷ os) (p ∷ ps)

@@ -15,7 +15,7 @@ use Rattle.gob_value.specs.Tidy.{Tidies, TidiesEach, TidiesPairs, TidiesFields, 
 use Rattle.gob_value.specs.Top.{SpellsTop}
 use Rattle.gob_value.specs.Tree.{Tree, Trees, Pairs, Fields, depth, trees_depth, pairs_depth, fields_depth}
 use Rattle.gob_value.specs.Tree.{tree_count, pair_count}
-use Rattle.gob_tidy.specs.SameNil.{Step, LeadsTo, LeadsFromTop, StandBeforeField, IsSameNil}
+use Rattle.gob_tidy.specs.SameNil.{PathStep, LeadsTo, LeadsFromTop, StandBeforeField, IsSameNil}
 use Rattle.gob_tidy.specs.TidiedWhole.{TidiesWhole}
 use Rattle.gob_tidy.specs.declared.part.Form.{Form}
 use Rattle.gob_types.specs.declared.basic.Basic.TheVariants as basic
@@ -40,13 +40,13 @@ Fronts = List ℕ → List ℕ → Type 0
 
 -- in a value of the type
 pub record LeadAlike (T : Table) (t : TypeId) (front form_front : List ℕ) : Type 0 where
-  pub way : List Step
+  pub way : List PathStep
   pub leads : LeadsTo T t way front
   pub form_leads : LeadsTo T t way form_front
 
 -- in a value of the type behind its tag
 pub record LeadAlikeFromTop (T : Table) (t : TypeId) (front form_front : List ℕ) : Type 0 where
-  pub way : List Step
+  pub way : List PathStep
   pub leads : LeadsFromTop T t way front
   pub form_leads : LeadsFromTop T t way form_front
 

@@ -3,7 +3,7 @@ use Rattle.std.proofs.Common.{arith, refl, subst, ap, ◌∙◌, ◌++◌, List}
 use Rattle.json.specs.Print.{print}
 use Rattle.json.specs.Token.{Token}
 use Rattle.gob_walk.specs.Event.{value_told}
-use Rattle.gob_plain.specs.declared.visitor.Place.TheVariants as place
+use Rattle.gob_plain.specs.declared.visitor.VisitorPlace.TheVariants as place
 use Rattle.gob_plain.specs.PlainEvents.{SaysEvents}
 use Rattle.gob_plain.proofs.PlaceLaws.{of_three}
 use Rattle.gob_plain.proofs.SaidLaws.{whole_says}

@@ -2,7 +2,7 @@ use Rattle.std.proofs.Common.{refl, arith}
 use Rattle.std.proofs.lemmas.List.{length-take}
 use Rattle.std.proofs.lemmas.Result.{err_from_is_err_and}
 use Rattle.gob_go.specs.Machine.Stages.{no_memory_for_part}
-use Rattle.gob_go.specs.declared.level.Held.{Held}
+use Rattle.gob_go.specs.declared.level.HeldFront.{HeldFront}
 use Rattle.gob_go.proofs.NameSteps.{name_at, name_place, name_takes, name_changes, name_more}
 use Rattle.gob_go.proofs.NameSteps.{name_whole, name_short, name_types}
 use Rattle.gob_go.proofs.name.Name.take.Goals as goal
@@ -25,7 +25,7 @@ pub returns-in_err-goes_on : goal.returns-in_err-goes_on
 returns-in_err-goes_on c = λ d w.
     let p = err_from_is_err_and c.from_residual.result c.from_residual.ensures.1 in
     let t = name_takes c.args.piece.now (name_at c.requires.is) c.room-room.ensures c.min-used.ensures in
-    let held : Held = record {
+    let held : HeldFront = record {
       name = c.extend_from_slice.new.self;
       definitions = c.args.levels.now.innermost.held.definitions;
     } in
@@ -41,7 +41,7 @@ returns-in_err-goes_on c = λ d w.
 pub returns-then-left-gt0 : goal.returns-then-left-gt0
 returns-then-left-gt0 c = λ d w.
     let t = name_takes c.args.piece.now (name_at c.requires.is) c.room-room.ensures c.min-used.ensures in
-    let held : Held = record {
+    let held : HeldFront = record {
       name = c.extend_from_slice.new.self;
       definitions = c.args.levels.now.innermost.held.definitions;
     } in
@@ -57,7 +57,7 @@ returns-then-left-gt0 c = λ d w.
 pub returns : goal.returns
 returns c = λ d w.
     let t = name_takes c.args.piece.now (name_at c.requires.is) c.room-room.ensures c.min-used.ensures in
-    let held : Held = record {
+    let held : HeldFront = record {
       name = c.extend_from_slice.new.self;
       definitions = c.args.levels.now.innermost.held.definitions;
     } in

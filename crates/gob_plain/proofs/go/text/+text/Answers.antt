@@ -2,7 +2,7 @@
 use Rattle.std.proofs.Common.{◌≡◌, ◌∙◌, ◌+◌, ◌∷◌, ◌++◌, List, ap, drop, refl, sym, subst}
 use Rattle.std.proofs.lemmas.List.{at_drop_more, drop_all}
 use Rattle.gob_types.specs.Defined.{types}
-use Rattle.gob_plain.specs.declared.go.level.Held.{Held}
+use Rattle.gob_plain.specs.declared.go.level.HeldText.{HeldText}
 use Rattle.gob_go.specs.declared.filled.Filled.{out-Filled}
 use Rattle.gob_go.specs.declared.filled.Filling.{Filling}
 use Rattle.gob_value.specs.Tree.{Tree}
@@ -25,7 +25,7 @@ held_by-returns t c =
 
 pub all_held-loop-filling-init : goal.all_held-loop-filling-init
 all_held-loop-filling-init t c = λ more h.
-    subst (λ (l : List Held). AllFit c.args.tagged c.args.style (types c.args.table.now)
+    subst (λ (l : List HeldText). AllFit c.args.tagged c.args.style (types c.args.table.now)
     (out-Filled c.args.value.now).fillings.items (l ++ more)) (sym c.in_ok-all.ensures.items) h
 
 pub all_held-loop-filling-preserved : goal.all_held-loop-filling-preserved

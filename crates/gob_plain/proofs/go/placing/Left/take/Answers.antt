@@ -1,7 +1,7 @@
 -- Nothing fills the nil, and all that was left is left; or the next filler does.
 use Rattle.std.proofs.Common.{◌≡◌, ◌∙◌, ◌+◌, ℕ, List, [], ◌∷◌, ap, arith, drop, sym, subst, reverse}
 use Rattle.std.proofs.lemmas.List.{append-nil, at_drop_more, reverse-append}
-use Rattle.gob_plain.specs.declared.go.level.Held.{Held}
+use Rattle.gob_plain.specs.declared.go.level.HeldText.{HeldText}
 use Rattle.gob_plain.specs.Machine.Placing.{AreIn, nothing_in}
 use Rattle.gob_plain.proofs.PlacingLaws.{nothing_taken, one_taken}
 use Rattle.gob_plain.proofs.go.placing.Left.take.Goals as goal
@@ -23,7 +23,7 @@ returns-in_err-filler c = λ nils all h.
     let left = c.args.self.now in
     let same = c.in_err-filler.ensures.items ∙ append-nil c.pop.new.self.items in
     nothing_taken c.from_residual-in_err-filler.ensures
-    (subst (λ (l : List Held). AreIn left.behind nils (drop left.next left.gaps.now) (reverse l) all) (sym same) h)
+    (subst (λ (l : List HeldText). AreIn left.behind nils (drop left.next left.gaps.now) (reverse l) all) (sym same) h)
 
 pub returns : goal.returns
 returns c = λ nils all h.
