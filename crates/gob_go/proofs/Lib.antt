@@ -18,6 +18,7 @@ pub mod HonestLaws
 pub mod IdLaws
 pub mod InnerCountSteps
 pub mod ItemsLaws
+pub mod KeepingSteps
 pub mod LeadingLaws
 pub mod MeaningLaws
 pub mod NameSteps

@@ -5,7 +5,7 @@
 //! which is the spelling of a value with nil in its interfaces, and as what fills these nils: see [`Filled`].
 //!
 //! A [`GoReader`] is the reader of `gob_stream` over such a session. A [`PassingSession`] reads the same streams, and
-//! keeps nothing of a value.
+//! keeps nothing of a value. Between two items each goes on as the other.
 #![tactic(auto)]
 
 mod around;
@@ -18,6 +18,7 @@ mod held;
 mod ids;
 mod inner_count;
 mod item;
+mod keeping;
 mod level;
 mod levels;
 mod name;

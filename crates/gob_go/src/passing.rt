@@ -36,6 +36,25 @@ impl Model for PassingSession {
     ghost view = { λ passing. passing.session };
 }
 
+impl PassingSession {
+    ghost use Rattle.std.specs.Prelude.{◌≡◌};
+
+    // One that goes on with this session.
+    pub(crate) fn of(session: GoSession) -> PassingSession
+        ensures { result ≡ session }
+    {
+        PassingSession { session }
+    }
+
+    // The session with which it goes on.
+    pub(crate) fn into_session(self) -> GoSession
+        ensures { result ≡ self }
+    {
+        let PassingSession { session } = self;
+        session
+    }
+}
+
 impl Steps for PassingSession {
     ghost use Rattle.gob_filled.specs.Stream.{FilledItem};
     ghost use Rattle.gob_go.specs.GoStepping.{passing_stepping};

@@ -59,7 +59,7 @@ pub use item::Item;
 pub use limits::Limits;
 pub use output::Output;
 pub use read_items::read_stream;
-pub use reader_of::{ReaderOf, StreamReader};
+pub use reader_of::{Ahead, ReaderOf, StreamReader};
 pub use session::{Advance, Session};
 pub use stage::Extent;
 pub use steps::Steps;

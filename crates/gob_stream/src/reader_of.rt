@@ -7,10 +7,10 @@ ghost use Rattle.gob_stream.specs.Bounds.{AreLimits, deepest};
 ghost use Rattle.gob_stream.specs.Calls.Ends.{failed_reads, reader_of};
 ghost use Rattle.gob_stream.specs.Calls.ReaderOf.{FillsBy, HasFailedBy, HasReadBy, IsShort, KnowsTypesBy, LacksBy};
 ghost use Rattle.gob_stream.specs.Calls.ReaderOf.{PassesBy, PassesOneBy, ReadsOnce, StepsBy};
-ghost use Rattle.gob_stream.specs.Calls.ReaderOf.{session_of, types_behind, waits_in};
+ghost use Rattle.gob_stream.specs.Calls.ReaderOf.{ahead_of, session_of, types_behind, waits_in};
 ghost use Rattle.gob_stream.specs.Honest.{OfRefusal};
 ghost use Rattle.gob_stream.specs.Reading.{CountsReads};
-ghost use Rattle.gob_stream.specs.Stepping.{GivesAllBy, HasBodyNextBy, HasItemNextBy, StandsBy};
+ghost use Rattle.gob_stream.specs.Stepping.{GivesAllBy, HasBegunNextBy, HasBodyNextBy, HasItemNextBy, StandsBy};
 ghost use Rattle.gob_stream.specs.Grammar.{GivesIn};
 ghost use Rattle.gob_types.specs.Base.{base_table};
 
@@ -21,7 +21,7 @@ use crate::session::{Advance, Session};
 use crate::steps::Steps;
 use crate::values::Passed;
 use crate::waiting::Waiting;
-use crate::whole::Whole;
+use crate::whole::{Awaited, Whole};
 use gob_num::Memory;
 use gob_types::Table;
 use std::alloc::Global;
@@ -31,6 +31,15 @@ use std::io::Read;
 /// each call that may fail answers [`Fault::Failed`].
 pub struct ReaderOf<S: Steps> {
     session: S,
+    // What was read of the stream and not yet given to the session.
+    waiting: Waiting,
+    // Whether the input has ended.
+    ended: bool,
+}
+
+/// What a reader has beside its session.
+#[derive(Drop)]
+pub struct Ahead {
     // What was read of the stream and not yet given to the session.
     waiting: Waiting,
     // Whether the input has ended.
@@ -68,6 +77,32 @@ impl<S: Steps> ReaderOf<S> {
             waiting,
             ended: false,
         })
+    }
+
+    /// Its session, and what it has read ahead of it.
+    pub fn into_parts(self) -> (S, Ahead)
+        ensures session { result.0 ≡ session_of self }
+        ensures ahead { result.1 ≡ ahead_of self }
+    {
+        let ReaderOf {
+            session,
+            waiting,
+            ended,
+        } = self;
+        (session, Ahead { waiting, ended })
+    }
+
+    /// A reader that goes on with this session, and has read so much ahead of it.
+    pub fn from_parts(session: S, ahead: Ahead) -> ReaderOf<S>
+        ensures session { session_of result ≡ session }
+        ensures ahead { ahead_of result ≡ ahead }
+    {
+        let Ahead { waiting, ended } = ahead;
+        ReaderOf {
+            session,
+            waiting,
+            ended,
+        }
     }
 
     /// Reads until bytes wait that are more than the first ones of an item of a value. So what comes of it at once
@@ -236,6 +271,16 @@ impl<S: Steps> ReaderOf<S> {
             HasBodyNextBy S.stepping (session_of self.now) whole.id whole.body.now whole.used (waits_in self.now)) }
     {
         self.session.whole_value(self.waiting.bytes())
+    }
+
+    /// The item of a value of which the first bytes wait in front, and not all of what comes of it at once, where no
+    /// byte of an item is under way. None says nothing of what waits, and is the answer after a fault.
+    pub fn awaited(&self) -> Option<Awaited>
+        ensures between { IfSome result (λ awaited. S.stepping.between (session_of self.now)) }
+        ensures begun { IfSome result (λ awaited.
+            HasBegunNextBy S.stepping (session_of self.now) awaited.id awaited.head awaited.size (waits_in self.now)) }
+    {
+        self.session.awaited(self.waiting.bytes())
     }
 
     /// Goes past the first bytes that wait, which the caller has found to be an item of the format that defines

@@ -43,4 +43,4 @@ pub use run::run_order;
 pub use sending::Sending;
 pub use show::run_show;
 pub use take::{run_convert, run_take};
-pub use texts::{ItemTexts, MOST_GATHERED, Sent, run_texts};
+pub use texts::{ItemTexts, MOST_GATHERED, Sent, run_texts, write_next_texts};

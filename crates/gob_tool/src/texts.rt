@@ -143,6 +143,31 @@ pub(crate) fn write_items<S: Steps, R: Read, W: Write, M: TextSteps<S>>(
     Ok(())
 }
 
+/// Takes some of the bytes that wait, and writes the texts of the items that are whole with them. `gathered` is room
+/// for those that are made. Before a fault is answered the texts of the items before it are written; at
+/// `ToolFault::Write` a prefix of them may be. After a fault of the reader each call that may fail answers it.
+pub fn write_next_texts<S: Steps, W: Write, M: ItemTexts<S>>(
+    alloc: Global,
+    reader: &mut ReaderOf<S>,
+    texts: &M,
+    gathered: &mut Vec<u8>,
+    output: &mut Output<W>,
+) -> Result<(), ToolFault>
+    requires some { 0 < length (waits_in reader.old) }
+    requires so_far { HasReadSome S.stepping reader.old }
+    ensures written { (read now : Option (List ℕ)) (given : List S.Told)
+        → HasReadBy S.stepping reader.old read now given
+        → WritesNext S.stepping (IsTextBy S.stepping (M.of_item texts.now) (M.of_value texts.now))
+        (IsStopBy S.stepping (λ T given fault. ⊥)) reader.old reader.new read now given
+        (W.contents (writer_of output.old)) (W.contents (writer_of output.new)) result }
+    ensures unread { IfErr result (λ fault. fault ≢ ToolFault.Read) }
+    ensures limits { S.stepping.limits (session_of reader.new) ≡ S.stepping.limits (session_of reader.old) }
+    ensures writes { CountsOnlyWrites (failed_writes output.old) (failed_writes output.new) result }
+{
+    let alone = EachAlone { texts };
+    write_next(alloc, reader, &alone, &mut (), gathered, output)
+}
+
 /// Takes some of the bytes that wait, and writes the texts of the items that are whole with them. `gathered` is for
 /// those that are made; others go out while they are made.
 fn write_next<S: Steps, W: Write, M: TextSteps<S>>(

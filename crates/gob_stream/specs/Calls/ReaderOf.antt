@@ -13,6 +13,7 @@ use Rattle.gob_stream.specs.Reading.{SomeTaken}
 use Rattle.gob_stream.specs.Stepping.{GivesItemsOf, GivesNoMoreBy, HasBegunNextBy, IsNextBy, Stepping}
 use Rattle.gob_stream.specs.declared.fault.Fault.{Fault}
 use Rattle.gob_stream.specs.declared.fault.Fault.TheVariants as fault
+use Rattle.gob_stream.specs.declared.reader_of.Ahead.{Ahead}
 use Rattle.gob_stream.specs.declared.reader_of.ReaderOf.{ReaderOf}
 use Rattle.gob_stream.specs.declared.session.Advance.{Advance}
 use Rattle.gob_stream.specs.declared.values.Passed.{Passed}
@@ -24,6 +25,10 @@ session_of r = r.session
 -- the bytes that were read and not yet taken
 abbrev pub waits_in : {X I : Type 0} → ReaderOf X I → List ℕ
 waits_in r = waiting r.waiting
+
+-- and whether the input has ended behind them
+abbrev pub ahead_of : {X I : Type 0} → ReaderOf X I → Ahead
+ahead_of r = record { waiting = r.waiting; ended = r.ended }
 
 -- the room that it has for them
 abbrev pub room_in : {X I : Type 0} → ReaderOf X I → ℕ
