@@ -21,7 +21,10 @@ use Rattle.gob_filled.specs.OutcomeLaws.{unfilled_item}
 use Rattle.gob_filled.specs.Stream.{FilledItem, AreFilledItems, IsFilledItem, putting, of_value, last_counted}
 use Rattle.gob_filled.specs.Stream as filled
 use Rattle.gob_filled.proofs.Contained.{item_stays}
-use Rattle.gob_go.specs.Calls.Session.{HasItemsNext, ReadsAllSo, ReadsItemsSo}
+use Rattle.gob_stream.specs.Stepping.{in_format, in_grammar, IsToldNextBy}
+use Rattle.gob_go.specs.GoStepping.{stepping_of}
+use Rattle.gob_go.specs.Calls.Session.{AreNext, HasItemsNext, ReadsAllSo, ReadsItemsSo}
+use Rattle.gob_go.specs.declared.item.GoItem.{GoItem}
 use Rattle.gob_go.specs.Machine.SessionState.{SessionState}
 use Rattle.gob_go.specs.Whole.{AreFilledBefore, IsFilledWhole}
 use Rattle.gob_go.proofs.SessionAnswers.{few_items}
@@ -53,6 +56,12 @@ pub one_filled : {L : Bounds} {T U : Table} {offset : ℕ} {i : FilledItem} {b :
 one_filled {L = L} {T = T} {U = U} {offset = offset} {i = i} {b = b} p =
     subst (λ b. AreFilledItems base_table L T offset (i ∷ []) b U) (append-nil b)
     (filled.and_then p refl filled.no_more)
+
+-- an item that the session is told to go past
+pub told_item : (keep : Bool) (means : Table → GoItem → FilledItem → Type 0) {s : SessionState} {i : FilledItem}
+    {z : List ℕ} → AreBytes z → IsToldNextBy (stepping_of keep means) s i z → AreNext s (i ∷ []) z
+told_item keep means o (in_format p) = one_filled (item_stays o p)
+told_item keep means o (in_grammar p) = one_filled p
 
 -- ---- items that stand one behind another at the front of a piece
 module _ {L : Bounds} {T : Table} {offset : ℕ} {piece : List ℕ} where

@@ -77,19 +77,19 @@ joined {base = base} {L = L} {T = T} {t = t} {most = most} p b c m n left ls fs 
     (subst (λ x. Fills base L T t most T p (b ++ (c ++ left)) (fill p gs) x T) (sym (append_assoc m n ls)) all)
 
 -- where a part leads to another
-enters : {T : Table} {t u v : TypeId} {s : Shape} (around : ℕ) (p c : List ℕ) → LeadsToNils T t p u around
+pub enters : {T : Table} {t u v : TypeId} {s : Shape} (around : ℕ) (p c : List ℕ) → LeadsToNils T t p u around
     → shape_of T u ≡ Some s → Enters T s.kind c v → LeadsToNils T t (p ++ c) v (around + 1)
 enters {T = T} {t = t} around p c leads f n = λ q d x.
     let deep : around + suc d ≡ around + 1 + d = omega arith in
     subst (λ l. ExpectsTop T t l (a_number nil) (around + 1 + d)) (sym (append_assoc p c q))
     (subst (λ e. ExpectsTop T t (p ++ (c ++ q)) (a_number nil) e) deep (leads (c ++ q) (suc d) (in_part f n x)))
 
-enters_kind : {T : Table} {t u v : TypeId} {k : Kind} (around : ℕ) (p c : List ℕ) → LeadsToNils T t p u around
+pub enters_kind : {T : Table} {t u v : TypeId} {k : Kind} (around : ℕ) (p c : List ℕ) → LeadsToNils T t p u around
     → IsOfKind T u k → Enters T k c v → LeadsToNils T t (p ++ c) v (around + 1)
 enters_kind {T = T} {v = v} around p c leads (s, f, e) n =
     enters around p c leads f (subst (λ k. Enters T k c v) (sym e) n)
 
-spelled_as : {T : Table} {u : TypeId} {k : Kind} {v : Tree} {b : List ℕ} → IsOfKind T u k → SpellsAs T k v b
+pub spelled_as : {T : Table} {u : TypeId} {k : Kind} {v : Tree} {b : List ℕ} → IsOfKind T u k → SpellsAs T k v b
     → Spells T u v b
 spelled_as {T = T} {v = v} {b = b} (s, f, e) p = of_type f (subst (λ k. SpellsAs T k v b) (sym e) p)
 
@@ -173,7 +173,8 @@ module _ {T : Table} where
         };
       }
 
-  pub element_begins : (e : TypeId) (limit n m : ℕ) → n ≡ m + 1 → (x y z : List ℕ) → BeginsFilled T e limit x y
+  unfoldable pub element_begins : (e : TypeId) (limit n m : ℕ) → n ≡ m + 1 → (x y z : List ℕ)
+      → BeginsFilled T e limit x y
       → BeginsFilledEach T e limit m y z → BeginsFilledEach T e limit n x z
   element_begins e limit n m more x y z h k =
       let v = h.within in
@@ -221,7 +222,8 @@ module _ {T : Table} where
         };
       }
 
-  pub pair_begins : (k e : TypeId) (limit n m : ℕ) → n ≡ m + 1 → (x a y z : List ℕ) → BeginsFilled T k limit x a
+  unfoldable pub pair_begins : (k e : TypeId) (limit n m : ℕ) → n ≡ m + 1 → (x a y z : List ℕ)
+      → BeginsFilled T k limit x a
       → BeginsFilled T e limit a y → BeginsFilledPairs T k e limit m y z → BeginsFilledPairs T k e limit n x z
   pair_begins key e limit n m more x a y z g h k =
       let u = g.within in
@@ -260,7 +262,8 @@ module _ {T : Table} where
             f;
       }
 
-  pub fields_end_here : (types : List Field) (next limit n : ℕ) → n ≡ 0 → (x y : List ℕ) → BeginsThisNumber n x y
+  unfoldable pub fields_end_here : (types : List Field) (next limit n : ℕ) → n ≡ 0 → (x y : List ℕ)
+      → BeginsThisNumber n x y
       → BeginsFilledFields T types next limit x y
   fields_end_here types next limit n none x y h =
       record {
@@ -274,7 +277,7 @@ module _ {T : Table} where
         fills = λ o base L t p q left ls fs around most leads run deep f. as_they_stand (p ++ q) h.bytes o f;
       }
 
-  pub field_begins : (types : List Field) (next limit delta number : ℕ) (e : Field) → 0 < delta
+  unfoldable pub field_begins : (types : List Field) (next limit delta number : ℕ) (e : Field) → 0 < delta
       → number + 1 ≡ next + delta → slice_get types number ≡ Some e
       → (x a y z : List ℕ) → BeginsThisNumber delta x a → BeginsFilled T e.id limit a y
       → BeginsFilledFields T types (number + 1) limit y z → BeginsFilledFields T types next limit x z
@@ -315,7 +318,7 @@ module _ {T : Table} where
 
   -- ---- values with parts
   -- parts behind a count
-  behind_count : {base : Table} {L : Bounds} {t : TypeId} {most : ℕ} (p c b m left ls : List ℕ) (fs : Fillings)
+  pub behind_count : {base : Table} {L : Bounds} {t : TypeId} {most : ℕ} (p c b m left ls : List ℕ) (fs : Fillings)
       (fill : Filler) → AreBytes c
       → (Fills base L T t most T (((p ++ c) ++ []) ++ b) left fs ls T
       → Fills base L T t most T ((p ++ c) ++ []) (b ++ left) (fill ((p ++ c) ++ []) fs) (m ++ ls) T)
@@ -329,7 +332,8 @@ module _ {T : Table} where
       (parts (subst (λ x. Fills base L T t most T (x ++ b) left fs ls T) (sym same) f)))
       f
 
-  pub slice_begins : (u e : TypeId) (limit n : ℕ) → IsOfKind T u (kind.Slice e) → 0 < limit → (x y z : List ℕ)
+  unfoldable pub slice_begins : (u e : TypeId) (limit n : ℕ) → IsOfKind T u (kind.Slice e) → 0 < limit →
+      (x y z : List ℕ)
       → BeginsThisNumber n x y → BeginsFilledEach T e (limit - 1) n y z → BeginsFilled T u limit x z
   slice_begins u e limit n is some x y z g h =
       let w = h.within in
@@ -351,7 +355,7 @@ module _ {T : Table} where
             no_element (zero-add n) (omega arith)) f;
       }
 
-  pub array_begins : (u e : TypeId) (limit n m : ℕ) → IsOfKind T u (kind.Array e m) → 0 < limit → n ≡ m
+  unfoldable pub array_begins : (u e : TypeId) (limit n m : ℕ) → IsOfKind T u (kind.Array e m) → 0 < limit → n ≡ m
       → (x y z : List ℕ) → BeginsThisNumber n x y → BeginsFilledEach T e (limit - 1) n y z → BeginsFilled T u limit x z
   array_begins u e limit n m is some same x y z g h =
       let w = h.within in
@@ -373,7 +377,8 @@ module _ {T : Table} where
             no_element (zero-add n ∙ same) (omega arith)) f;
       }
 
-  pub map_begins : (u k e : TypeId) (limit n : ℕ) → IsOfKind T u (kind.Map k e) → 0 < limit → (x y z : List ℕ)
+  unfoldable pub map_begins : (u k e : TypeId) (limit n : ℕ) → IsOfKind T u (kind.Map k e) → 0 < limit →
+      (x y z : List ℕ)
       → BeginsThisNumber n x y → BeginsFilledPairs T k e (limit - 1) n y z → BeginsFilled T u limit x z
   map_begins u key e limit n is some x y z g h =
       let w = h.within in
@@ -396,7 +401,8 @@ module _ {T : Table} where
             no_entry (zero-add n) (omega arith)) f;
       }
 
-  pub struct_begins : (u : TypeId) (types : List Field) (limit : ℕ) → IsOfKind T u (kind.Struct types) → 0 < limit
+  unfoldable pub struct_begins : (u : TypeId) (types : List Field) (limit : ℕ) → IsOfKind T u (kind.Struct types)
+      → 0 < limit
       → (x y : List ℕ) → BeginsFilledFields T types 0 (limit - 1) x y → BeginsFilled T u limit x y
   struct_begins u types limit is some x y h =
       let w = h.within in
@@ -419,7 +425,8 @@ module _ {T : Table} where
       }
 
   -- ---- what an interface holds
-  pub held_begins : (u held : TypeId) (limit : ℕ) (a s n c w : List ℕ) → IsOfKind T u (kind.Basic basic.Interface)
+  unfoldable pub held_begins : (u held : TypeId) (limit : ℕ) (a s n c w : List ℕ) → IsOfKind T u
+      (kind.Basic basic.Interface)
       → 0 < length s → IsUnsigned (length s) a → MayPut T held → IsSigned (pos held.0) n → IsUnsigned (length w) c
       → (v : Filled) → (AreBytes w → (base : Table) (L : Bounds) → SpellsFilled base L T held limit v w T)
       → (x z : List ℕ) → x ≡ (a ++ (s ++ (n ++ (c ++ w)))) ++ z → BeginsFilled T u (limit + 1) x z
@@ -478,13 +485,14 @@ module _ {T : Table} where
       }
 
   -- ---- behind a tag or without one
-  struct_top_fills : {base : Table} {L : Bounds} {t : TypeId} {limit : ℕ} (b m : List ℕ) (fs : Fillings)
+  pub struct_top_fills : {base : Table} {L : Bounds} {t : TypeId} {limit : ℕ} (b m : List ℕ) (fs : Fillings)
       → Fills base L T t limit T [] (b ++ []) fs (m ++ []) T → Fills base L T t limit T [] b fs m T
   struct_top_fills {base = base} {L = L} {t = t} {limit = limit} b m fs f =
       subst (λ x. Fills base L T t limit T [] x fs m T) (append-nil b)
       (subst (λ x. Fills base L T t limit T [] (b ++ []) fs x T) (append-nil m) f)
 
-  pub struct_top : {t : TypeId} {s : Shape} {limit : ℕ} → shape_of T t ≡ Some s → IsStruct s.kind → (x y : List ℕ)
+  unfoldable pub struct_top : {t : TypeId} {s : Shape} {limit : ℕ} → shape_of T t ≡ Some s → IsStruct s.kind →
+      (x y : List ℕ)
       → BeginsFilled T t limit x y → BeginsFilledTop T t limit x y
   struct_top {t = t} {limit = limit} found is x y h = record {
     value = filled h.value (h.fill [] no_filling);
@@ -497,7 +505,8 @@ module _ {T : Table} where
         (sym (zero-add limit)) (as_it_stands tt)));
   }
 
-  pub tagged_top : {t : TypeId} {s : Shape} {limit : ℕ} → shape_of T t ≡ Some s → ¬ IsStruct s.kind → (x y : List ℕ)
+  unfoldable pub tagged_top : {t : TypeId} {s : Shape} {limit : ℕ} → shape_of T t ≡ Some s → ¬ IsStruct s.kind →
+      (x y : List ℕ)
       → BeginsFilled T t limit x y → BeginsFilledTop T t limit (0 ∷ x) y
   tagged_top {t = t} {limit = limit} found isnt x y h = record {
     value = filled h.value (h.fill (0 ∷ []) no_filling);

@@ -207,8 +207,8 @@ fn interface_end(table: &Table, id: TypeId, body: &[u8], at: usize, depth: u64) 
     }
 }
 
-// The type whose number this is, where values of it may stand in interfaces.
-fn held_type(table: &Table, number: u64) -> Option<TypeId>
+/// The type whose number this is, where values of it may stand in interfaces.
+pub fn held_type(table: &Table, number: u64) -> Option<TypeId>
     ensures number { IfSome result (λ id. (bytes : List ℕ) → IsUnsigned number bytes → IsSigned (pos id.0) bytes) }
     ensures may { IfSome result (λ id. MayPut (types table.now) id) }
 {

@@ -37,7 +37,7 @@ mod values;
 mod whole;
 
 pub use filled::{Definition, Filled, Filling};
-pub use filled_whole::is_filled_whole;
+pub use filled_whole::{held_type, is_filled_whole};
 pub use ids::{push_ids, push_inner_ids};
 pub use item::GoItem;
 pub use passing::PassingSession;

@@ -88,7 +88,7 @@ impl Steps for PassingSession {
     }
 
     fn pass(&mut self, item: &[u8]) {
-        self.session.pass(item);
+        self.session.go_past(item);
     }
 
     fn pass_values(&mut self, piece: &[u8]) -> Passed {

@@ -52,7 +52,7 @@ impl Steps for GoSession {
     }
 
     fn pass(&mut self, item: &[u8]) {
-        self.pass(item);
+        self.go_past(item);
     }
 
     fn pass_values(&mut self, piece: &[u8]) -> Passed {

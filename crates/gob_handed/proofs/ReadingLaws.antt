@@ -12,7 +12,7 @@ use Rattle.gob_stream.specs.Bounds.{AreLimits, Bounds, deepest}
 use Rattle.gob_stream.specs.Grammar.{GivesIn}
 use Rattle.gob_stream.specs.Honest.{OfRefusal}
 use Rattle.gob_stream.specs.Stepping.{AdvancesBy, GivesAllBy, GivesItemsOf, gives_none, gives_one, StandsBy}
-use Rattle.gob_stream.specs.Stepping.{ReadsOnBy, StepAnswersBy, Stepping}
+use Rattle.gob_stream.specs.Stepping.{in_format, ReadsOnBy, StepAnswersBy, Stepping}
 use Rattle.gob_stream.specs.declared.fault.Fault.{Fault}
 use Rattle.gob_stream.specs.declared.fault.Fault.TheVariants as fault
 use Rattle.gob_stream.specs.declared.session.Advance.{Advance}
@@ -187,7 +187,7 @@ takes_whole d {handouts = handouts} {old = old} {new = new} {items = items} {id 
     {end = end} bytes piece n within reads between stands onward table same last offset begin w h =
     let whole = bytes ++ take used piece in
     let span : Span = record { begin = begin_of old; end = end } in
-    let gave = reads items bytes n.item h.gave n.next in
+    let gave = reads items bytes (d.told n.item) h.gave (in_format n.next) in
     let long = length-take used piece in
     let taken : d.taken (session_of new) ≡ d.taken (session_of old) + used = omega (arith, onward, long, within) in
     let so = read_on d bytes piece h gave taken within (offset ∙ last) same stands in

@@ -19,7 +19,7 @@ use Rattle.gob_walk.proofs.PublicLaws.{later_on}
 joined : {a b c d : List ℕ} → a ≡ b → c ≡ d → a ++ c ≡ b ++ d
 joined e f = cc
 
-head_goes_on : (later : Bool) (f : ℕ) (name value items : List ℕ)
+pub head_goes_on : (later : Bool) (f : ℕ) (name value items : List ℕ)
     → field_head later f name ++ ((value ++ 93 ∷ []) ++ items)
     ≡ comma_if later ++ 91 ∷ ((decimal f ++ 44 ∷ (compact_text (text_json name) ++ 44 ∷ (value ++ 93 ∷ []))) ++ items)
 head_goes_on later f name value items = simp append_assoc

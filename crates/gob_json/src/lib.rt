@@ -12,4 +12,4 @@
 
 mod text;
 
-pub use text::{TextOut, line_of_whole, send_line};
+pub use text::{Exact, PartOut, TextOut, line_of_whole, put_head, send_line};

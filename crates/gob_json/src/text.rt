@@ -15,5 +15,7 @@ mod piece;
 mod plain;
 mod whole;
 
+pub use exact::Exact;
+pub use gathered::PartOut;
 pub use out::TextOut;
-pub use whole::{line_of_whole, send_line};
+pub use whole::{line_of_whole, put_head, send_line};

@@ -4,6 +4,6 @@ pub mod TapeLaws
 mod GapsLaws
 mod HoldingLaws
 mod LevelLaws
-mod OnceLaws
+pub mod OnceLaws
 mod PartOrder
 pub mod ShownLaws

@@ -19,14 +19,14 @@ abbrev pub nulls : ℕ → Data
 nulls n = null
 
 mutual
-  value_nulls : (T : Table) (t : TypeId) (n : ℕ) (v : Tree) → value_json_with nulls T t n v ≡ value_json T t v
+  pub value_nulls : (T : Table) (t : TypeId) (n : ℕ) (v : Tree) → value_json_with nulls T t n v ≡ value_json T t v
   value_nulls T t n (Value.many vs) = ap array (elements_nulls T (element_type (shape_of T t)) (n + 1) vs)
   value_nulls T t n (Value.pairs ps) =
       ap array (pairs_nulls T (key_type (shape_of T t)) (element_type (shape_of T t)) (n + 1) ps)
   value_nulls T t n (Value.fields fs) = ap array (fields_nulls T (struct_fields (shape_of T t)) (n + 1) fs)
   value_nulls T t n _ = refl
 
-  elements_nulls : (T : Table) (e : TypeId) (n : ℕ) (vs : Trees)
+  pub elements_nulls : (T : Table) (e : TypeId) (n : ℕ) (vs : Trees)
       → elements_json_with nulls T e n vs ≡ elements_json T e vs
   elements_nulls T e n no_tree = refl
   elements_nulls T e n (tree v vs) =

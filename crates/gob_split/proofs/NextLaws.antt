@@ -14,7 +14,7 @@ use Rattle.gob_value.specs.Whole.{IsWhole}
 use Rattle.gob_stream.specs.Bounds.{Bounds, greatest_depth}
 use Rattle.gob_stream.specs.Calls.ReaderOf.{types_behind}
 use Rattle.gob_stream.specs.Item.{puts}
-use Rattle.gob_stream.specs.Stepping.{GivesAllBy, GivesItemsOf, gives_none, gives_one, HasItemNextBy}
+use Rattle.gob_stream.specs.Stepping.{GivesAllBy, GivesItemsOf, gives_none, gives_one, HasItemNextBy, in_format}
 use Rattle.gob_stream.specs.Whole.{HasBody}
 use Rattle.gob_stream.specs.declared.fault.Fault.{Fault}
 use Rattle.gob_stream.specs.declared.fault.Fault.TheVariants as reading
@@ -83,7 +83,7 @@ pub whole_taken : {r r' : GoReader} {id : TypeId} {body : List ℕ} {used : ℕ}
     → TakesText r r' read now given x
 whole_taken {r = r} {r' = r'} {id = id} {used = used} x w same none p between table = λ read now given h.
     let next = whole_item greatest_depth refl w.next w.is.whole in
-    let t = p read now given (puts id w.is.whole.value) h next in
+    let t = p read now given (putting id (filled w.is.whole.value no_filling)) h (in_format next) in
     let some = counted_some next in
     let size = length-take-le used (waits_in r) w.next.within in
     record {
@@ -98,7 +98,10 @@ whole_taken {r = r} {r' = r'} {id = id} {used = used} x w same none p between ta
 
 pub has_item : {r : GoReader} {id : TypeId} {body : List ℕ} {used : ℕ} → IsWholeNext r id body used
     → HasItemNextBy go_stepping (session_of r) (take used (waits_in r))
-has_item {id = id} w = (puts id w.is.whole.value, whole_item greatest_depth refl w.next w.is.whole)
+has_item {id = id} w = (
+  putting id (filled w.is.whole.value no_filling),
+  in_format (whole_item greatest_depth refl w.next w.is.whole),
+)
 
 -- ---- a step
 pub step_taken : {r r' : GoReader} {read now : Option (List ℕ)} {given : List FilledItem} {step : Advance GoItem}

@@ -108,14 +108,22 @@ HasBegunNextBy d s id head size piece = HasBegun (d.limits s) (types (d.table s)
 abbrev pub IsNextBy : {X Item Told : Type 0} → Stepping X Item Told → X → StreamItem → List ℕ → Type 0
 IsNextBy d s i z = IsItem base_table (d.within (d.limits s)) (types (d.table s)) (d.taken s) i z (types (d.table s))
 
+-- they are this item of the grammar, as the next one, and it defines nothing
+pub data IsToldNextBy {X Item Told : Type 0} (d : Stepping X Item Told) (s : X) : Told → List ℕ → Type 0 where
+  -- one of the format
+  in_format : {i : StreamItem} {z : List ℕ} → IsNextBy d s i z → IsToldNextBy d s (d.told i) z
+  in_grammar : {i : Told} {z : List ℕ}
+      → d.grammar.is (d.within (d.limits s)) (types (d.table s)) (d.taken s) i z (types (d.table s))
+      → IsToldNextBy d s i z
+
 -- they are some item
 abbrev pub HasItemNextBy : {X Item Told : Type 0} → Stepping X Item Told → X → List ℕ → Type 0
-HasItemNextBy d s z = (i : StreamItem) × IsNextBy d s i z
+HasItemNextBy {Told = Told} d s z = (i : Told) × IsToldNextBy d s i z
 
 -- it has read the item that these bytes are
 abbrev pub ReadsOnBy : {X Item Told : Type 0} → Stepping X Item Told → (s s' : X) → List ℕ → Type 0
-ReadsOnBy {Told = Told} d s s' z = (items : List Told) (bytes : List ℕ) (i : StreamItem) → d.read s items bytes
-    → IsNextBy d s i z → d.read s' (items ++ d.told i ∷ []) (bytes ++ z)
+ReadsOnBy {Told = Told} d s s' z = (items : List Told) (bytes : List ℕ) (i : Told) → d.read s items bytes
+    → IsToldNextBy d s i z → d.read s' (items ++ i ∷ []) (bytes ++ z)
 
 -- it stands behind so many items, the first bytes of the piece
 pub record ReadsItemsBy {X Item Told : Type 0} (d : Stepping X Item Told) (s s' : X) (count used : ℕ)

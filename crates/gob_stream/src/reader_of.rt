@@ -283,8 +283,8 @@ impl<S: Steps> ReaderOf<S> {
         self.session.awaited(self.waiting.bytes())
     }
 
-    /// Goes past the first bytes that wait, which the caller has found to be an item of the format that defines
-    /// nothing, so that its body is a value of its type in which no interface holds another.
+    /// Goes past the first bytes that wait, which the caller has found to be an item that defines nothing. Interfaces
+    /// in its value hold others only where the session is one for what Go's encoder writes.
     pub fn pass(&mut self, used: usize)
         requires between { S.stepping.between (session_of self.old) }
         requires item { HasItemNextBy S.stepping (session_of self.old) (take used (waits_in self.old)) }

@@ -87,7 +87,7 @@ pub trait Steps: Drop {
         ensures body { IfSome result (λ whole.
             HasBodyNextBy stepping self.now whole.id whole.body.now whole.used piece.now) };
 
-    /// Goes past these bytes, which the caller has found to be an item of the format that defines nothing.
+    /// Goes past these bytes, which the caller has found to be an item that defines nothing.
     fn pass(&mut self, item: &[u8])
         requires between { stepping.between self.old }
         requires item { HasItemNextBy stepping self.old item.now }

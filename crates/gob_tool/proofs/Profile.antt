@@ -1,4 +1,5 @@
 -- What follows of runs over streams of Go's encoder.
+pub mod FilledLineLaws
 pub mod FormLaws
 pub mod HoistedLineLaws
 pub mod LineLaws

@@ -20,7 +20,7 @@ use Rattle.gob_tool.specs.declared.fault.ToolFault.{ToolFault}
 use Rattle.gob_tool.proofs.LinesStay.{stream_keeps}
 use Rattle.gob_tool.proofs.ReaderRuns.{last_item}
 use Rattle.gob_tool.proofs.ShowLaws.{same_behind}
-use Rattle.gob_tool.proofs.TextLaws.{runs_begun}
+use Rattle.gob_tool.proofs.TextLaws.{runs_begun, value_text}
 use Rattle.gob_tool.proofs.TidyStays.{form_stands, tidies_on}
 
 -- ---- the last item
@@ -41,7 +41,7 @@ is_last {L = L} items s =
 tidy_item : {L : Bounds} {T : Table} {i : StreamItem} {b text : List ℕ} (items : List StreamItem)
     → Stream base_table L (items ++ i ∷ []) b T → IsTidied T i text → IsTidyItem T i text
 tidy_item items s (from_item {i = i} m f) = f i m (is_last items s)
-tidy_item items s (from_value is) = is
+tidy_item items s (from_value is) = value_text IsTidyItem is
 
 -- ---- from item to item
 keeps_to : {L : Bounds} {T V : Table} {o : ℕ} {i : StreamItem} {b : List ℕ} {items others : List StreamItem}

@@ -13,7 +13,7 @@ use Rattle.gob_read.specs.Calls.Builders.{tree_building}
 use Rattle.gob_stream.specs.Bounds.{Bounds}
 use Rattle.gob_stream.specs.Calls.ReaderOf.{session_of, waits_in}
 use Rattle.gob_stream.specs.Calls.Session.{IsBetweenItems, limits_of, types_of}
-use Rattle.gob_stream.specs.Item.{StreamItem, ItemMeans, item_view, mean_more, mean_none}
+use Rattle.gob_stream.specs.Item.{StreamItem, puts, ItemMeans, item_view, mean_more, mean_none}
 use Rattle.gob_stream.specs.Machine.SessionState.{SessionState}
 use Rattle.gob_stream.specs.Outcome.{BeginsWithStream, strict}
 use Rattle.gob_stream.specs.Stepping.{HasBodyNextBy}
@@ -26,10 +26,10 @@ use Rattle.gob_tool.specs.Machine.Lines.{IsLine, is_line_of_value}
 use Rattle.gob_tool.specs.Answering.{AppendsPrefix}
 use Rattle.gob_tool.specs.Showing.{OfLines, ShowAnswers}
 use Rattle.gob_tool.specs.Texts.{HaveTexts, no_texts, texts_then, from_item, from_value, OfTexts, TextsAnswersIn}
-use Rattle.gob_tool.specs.Texts.{IsLineAhead, IsNextWhole, IsWholeText}
+use Rattle.gob_tool.specs.Texts.{IsLineAhead, IsNextWhole, IsWholeText, of_unfilled}
 use Rattle.gob_tool.specs.declared.fault.ToolFault.{ToolFault}
 use Rattle.gob_tool.proofs.LinesStay.{first_items, lines_stay}
-use Rattle.gob_tool.proofs.TextLaws.{runs_begun}
+use Rattle.gob_tool.proofs.TextLaws.{runs_begun, value_text, waits_next}
 
 lines_append : (T : Table) (items others : List StreamItem) → lines T (items ++ others) ≡ lines T items
     ++ lines T others
@@ -44,7 +44,7 @@ meant {given = given} {i = i} m =
 
 is_line : {T : Table} {i : StreamItem} {text : List ℕ} → IsLine T i text → text ≡ line T i
 is_line {T = T} (from_item m l) = l ∙ ap (λ i. line T i) (meant m)
-is_line (from_value l) = l
+is_line (from_value l) = value_text (λ T i text. text ≡ line T i) l
 
 -- the types behind items are the same, wherever a stream of them stands
 pub same_behind : {L : Bounds} {bytes : List ℕ} {items : List StreamItem}
@@ -104,18 +104,17 @@ pub next_whole : {X O : Type 0} {most : ℕ} {building : Building X O most}
     → d ≤ min (limits_of (session_of r)).depth most
     → IsBetweenItems (session_of r) → HasBodyNextBy (strict_stepping building) (session_of r) id body used (waits_in r)
     → (w : IsWhole (types_of (session_of r)) id d body)
-    → IsNextWhole (strict_stepping building) r id w.value used
+    → IsNextWhole (strict_stepping building) r (puts id w.value) used
 unfolding whole_deeper
-next_whole {most = most} up between next w =
-    record { between = between; within = next.within; next = whole_item most refl next (whole_deeper up w) }
+next_whole {most = most} {building = building} up between next w =
+    waits_next (strict_stepping building) between next.within (whole_item most refl next (whole_deeper up w))
 
 pub line_ahead : {X O : Type 0} {most : ℕ} {building : Building X O most}
     {r : ReaderOf (SessionState X O) (declared.Item O)} {used d : ℕ} {text : List ℕ}
     → d ≤ min (limits_of (session_of r)).depth most → IsLineAhead (strict_stepping building) d r used text
     → IsWholeText (strict_stepping building) is_line_of_value r used text
 line_ahead up l = record {
-  id = l.id;
-  value = l.whole.value;
+  told = puts l.id l.whole.value;
   item = next_whole up l.between l.next l.whole;
-  is = l.text_is;
+  is = of_unfilled l.text_is;
 }

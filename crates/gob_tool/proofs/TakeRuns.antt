@@ -35,7 +35,7 @@ use Rattle.gob_stream.specs.declared.session.Advance.{Advance}
 use Rattle.gob_tool.specs.Texts.{answers, stops_at, HaveTexts, no_texts, texts_then, OfTexts}
 use Rattle.gob_tool.specs.Texts.{from_item, from_value}
 use Rattle.gob_tool.proofs.ShowLaws.{begins_first, meant, same_behind}
-use Rattle.gob_tool.proofs.TextLaws.{begun, ended_begins, runs_as, runs_begun}
+use Rattle.gob_tool.proofs.TextLaws.{begun, ended_begins, runs_as, runs_begun, value_text}
 use Rattle.gob_tool.specs.Ending.{CountsOnlyWrites, EndsRun, ends_so, flush_fails}
 use Rattle.gob_tool.specs.Converting.{in_front}
 use Rattle.gob_tool.specs.Taking.{clashes, CountsTakeReads, first_type, Receiving, receives}
@@ -136,7 +136,8 @@ received_one : {how : ReceivedForm} {T U : Table} {u : TypeId} {i : StreamItem} 
     → IsReceived how U u T i text → AreReceivedIn how T U u (i ∷ []) text
 received_one {how = how} {T = T} {U = U} {u = u} {text = text} (from_item m h) =
     subst (λ i. AreReceivedIn how T U u (i ∷ []) text) (meant m) h
-received_one (from_value h) = h
+received_one {how = how} {U = U} {u = u} (from_value h) =
+    value_text (λ T i text. AreReceivedIn how T U u (i ∷ []) text) h
 
 -- bytes went out in front of a prefix
 prefix_behind : (old mid new : Option (List ℕ)) (x y : List ℕ) → Appends old mid x → AppendsPrefix mid new y

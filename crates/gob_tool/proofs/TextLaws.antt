@@ -1,4 +1,5 @@
 -- How a run that writes texts of items goes on, and how it ends.
+use Rattle.std.proofs.Common.{length, take, ◌≤◌}
 use Rattle.std.proofs.Common.{◌≡◌, ℕ, ◌+◌, ◌-◌, ◌<◌, arith, List, [], ◌++◌, Option, Some, None, Bool, IfErr, IfOk}
 use Rattle.std.proofs.Common.{IfSome, MatchOption}
 use Rattle.std.proofs.Common.{true, false, ◌∷◌, Result, Ok, Err, ◌∙◌, ap, sym, subst, refl, append_assoc, append-nil}
@@ -17,8 +18,9 @@ use Rattle.gob_stream.specs.Calls.ReaderOf.{EndsWithIn, HasReadBy, PassesOneBy, 
 use Rattle.gob_stream.specs.Calls.ReaderOf.{session_of, types_behind, waits_in}
 use Rattle.gob_stream.specs.Calls.Writing.{CountsWriterFaults, SentPrefix}
 use Rattle.gob_stream.specs.Grammar.{BeginsIn, GivesIn, Grammar}
-use Rattle.gob_stream.specs.Item.{puts}
-use Rattle.gob_stream.specs.Stepping.{GivesAllBy, GivesItemsOf, gives_none, gives_one, StandsBy, Stepping}
+use Rattle.gob_stream.specs.Item.{StreamItem}
+use Rattle.gob_stream.specs.Stepping.{GivesAllBy, GivesItemsOf, gives_none, gives_one, in_format, IsNextBy}
+use Rattle.gob_stream.specs.Stepping.{StandsBy, Stepping}
 use Rattle.gob_stream.specs.declared.fault.Fault.{Fault}
 use Rattle.gob_stream.specs.declared.fault.Fault.TheVariants as reading
 use Rattle.gob_stream.specs.declared.fault.WriteFault.{WriteFault}
@@ -34,7 +36,11 @@ use Rattle.gob_tool.specs.Machine.Texts.{AppendsTexts, AreNextTexts, bounds_of, 
 use Rattle.gob_tool.specs.Machine.Texts.{CountsFaults, SendsLarge, SendsNone, stops_item, stops_reading, StopsNext}
 use Rattle.gob_tool.specs.Machine.Texts.{TextGiven, WritesNext, WritesSo}
 use Rattle.gob_tool.specs.Texts.{AnswersOrStops, answers, stops_at, from_item, from_value, HaveTexts, IsGiven}
-use Rattle.gob_tool.specs.Texts.{IsStopBy, IsTextBy, IsWholeText, no_texts, OfTexts, texts_then, TextsAnswersIn}
+use Rattle.gob_tool.specs.Texts.{IsNextWhole, IsStopBy, IsTextBy, IsWholeText, no_texts, OfTexts, texts_then}
+use Rattle.gob_tool.specs.Texts.{TextsAnswersIn, IsValueText, of_unfilled, of_held, of_format}
+use Rattle.gob_filled.specs.Filled.{Filled, filled, no_filling, filling}
+use Rattle.gob_read.specs.Building.{Building}
+use Rattle.gob_stream.specs.StrictStepping.{strict_stepping}
 use Rattle.gob_tool.specs.declared.fault.ToolFault.{ToolFault}
 use Rattle.gob_tool.specs.declared.fault.ToolFault.TheVariants as fault
 use Rattle.gob_tool.proofs.EndLaws.{all_kept, prefix_kept}
@@ -517,8 +523,27 @@ module _ {X I Told : Type 0} (d : Stepping X I Told) {Is : Table → Told → Li
       (λ T items. OfTexts d.grammar Is L bytes (AppendsPrefix old new) items) reading.Memory
       (no_memory d m.stands.gives m.after bytes known) (texts_sent old mid new m out bytes known o))
 
+-- the text of a value, where only those of the format have some
+pub value_text : {X O : Type 0} {most : ℕ} {building : Building X O most}
+    (P : Table → StreamItem → List ℕ → Type 0) {T : Table} {i : StreamItem} {text : List ℕ}
+    → IsValueText (strict_stepping building) (of_format P) T i text → P T i text
+value_text P (of_unfilled t) = t
+value_text P (of_held {w = filled v no_filling} h p q t) = absurd h
+value_text P (of_held {w = filled v (filling place name ds u w fs)} h p q t) = absurd t
+
+-- the first bytes that wait are an item of the format
+pub waits_next : {X I Told : Type 0} (d : Stepping X I Told) {r : ReaderOf X I} {i : StreamItem} {used : ℕ}
+    → d.between (session_of r) → used ≤ length (waits_in r) → IsNextBy d (session_of r) i (take used (waits_in r))
+    → IsNextWhole d r (d.told i) used
+waits_next d {r = r} {used = used} between within next = record {
+  between = between;
+  some = omega (arith, counted_some next, length-take-le used (waits_in r) within);
+  within = within;
+  next = in_format next;
+}
+
 module _ {X I Told : Type 0} (d : Stepping X I Told) {of_item : Table → I → List ℕ → Type 0}
-    {of_value : Table → TypeId → Tree → List ℕ → Type 0} where
+    {of_value : Table → TypeId → Filled → List ℕ → Type 0} where
   -- the item behind those that were given, between two items
   next_so : {r : ReaderOf X I} {read now : Option (List ℕ)} {given : List Told} {T : Table}
       → StandsBy d (session_of r) → (i : Told) (made bytes : List ℕ)
@@ -568,16 +593,16 @@ module _ {X I Told : Type 0} (d : Stepping X I Told) {of_item : Table → I → 
       → HasReadBy d r read now given → MakesOnward d (IsTextBy d of_item of_value) r r' read now given made
   whole_made {r = r} {read = read} {now = now} {given = given} {made = made} {used = used} stands w same table between
       p h =
-      let t = p read now given (puts w.id w.value) h w.item.next in
-      let some = counted_some w.item.next in
+      let t = p read now given w.told h w.item.next in
+      let some = w.item.some in
       let size = length-take-le used (waits_in r) w.item.within in (
         record {
-          more = d.told (puts w.id w.value) ∷ [];
+          more = w.told ∷ [];
           after = t.after;
           onward = omega (arith, t.onward);
           limits = same;
           stands = stands;
-          made_of = λ bytes known. next_so stands (d.told (puts w.id w.value)) made bytes known between
+          made_of = λ bytes known. next_so stands w.told made bytes known between
               (ap (λ x. types x) (sym table)) t.after (from_value w.is);
         },
         omega (arith, t.onward, some, size),

@@ -46,7 +46,7 @@ use Rattle.gob_tool.specs.Machine.Rewritten.{IsHead, IsLastOfStream, IsNumbered,
 use Rattle.gob_tool.specs.Machine.Rewritten.{spells_definition}
 use Rattle.gob_tool.specs.Machine.Rewritten.{SendsNumbered, SendsTidy, is_tidy_of_value, spells_value}
 use Rattle.gob_tool.specs.Sending.{Sends}
-use Rattle.gob_tool.specs.Texts.{IsGiven, IsWholeText}
+use Rattle.gob_tool.specs.Texts.{IsGiven, IsWholeText, of_unfilled}
 use Rattle.gob_tool.proofs.LinesStay.{body_keeps, stream_keeps}
 use Rattle.gob_tool.proofs.RewriteLaws.{is_last}
 use Rattle.gob_tool.proofs.ShowLaws.{next_whole}
@@ -267,11 +267,10 @@ waits_tidied {r = r} {id = id} {limit = limit} {used = used} {body = body} {text
     by : IsTidyText (types (table_of (session_of r))) id limit body text
         → IsWholeText (strict_stepping tape_building) is_tidy_of_value r used text
     by t = record {
-      id = id;
-      value = t.value;
+      told = puts id t.value;
       item = next_whole (omega (arith, deep)) between next
           (record { value = t.value; spelled = t.spelled; within = t.within });
-      is = t.is;
+      is = of_unfilled t.is;
     }
 
 -- ---- what was sent

@@ -2,9 +2,8 @@
 use Rattle.std.specs.Prelude.{ℕ, List, Option, Result}
 use Rattle.gob_types.specs.Table.{Table}
 use Rattle.gob_types.specs.declared.id.TypeId.{TypeId}
-use Rattle.gob_value.specs.Tree.{Tree}
 use Rattle.gob_stream.specs.Bounds.{Bounds}
-use Rattle.gob_filled.specs.Filled.{filled, no_filling}
+use Rattle.gob_filled.specs.Filled.{Filled}
 use Rattle.gob_filled.specs.Outcome.{profile}
 use Rattle.gob_filled.specs.Stream.{FilledItem, putting}
 use Rattle.gob_go.specs.Calls.Reader.{GoReader}
@@ -19,9 +18,9 @@ use Rattle.gob_tool.specs.declared.fault.ToolFault.{ToolFault}
 abbrev pub of_given : (Is : Table → FilledItem → List ℕ → Type 0) → Table → GoItem → List ℕ → Type 0
 of_given Is T given text = (i : FilledItem) → ItemMeans T given i → Is T i text
 
--- of a value in which no interface holds another
-abbrev pub of_value : (Is : Table → FilledItem → List ℕ → Type 0) → Table → TypeId → Tree → List ℕ → Type 0
-of_value Is T id v text = Is T (putting id (filled v no_filling)) text
+-- of a value that waited as a whole
+abbrev pub of_value : (Is : Table → FilledItem → List ℕ → Type 0) → Table → TypeId → Filled → List ℕ → Type 0
+of_value Is T id w text = Is T (putting id w) text
 
 -- the text of the item of such a value that waits as a whole
 abbrev pub IsWholeText : (Is : Table → FilledItem → List ℕ → Type 0) → GoReader → (used : ℕ) → (text : List ℕ) → Type 0

@@ -17,7 +17,7 @@ pub(crate) trait TextSteps<S: Steps> {
     ghost use Rattle.gob_types.specs.Defined.{types};
     ghost use Rattle.gob_types.specs.Table.{Table};
     ghost use Rattle.gob_types.specs.declared.id.TypeId.{TypeId};
-    ghost use Rattle.gob_value.specs.Tree.{Tree};
+    ghost use Rattle.gob_filled.specs.Filled.{Filled};
     ghost use Rattle.gob_stream.specs.Calls.Ends.{failed_writes, writer_of};
     ghost use Rattle.gob_stream.specs.Calls.ReaderOf.{HasReadBy, session_of, waits_in};
     ghost use Rattle.gob_tool.specs.Ending.{CountsOnlyWrites};
@@ -32,8 +32,8 @@ pub(crate) trait TextSteps<S: Steps> {
     /// The text is that of what a session handed out, where the types behind it are those of the table.
     ghost of_item: { Self → Table → S.Item → List ℕ → Type 0 };
 
-    /// It is that of a value of the type, in which no interface holds another.
-    ghost of_value: { Self → Table → TypeId → Tree → List ℕ → Type 0 };
+    /// It is that of a value of the type that waited as a whole, and defines nothing.
+    ghost of_value: { Self → Table → TypeId → Filled → List ℕ → Type 0 };
 
     /// The fault stops the run at what a session handed out.
     ghost stops: { Self → Table → S.Item → ToolFault → Type 0 } = { λ steps T given fault. ⊥ };
@@ -64,9 +64,8 @@ pub(crate) trait TextSteps<S: Steps> {
         ensures unwritten { (failures : ℕ) → CountsOnlyWrites failures failures result }
         ensures limits { S.stepping.limits (session_of reader.new) ≡ S.stepping.limits (session_of reader.old) };
 
-    /// Makes the text of the item of a value that waits in front as a whole, and in which no interface holds another,
-    /// in `text`, which is empty, and answers how many bytes the item has. None says nothing of what waits, and leaves
-    /// `text` empty.
+    /// Makes the text of the item of a value that waits in front as a whole, and defines nothing, in `text`, which
+    /// is empty, and answers how many bytes the item has. None says nothing of what waits, and leaves `text` empty.
     fn whole_text(
         &self,
         alloc: Global,

@@ -30,15 +30,15 @@ pub trait ItemTexts<S: Steps> {
     ghost use Rattle.gob_types.specs.Defined.{types};
     ghost use Rattle.gob_types.specs.Table.{Table};
     ghost use Rattle.gob_types.specs.declared.id.TypeId.{TypeId};
-    ghost use Rattle.gob_value.specs.Tree.{Tree};
+    ghost use Rattle.gob_filled.specs.Filled.{Filled};
     ghost use Rattle.gob_stream.specs.Calls.Ends.{failed_writes, writer_of};
     ghost use Rattle.gob_tool.specs.Texts.{IsGiven, IsWholeText, SendsWhole};
 
     /// The text is that of what a session handed out, where the types behind it are those of the table.
     ghost of_item: { Self → Table → S.Item → List ℕ → Type 0 };
 
-    /// It is that of a value of the type, in which no interface holds another.
-    ghost of_value: { Self → Table → TypeId → Tree → List ℕ → Type 0 };
+    /// It is that of a value of the type that waited as a whole, and defines nothing.
+    ghost of_value: { Self → Table → TypeId → Filled → List ℕ → Type 0 };
 
     /// Makes the text of an item of a stream, by the types behind it, in `text`, which is empty.
     fn push_item(
@@ -52,9 +52,8 @@ pub trait ItemTexts<S: Steps> {
         requires empty { text.old.items ≡ [] }
         ensures { OnOk result (of_item self.now (types table.now) item text.new.items) };
 
-    /// Makes the text of the item of a value that waits in front as a whole, and in which no interface holds another,
-    /// in `text`, which is empty, and answers how many bytes the item has. None says nothing of what waits, and leaves
-    /// `text` empty.
+    /// Makes the text of the item of a value that waits in front as a whole, and defines nothing, in `text`, which
+    /// is empty, and answers how many bytes the item has. None says nothing of what waits, and leaves `text` empty.
     fn push_whole(
         &self,
         alloc: Global,
@@ -261,8 +260,8 @@ fn write_gathered<S: Steps, W: Write, M: TextSteps<S>>(
     }
 }
 
-/// Goes past the items of values that wait as a whole, one behind another, in which no interface holds another, and
-/// appends their texts, until enough bytes are gathered. Whether there was one; else nothing has changed but what is
+/// Goes past the items of values that wait as a whole, one behind another, and define nothing, and appends their texts,
+/// until enough bytes are gathered. Whether there was one; else nothing has changed but what is
 /// kept. After [`Memory`] the texts of the items that were passed stand there.
 fn pass_texts<S: Steps, M: TextSteps<S>>(
     alloc: Global,

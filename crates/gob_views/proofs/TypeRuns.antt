@@ -19,7 +19,7 @@ use Rattle.gob_stream.specs.declared.fault.Fault.{Fault}
 use Rattle.gob_stream.specs.declared.fault.Refusal.{Refusal}
 use Rattle.gob_stream.specs.declared.fault.Fault.TheVariants as reading
 use Rattle.gob_stream.specs.Item.{puts}
-use Rattle.gob_stream.proofs.PublicLaws.{counted_some, whole_item}
+use Rattle.gob_stream.proofs.PublicLaws.{whole_item}
 use Rattle.gob_filled.specs.Filled.{filled, no_filling}
 use Rattle.gob_filled.specs.Outcome.{profile}
 use Rattle.gob_filled.specs.Stream.{FilledItem, FilledStream, putting}
@@ -38,7 +38,7 @@ use Rattle.gob_tool.specs.Ending.{EndsRun, ends_so, flush_fails}
 use Rattle.gob_tool.specs.Showing.{AppendsPrefix}
 use Rattle.gob_tool.specs.RunningGo.{BeginsGo, EndsWholeGo}
 use Rattle.gob_tool.proofs.EndLaws.{all_kept, prefix_kept}
-use Rattle.gob_tool.proofs.TextLaws.{ended_begins, shown_whole}
+use Rattle.gob_tool.proofs.TextLaws.{ended_begins, shown_whole, waits_next}
 use Rattle.gob_views.specs.Gathering.{registered_names, value_types}
 use Rattle.gob_views.specs.Machine.Gathered.{GathersAll, GathersSo, IsEmpty, IsGathered, ItemGiven, TellsTypes}
 use Rattle.gob_views.specs.Machine.Gathered.{TypeGathered, WaitsWhole, gathered_text}
@@ -65,15 +65,15 @@ pub waits_whole : {T : Table} {r : GoReader} {id : TypeId} {body : List ℕ} {us
     → IsWhole T id limit body → WaitsWhole r id used
 waits_whole {id = id} {body = body} {limit = limit} between next same deep whole =
     let w = subst (λ (T : Table). IsWhole T id limit body) same whole in
-    (w.value, record { between = between; within = next.within; next = whole_item greatest_depth deep next w })
+    (w.value, waits_next go_stepping between next.within (whole_item greatest_depth deep next w))
 
 -- which was passed
 pub gathers_passed : {r r' : GoReader} {read now : Option (List ℕ)} {old new : Gathered} {id : TypeId} {used : ℕ}
     (s : GathersSo r read now old) → WaitsWhole r id used → PassesOne r r' used → TypeGathered id old new
     → GathersSo r' read now new × (taken_of (session_of r) < taken_of (session_of r'))
 gathers_passed {r = r} {read = read} {now = now} {id = id} {used = used} s w p kept =
-    let t = p read now s.given (puts id w.0) s.has w.1.next in
-    let some = counted_some w.1.next in
+    let t = p read now s.given (putting id (filled w.0 no_filling)) s.has w.1.next in
+    let some = w.1.some in
     let size = length-take-le used (waits_in r) w.1.within in (
       record {
         given = s.given ++ putting id (filled w.0 no_filling) ∷ [];

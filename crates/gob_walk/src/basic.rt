@@ -20,7 +20,7 @@ use gob_types::{Basic, Shape};
 /// Tells of the value of the basic type that stands in the body from the place on, and where it ends.
 // basic: number | number number | count bytes
 #[inline(always)]
-pub(crate) fn walk_basic<V: Visitor, const KNOWN: bool>(
+pub fn walk_basic<V: Visitor, const KNOWN: bool>(
     basic: Basic,
     body: &[u8],
     at: usize,
@@ -75,7 +75,7 @@ pub(crate) fn walk_basic<V: Visitor, const KNOWN: bool>(
 
 /// Tells of the opaque value of a type of this shape that stands in the body from the place on, and where it ends.
 // opaque: count bytes
-pub(crate) fn walk_raw<V: Visitor, const KNOWN: bool>(
+pub fn walk_raw<V: Visitor, const KNOWN: bool>(
     shape: &Shape,
     body: &[u8],
     at: usize,

@@ -18,7 +18,8 @@ mod walk;
 mod walk_end;
 mod whole;
 
-pub use number::number_at;
+pub use basic::{walk_basic, walk_raw};
+pub use number::{bytes_at, next_field, number_at};
 pub use visitor::Visitor;
 pub use walk_end::{WalkEnd, closed};
 pub use whole::walk_whole;

@@ -26,7 +26,7 @@ pub fn number_at<const KNOWN: bool>(body: &[u8], at: usize) -> Option<(u64, usiz
 
 /// So many bytes that stand in the body from the place on, and where they end. None says that there are fewer.
 #[inline(always)]
-pub(crate) fn bytes_at(count: u64, body: &[u8], begin: usize) -> Option<(&[u8], usize)>
+pub fn bytes_at(count: u64, body: &[u8], begin: usize) -> Option<(&[u8], usize)>
     requires { begin ≤ length body.now }
     ensures bytes { IfSome result (λ found. found.0.now ≡ take count (drop begin body.now)) }
     ensures end { IfSome result (λ found. found.1 ≡ begin + count) }
@@ -42,7 +42,7 @@ pub(crate) fn bytes_at(count: u64, body: &[u8], begin: usize) -> Option<(&[u8], 
 
 /// The field that is so much above the one before the next, with its number, if there is one.
 #[inline(always)]
-pub(crate) fn next_field(types: &Fields, next: u64, delta: u64) -> Option<(u64, &Field)>
+pub fn next_field(types: &Fields, next: u64, delta: u64) -> Option<(u64, &Field)>
     ensures some { IfSome result (λ found. IsNextField types.now next delta found.0 found.1.now) }
     ensures none { result ≡ None → (f : ℕ) (e : Field) → ¬ IsNextField types.now next delta f e }
     ensures small { IfSome result (λ found. found.0 < 2 ^ 64 - 1) }

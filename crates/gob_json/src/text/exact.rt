@@ -20,9 +20,9 @@ use gob_types::{Field, Fields, Kind, Shape, Shapes, TypeId};
 use gob_walk::{Visitor, WalkEnd, walk_whole};
 
 /// Puts out the exact text of what it is told. It is taken apart in the end, and not dropped.
-pub(crate) struct Exact<'a, O: PartOut> {
+pub struct Exact<'a, O: PartOut> {
     /// Where the text goes.
-    pub(crate) out: &'a mut O,
+    pub out: &'a mut O,
 }
 
 impl<O: PartOut> Visitor for Exact<'_, O> {

@@ -19,7 +19,7 @@ const SHORT: usize = 32;
 
 /// An output that makes short parts of a text in their place. What is put out of a value says of it no more than of any
 /// output that takes text.
-pub(crate) trait PartOut: TextOut {
+pub trait PartOut: TextOut {
     /// Puts out one byte: a bracket or a comma.
     fn put_mark(&mut self, mark: u8) -> Result<(), Self::Fault>
         ensures { Self.puts self.old self.new (mark ∷ []) result };

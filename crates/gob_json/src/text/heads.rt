@@ -17,7 +17,7 @@ const MANY: u64 = 4;
 
 /// What stands before the value of each of a struct's first fields, without the comma.
 #[derive(Drop)]
-pub(crate) struct Heads {
+pub struct Heads {
     heads: [Piece<HEAD>; KEPT],
     count: usize,
     ghost within: { count ≤ 8 },

@@ -14,11 +14,11 @@ use super::plain::copy_plain;
 pub(crate) const WAITING: usize = 256;
 
 /// How many bytes of what stands before a field are kept at the most.
-pub(crate) const HEAD: usize = 32;
+pub const HEAD: usize = 32;
 
 /// Text of at most so many bytes.
 #[derive(Clone, Copy)]
-pub(crate) struct Piece<const N: usize> {
+pub struct Piece<const N: usize> {
     bytes: [u8; N],
     len: usize,
     ghost within: { len ≤ N },
@@ -26,7 +26,7 @@ pub(crate) struct Piece<const N: usize> {
 
 /// There is no room for a text.
 #[derive(Clone, Copy)]
-pub(crate) struct Full;
+pub struct Full;
 
 impl<const N: usize> Piece<N> {
     ghost use Rattle.gob_json.specs.Machine.Piece.{piece_text};

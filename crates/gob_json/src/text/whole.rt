@@ -156,8 +156,9 @@ fn put_end<O: PartOut>(out: &mut O) -> Result<(), O::Fault>
     out.put_mark(b'\n')
 }
 
-// Puts out what stands before the value.
-fn put_head<O: TextOut>(id: TypeId, out: &mut O) -> Result<(), O::Fault>
+/// Puts out what stands before the value in the line of an item of this type.
+// head: {"type":ID,"value":
+pub fn put_head<O: TextOut>(id: TypeId, out: &mut O) -> Result<(), O::Fault>
     ensures { O.puts out.old out.new (head_text id) result }
 {
     out.put(b"{\"type\":")?;

@@ -21,7 +21,7 @@ use Rattle.gob_stream.specs.Honest.{OfRefusal}
 use Rattle.gob_stream.specs.Outcome.{BeginsWithStream, EndsSo, the_end, at_the_end, strict}
 use Rattle.gob_stream.specs.Reading.{HasTypesBehind, ShowsRefusal}
 use Rattle.gob_stream.specs.Stepping.{AdvancesBy, FinishAnswersBy, GivesAllBy, GivesNoMoreBy, HasItemNextBy}
-use Rattle.gob_stream.specs.Stepping.{ReadsItemsBy, ReadsOnBy, StandsBy}
+use Rattle.gob_stream.specs.Stepping.{in_format, in_grammar, IsNextBy, IsToldNextBy, ReadsItemsBy, ReadsOnBy, StandsBy}
 use Rattle.gob_stream.specs.Stepping.{StepAnswersBy, GivesItemsOf, gives_none, gives_one}
 use Rattle.gob_stream.specs.Stream.{Stream}
 use Rattle.gob_stream.specs.StrictStepping.{strict_stepping}
@@ -216,13 +216,18 @@ module _ {X O : Type 0} {most : ℕ} (building : Building X O most) where
   finishes s s' items bytes (Err fault.Failed) same a f = f
 
   -- past one item
+  told_next : {s : SessionState X O} {i : StreamItem} {z : List ℕ} → IsToldNextBy (strict_stepping building) s i z
+      → IsNextBy (strict_stepping building) s i z
+  told_next (in_format p) = p
+  told_next (in_grammar p) = p
+
   pub item_next : (s : SessionState X O) {z : List ℕ} → HasItemNextBy (strict_stepping building) s z
       → HasItemNext building s (length z)
-  item_next s {z = z} i = record { item = i.0; bytes = z; counted = i.1; size = refl }
+  item_next s {z = z} i = record { item = i.0; bytes = z; counted = told_next i.1; size = refl }
 
   pub passes_on : {s s' : SessionState X O} {z : List ℕ} → ReadsOn building s s' (length z)
       → ReadsOnBy (strict_stepping building) s s' z
-  passes_on {z = z} on = λ items bytes i h there. on items bytes i z h there refl
+  passes_on {z = z} on = λ items bytes i h there. on items bytes i z h (told_next there) refl
 
   -- past items of values that stand whole
   pub passes : {s s' : SessionState X O} {count used : ℕ} {piece : List ℕ}

@@ -8,9 +8,8 @@ use Rattle.gob_types.specs.declared.id.TypeId.{TypeId}
 use Rattle.gob_stream.specs.Bounds.{Bounds}
 use Rattle.gob_stream.specs.Calls.Waiting.{Grows, HasRoom, room_for, waiting}
 use Rattle.gob_stream.specs.Grammar.{Grammar, StreamIn, GivesIn, RefusesIn}
-use Rattle.gob_stream.specs.Item.{StreamItem}
 use Rattle.gob_stream.specs.Reading.{SomeTaken}
-use Rattle.gob_stream.specs.Stepping.{GivesItemsOf, GivesNoMoreBy, HasBegunNextBy, IsNextBy, Stepping}
+use Rattle.gob_stream.specs.Stepping.{GivesItemsOf, GivesNoMoreBy, HasBegunNextBy, IsToldNextBy, Stepping}
 use Rattle.gob_stream.specs.declared.fault.Fault.{Fault}
 use Rattle.gob_stream.specs.declared.fault.Fault.TheVariants as fault
 use Rattle.gob_stream.specs.declared.reader_of.Ahead.{Ahead}
@@ -135,9 +134,9 @@ pub record PassesBy {X I Told : Type 0} (d : Stepping X I Told) (r r' : ReaderOf
 
 -- past the one whose bytes are these
 abbrev pub PassesOneBy : {X I Told : Type 0} → Stepping X I Told → (r r' : ReaderOf X I) → (used : ℕ) → Type 0
-PassesOneBy {Told = Told} d r r' used = (read now : Option (List ℕ)) (items : List Told) (i : StreamItem)
-    → HasReadBy d r read now items → IsNextBy d (session_of r) i (take used (waits_in r))
-    → TakesBy d r r' read now items (d.told i ∷ []) used
+PassesOneBy {Told = Told} d r r' used = (read now : Option (List ℕ)) (items : List Told) (i : Told)
+    → HasReadBy d r read now items → IsToldNextBy d (session_of r) i (take used (waits_in r))
+    → TakesBy d r r' read now items (i ∷ []) used
 
 -- ---- reading once
 -- no bytes wait, or the first ones of an item of a value, which give no item more, and the input may go on

@@ -1,11 +1,8 @@
 -- Each item of a stream shows something, so it has lines.
-use Rattle.std.proofs.Common.{◌≡◌, ◌∙◌, ℕ, List, [], ◌∷◌, ◌++◌, Option, Result, min, subst, sym}
+use Rattle.std.proofs.Common.{◌≡◌, ℕ, List, [], ◌∷◌, ◌++◌, Option, Result}
 use Rattle.gob_types.specs.Base.{base_table}
 use Rattle.gob_types.specs.Table.{Table}
-use Rattle.gob_stream.specs.Bounds.{Bounds, greatest_depth}
-use Rattle.gob_go.specs.Calls.Reader.{GoReader, session_of}
-use Rattle.gob_go.specs.Calls.Session.{limits_of}
-use Rattle.gob_go.specs.GoStepping.{go_stepping}
+use Rattle.gob_stream.specs.Bounds.{Bounds}
 use Rattle.gob_filled.specs.Outcome.{profile}
 use Rattle.gob_filled.specs.Stream.{FilledItem, defining, putting, FilledStream}
 use Rattle.gob_json_writer.proofs.ShownLaws.{stream_shown}
@@ -13,10 +10,7 @@ use Rattle.gob_tool.specs.declared.fault.ToolFault.{ToolFault}
 use Rattle.gob_tool.proofs.TextLaws.{texts_are}
 use Rattle.gob_tool.specs.LineGo.{IsLinesOf}
 use Rattle.gob_tool.specs.Machine.LinesGo.{ShowsInLines}
-use Rattle.gob_tool.specs.Texts.{IsLineAhead}
-use Rattle.gob_tool.specs.TextsGo.{IsWholeText, TextsAnswers}
-use Rattle.gob_tool.proofs.Profile.LineLaws.{line_unfilled}
-use Rattle.gob_tool.proofs.Profile.TextLaws.{whole_text}
+use Rattle.gob_tool.specs.TextsGo.{TextsAnswers}
 
 item_lines : {L : Bounds} {T : Table} {bytes : List ℕ} (text : List ℕ) (items : List FilledItem) (i : FilledItem)
     → FilledStream base_table L (items ++ i ∷ []) bytes T → ShowsInLines T i text → IsLinesOf T i text
@@ -30,14 +24,3 @@ pub shown_in_lines : (L : Bounds) (bytes : List ℕ) (now old new : Option (List
 shown_in_lines L bytes now old new r h =
     texts_are profile IsLinesOf ShowsInLines (λ L bytes text items i b l. item_lines text items i b.stream l) L bytes
     now old new r h
-
--- the line of a value in which nothing is held is that which it has in the format
-pub line_ahead : {r : GoReader} {used depth : ℕ} {text : List ℕ}
-    → depth ≡ min (limits_of (session_of r)).depth greatest_depth → IsLineAhead go_stepping depth r used text
-    → IsWholeText ShowsInLines r used text
-line_ahead {r = r} {used = used} {text = text} deep l =
-    by (subst (λ depth. IsLineAhead go_stepping depth r used text) deep l)
-  where
-    by : IsLineAhead go_stepping (min (limits_of (session_of r)).depth greatest_depth) r used text
-        → IsWholeText ShowsInLines r used text
-    by l = whole_text ShowsInLines l.between l.next l.whole (λ v N shows. l.text_is ∙ sym (line_unfilled shows))

@@ -13,8 +13,9 @@ use Rattle.gob_stream.specs.Calls.Session.{HasBodyNext, IsBetweenItems, types_of
 use Rattle.gob_stream.specs.Item.{StreamItem, item_view, puts}
 use Rattle.gob_stream.specs.StrictStepping.{strict_stepping}
 use Rattle.gob_stream.specs.declared.item.Item as declared
+use Rattle.gob_filled.specs.Filled.{Filled}
 use Rattle.gob_tool.specs.Line.{line}
-use Rattle.gob_tool.specs.Texts.{IsTextBy}
+use Rattle.gob_tool.specs.Texts.{IsTextBy, of_format}
 
 -- the reader of trees
 abbrev pub Trees : Type 0
@@ -36,8 +37,8 @@ line_given T (Some given) = line T (item_view given)
 abbrev pub is_line_of_item : Table → declared.Item Value → List ℕ → Type 0
 is_line_of_item T given text = text ≡ line T (item_view given)
 
-abbrev pub is_line_of_value : Table → TypeId → Tree → List ℕ → Type 0
-is_line_of_value T id v text = text ≡ line T (puts id v)
+abbrev pub is_line_of_value : Table → TypeId → Filled → List ℕ → Type 0
+is_line_of_value = of_format (λ T i text. text ≡ line T i)
 
 -- the text of an item, as a run makes it
 abbrev pub IsLine : Table → StreamItem → List ℕ → Type 0

@@ -19,7 +19,8 @@ use Rattle.gob_stream.specs.Item.{StreamItem, item_view, puts}
 use Rattle.gob_stream.specs.StrictStepping.{strict_stepping}
 use Rattle.gob_stream.specs.declared.item.Item as declared
 use Rattle.gob_stream.specs.declared.item.Item.TheVariants as variant
-use Rattle.gob_tool.specs.Texts.{AnswersOrStops, IsStopBy, IsTextBy}
+use Rattle.gob_filled.specs.Filled.{Filled}
+use Rattle.gob_tool.specs.Texts.{AnswersOrStops, IsStopBy, IsTextBy, of_format}
 use Rattle.gob_tool.specs.Machine.Received.{AreReceivedIn}
 use Rattle.gob_tool.specs.declared.received_form.ReceivedForm.{ReceivedForm}
 use Rattle.gob_stream.specs.Bounds.{Bounds}
@@ -53,8 +54,8 @@ pub record KeepsMatch (U : Table) (u : TypeId) (kept : LastMatch) (T : Table) : 
 abbrev pub is_received_of_item : ReceivedForm → (U : Table) → TypeId → Table → declared.Item Value → List ℕ → Type 0
 is_received_of_item how U u T given text = AreReceivedIn how T U u (item_view given ∷ []) text
 
-abbrev pub is_received_of_value : ReceivedForm → (U : Table) → TypeId → Table → TypeId → Tree → List ℕ → Type 0
-is_received_of_value how U u T id v text = AreReceivedIn how T U u (puts id v ∷ []) text
+abbrev pub is_received_of_value : ReceivedForm → (U : Table) → TypeId → Table → TypeId → Filled → List ℕ → Type 0
+is_received_of_value how U u = of_format (λ T i text. AreReceivedIn how T U u (i ∷ []) text)
 
 -- or it is a value of a type that clashes with u
 pub data Clashes (U : Table) (u : TypeId) (T : Table) : declared.Item Value → ToolFault → Type 0 where

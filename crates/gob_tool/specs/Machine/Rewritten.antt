@@ -18,9 +18,10 @@ use Rattle.gob_stream.specs.Stream.{IsItem, Stream}
 use Rattle.gob_stream.specs.StrictStepping.{strict_stepping}
 use Rattle.gob_tape.specs.Calls.Builder.{tape_building}
 use Rattle.gob_tape.specs.declared.tape.Tape.{Tape}
+use Rattle.gob_filled.specs.Filled.{Filled}
 use Rattle.gob_tool.specs.Rewriting.{content, content_type, with_content}
 use Rattle.gob_tool.specs.Sending.{Sends}
-use Rattle.gob_tool.specs.Texts.{IsTextBy}
+use Rattle.gob_tool.specs.Texts.{IsTextBy, of_format}
 
 -- ---- an item, wherever it stands
 -- what stands before the content of an item: the count of the bytes of its body, and its type number
@@ -66,8 +67,8 @@ abbrev pub is_tidy_of_item : Table → declared.Item Tape → List ℕ → Type 
 is_tidy_of_item T given text = (i : StreamItem) → ItemMeans tape_building.means given i → IsLastOfStream T i
     → IsTidyItem T i text
 
-abbrev pub is_tidy_of_value : Table → TypeId → Tree → List ℕ → Type 0
-is_tidy_of_value T id v text = IsTidyItem T (puts id v) text
+abbrev pub is_tidy_of_value : Table → TypeId → Filled → List ℕ → Type 0
+is_tidy_of_value = of_format IsTidyItem
 
 -- the text of an item, as the run makes it
 abbrev pub IsTidied : Table → StreamItem → List ℕ → Type 0

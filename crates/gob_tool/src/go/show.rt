@@ -11,8 +11,8 @@ ghost use Rattle.gob_tool.specs.TextsGo.{of_given, of_value};
 use crate::fault::ToolFault;
 use crate::go::item_lines::push_lines;
 use crate::go::whole_form::whole_depth;
-use crate::item_line::push_whole_line;
 use crate::texts::{ItemTexts, run_texts};
+use gob_filled_walk::line_of_filled;
 use gob_go::{GoItem, GoReader, GoSession};
 use gob_num::Memory;
 use gob_stream::{Input, Limits, Output};
@@ -65,10 +65,17 @@ impl ItemTexts<GoSession> for Lines {
 
     fn push_whole(
         &self,
-        alloc: Global,
+        _alloc: Global,
         reader: &GoReader,
         text: &mut Vec<u8>,
     ) -> Result<Option<usize>, Memory> {
-        push_whole_line(alloc, reader, whole_depth(reader), usize::MAX, text)
+        let Some(item) = reader.whole() else {
+            return Ok(None);
+        };
+        let depth = whole_depth(reader);
+        if !line_of_filled(reader.table(), item.id, item.body, depth, text)? {
+            return Ok(None);
+        }
+        Ok(Some(item.used))
     }
 }

@@ -6,6 +6,8 @@ use Rattle.gob_value.specs.Tree.{Tree}
 use Rattle.gob_stream.specs.Bounds.{Bounds, within_trees}
 use Rattle.gob_tool.specs.RunningGo.{EndsWholeGo, IsRefusedGo}
 use Rattle.gob_tool.specs.Texts.{IsNextWhole}
+use Rattle.gob_filled.specs.Filled.{filled, no_filling}
+use Rattle.gob_filled.specs.Stream.{putting}
 use Rattle.gob_go.specs.GoStepping.{go_stepping}
 use Rattle.gob_stream.specs.Reading.{SomeTaken}
 use Rattle.gob_stream.specs.declared.fault.Fault.{Fault}
@@ -50,7 +52,7 @@ ItemGiven (Some given) old new = ItemGathered given old new
 
 -- the first bytes that wait are an item of a value of the type, in which no interface holds another
 abbrev pub WaitsWhole : GoReader → TypeId → (used : ℕ) → Type 0
-WaitsWhole r id used = (v : Tree) × IsNextWhole go_stepping r id v used
+WaitsWhole r id used = (v : Tree) × IsNextWhole go_stepping r (putting id (filled v no_filling)) used
 
 -- what was gathered is what these items say
 pub record IsGathered (g : Gathered) (items : List FilledItem) : Type 0 where

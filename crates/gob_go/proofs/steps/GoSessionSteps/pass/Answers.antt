@@ -1,7 +1,22 @@
+-- The item is one of those that are gone past.
+use Rattle.std.proofs.Common.{◌∷◌, [], arith}
+use Rattle.gob_num.proofs.PublicLaws.{bytes_each}
+use Rattle.gob_go.proofs.ValuesSteps.{told_item}
 use Rattle.gob_go.proofs.SessionAnswers.{stands}
 use Rattle.std.proofs.Common.{true}
 use Rattle.gob_go.specs.Meaning.{ItemMeans}
 use Rattle.gob_go.proofs.steps.GoSessionSteps.pass.Goals as goal
 
+pub go_past-requires-clause-items : goal.go_past-requires-clause-items
+go_past-requires-clause-items c =
+    let bytes = bytes_each c.args.item.now (λ i. omega (arith, c.type_inv.item i)) in
+    (c.requires.item.0 ∷ [], told_item true (λ T g i. ItemMeans T g i) bytes c.requires.item.1)
+
+pub returns-clause-passed : goal.returns-clause-passed
+returns-clause-passed c =
+    let bytes = bytes_each c.args.item.now (λ i. omega (arith, c.type_inv.item i)) in
+    λ items z i a there. c.go_past.ensures.passed true items z (i ∷ []) a
+    (told_item true (λ T g i. ItemMeans T g i) bytes there)
+
 pub returns-clause-stands : goal.returns-clause-stands
-returns-clause-stands c = stands true (λ T g i. ItemMeans T g i) c.pass.new.self
+returns-clause-stands c = stands true (λ T g i. ItemMeans T g i) c.go_past.new.self

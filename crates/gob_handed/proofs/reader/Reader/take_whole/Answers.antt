@@ -1,10 +1,17 @@
 -- What stood whole is kept.
 use Rattle.std.proofs.Common.{rules, ◌≡◌, ◌≤◌, ◌++◌, ◌∷◌, [], List, ap, drop, length, refl, ◌∙◌}
 use Rattle.std.proofs.lemmas.List.{drop-append-le}
+use Rattle.gob_stream.specs.Stepping.{in_format}
 use Rattle.gob_handed.specs.Unfolded.{handout}
 use Rattle.gob_handed.specs.declared.handout.Handout.{Handout}
 use Rattle.gob_handed.proofs.ReadingLaws.{takes_whole}
 use Rattle.gob_handed.proofs.reader.Reader.take_whole.Goals as goal
+
+pub pass-requires-clause-item : goal.pass-requires-clause-item
+pass-requires-clause-item g c = (
+  g.S.Steps.stepping.told c.in_ok-id.ensures.handed.item,
+  in_format c.in_ok-id.ensures.handed.next,
+)
 
 pub returns-clause-taken : goal.returns-clause-taken
 returns-clause-taken g c = λ items bytes h.

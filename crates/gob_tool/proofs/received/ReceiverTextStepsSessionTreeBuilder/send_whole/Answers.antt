@@ -1,5 +1,7 @@
 -- What is received of the value that waits is made, and its text is sent.
 use Rattle.std.proofs.Common.{arith, subst, sym}
+use Rattle.gob_stream.specs.Item.{puts}
+use Rattle.gob_tool.specs.Texts.{of_unfilled}
 use Rattle.gob_types.specs.Defined.{Defined, types}
 use Rattle.gob_types.specs.Ready.{IsReady}
 use Rattle.gob_match.specs.Matching.{Match}
@@ -40,11 +42,10 @@ returns-clause-sent g c =
     let sent = c.in_ok-sent.ensures (record { value = v.made; spelled = v.made_spelled; within = v.made_within }) in (
       sent.0,
       record {
-        id = item.id;
-        value = v.value;
+        told = puts item.id v.value;
         item = next_whole (omega (arith, c.line_depth-depth.ensures)) w.between w.next
             (record { value = v.value; spelled = v.spelled; within = v.within });
-        is = value_received item.id v.value v.made m v.receives sent.1;
+        is = of_unfilled (value_received item.id v.value v.made m v.receives sent.1);
       },
       sent.2,
       sent.3,

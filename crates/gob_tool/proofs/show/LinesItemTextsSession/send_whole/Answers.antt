@@ -8,6 +8,7 @@ use Rattle.gob_stream.specs.Calls.Session.{types_of}
 use Rattle.gob_stream.specs.Item.{puts}
 use Rattle.gob_tool.specs.Line.{line}
 use Rattle.gob_tool.specs.Sending.{Sends}
+use Rattle.gob_tool.specs.Texts.{of_unfilled}
 use Rattle.gob_tool.proofs.ShowLaws.{next_whole}
 use Rattle.gob_tool.proofs.show.LinesItemTextsSession.send_whole.Goals as goal
 
@@ -23,10 +24,9 @@ returns g c =
     c.table.ensures c.send_item-sent.ensures.sent) w.whole in (
       line (types_of (session_of c.args.reader.now)) (puts item.id w.whole.value),
       record {
-        id = item.id;
-        value = w.whole.value;
+        told = puts item.id w.whole.value;
         item = next_whole (omega (arith, c.line_depth-depth.ensures)) w.between w.next w.whole;
-        is = refl;
+        is = of_unfilled refl;
       },
       sent,
       c.send_item-sent.ensures.counted,

@@ -1,0 +1,4 @@
+pub mod WalkLaws
+pub mod ShiftLaws
+pub mod ShownLaws
+pub mod LineLaws

@@ -1,0 +1,4 @@
+pub mod HeldEvent
+pub mod Reads
+pub mod HeldText
+pub mod FilledLine
