@@ -1,5 +1,6 @@
 //! The files that are joined into one stream.
 
+use crate::opening::open;
 use crate::{Exit, buffered, opened_by_name, settled};
 use gob_go_writer::GoWriter;
 use gob_join::{JoinFault, join_file};
@@ -8,7 +9,6 @@ use gob_tool::{ToolFault, end_run};
 use gob_views::limits_of;
 use gob_words::{View, escaped};
 use std::alloc::{AllocError, Global};
-use std::fs::File;
 use std::io::{Read, Write};
 
 /// Writes the values of the files, in order, as one stream, up to the first file that isn't read to its end.
@@ -51,7 +51,7 @@ fn join_named<W: Write>(
     if name == "-" {
         return take_in(rt.alloc(), view, name, rt.stdin(), joined, output);
     }
-    let file = opened_by_name(rt.alloc(), name, File::open(rt, name))?;
+    let file = opened_by_name(rt.alloc(), name, open(rt, name))?;
     take_in(rt.alloc(), view, name, file, joined, output)
 }
 

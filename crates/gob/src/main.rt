@@ -31,6 +31,7 @@ ghost use Rattle.gob.specs.Exit.{IsQuietIfClosed, IsToldOnce, IsUnopened, seen_a
 
 mod asked;
 mod join;
+mod opening;
 mod part_files;
 mod pipe;
 mod progress;
@@ -42,6 +43,7 @@ mod write;
 
 use crate::asked::{Asked, asked_by};
 use crate::join::join;
+use crate::opening::open;
 use crate::pipe::Pipe;
 use crate::progress::{size_of, watched};
 use crate::split::split;
@@ -234,7 +236,7 @@ fn run_view_on(rt: &HostRuntime, view: &View) -> Result<(), Exit> {
     let ending = match view.input {
         None => show_watched(rt, view, rt.stdin(), None, writer, &mut told),
         Some(path) => {
-            let file = opened_by_name(rt.alloc(), path, File::open(rt, path))?;
+            let file = opened_by_name(rt.alloc(), path, open(rt, path))?;
             let size = size_of(&file);
             show_watched(rt, view, file, size, writer, &mut told)
         }
@@ -316,7 +318,7 @@ fn opened(file: io::Result<File>) -> Result<File, Exit>
     file.map_err(|_| Exit::Run(ToolFault::Read))
 }
 
-// A view's file that isn't opened is told by its name, with the system's reason.
+// A view's file that isn't opened is told by its name, with the reason.
 fn opened_by_name(alloc: Global, path: &str, file: io::Result<File>) -> Result<File, Exit>
     ensures { MatchResult file (λ file. result ≡ Ok file) (λ _. IsErrAnd result IsUnopened) }
 {

@@ -1,5 +1,6 @@
 //! The stream that is split into files.
 
+use crate::opening::open;
 use crate::part_files::PartFiles;
 use crate::way_on::with_way_on;
 use crate::{Exit, opened_by_name, unopened_line};
@@ -9,7 +10,6 @@ use gob_tool::ToolFault;
 use gob_views::limits_of;
 use gob_words::{PartWords, Splitting, View};
 use std::fs;
-use std::fs::File;
 use std::io::Read;
 
 /// Opens the input, makes the directory where there is none, and splits the stream into files there.
@@ -17,7 +17,7 @@ pub(crate) fn split(rt: &HostRuntime, view: &View, splitting: &Splitting) -> Res
     let ending = match view.input {
         None => split_into_files(rt, view, splitting, rt.stdin()),
         Some(path) => {
-            let file = opened_by_name(rt.alloc(), path, File::open(rt, path))?;
+            let file = opened_by_name(rt.alloc(), path, open(rt, path))?;
             split_into_files(rt, view, splitting, file)
         }
     };

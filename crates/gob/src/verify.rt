@@ -1,5 +1,6 @@
 //! The files that are verified.
 
+use crate::opening::open;
 use crate::progress::{size_of, watched};
 use crate::verdict::Verdict;
 use crate::{Exit, unopened_line};
@@ -7,7 +8,6 @@ use gob_stream::Input;
 use gob_tool::ToolFault;
 use gob_views::{limits_of, tell_file};
 use gob_words::View;
-use std::fs::File;
 use std::io;
 use std::io::{ErrorKind, IsTerminal, Read, Write};
 
@@ -28,7 +28,7 @@ fn verify_file(rt: &HostRuntime, view: &View, name: &str) -> Result<Verdict, Exi
     if name == "-" {
         return say(rt, view, name, rt.stdin(), None);
     }
-    match File::open(rt, name) {
+    match open(rt, name) {
         Ok(file) => {
             let size = size_of(&file);
             say(rt, view, name, file, size)

@@ -1,5 +1,6 @@
 //! The stream that lines say.
 
+use crate::opening::open;
 use crate::pipe::Pipe;
 use crate::{Exit, buffered, opened_by_name, settled};
 use gob_stream::{Input, Output};
@@ -8,7 +9,6 @@ use gob_views::limits_of;
 use gob_words::View;
 use gob_write::{LinesFault, run_write};
 use std::alloc::Global;
-use std::fs::File;
 use std::io::{BufWriter, Read, Write};
 
 /// Opens the file of the lines, then writes their stream.
@@ -17,7 +17,7 @@ pub(crate) fn write(rt: &HostRuntime, view: &View) -> Result<(), Exit> {
     match view.input {
         None => write_out(rt.alloc(), view, &mut Input::new(rt.stdin()), writer),
         Some(path) => {
-            let file = opened_by_name(rt.alloc(), path, File::open(rt, path))?;
+            let file = opened_by_name(rt.alloc(), path, open(rt, path))?;
             write_out(rt.alloc(), view, &mut Input::new(file), writer)
         }
     }
