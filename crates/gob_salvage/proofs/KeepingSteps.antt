@@ -1,7 +1,8 @@
 -- What is kept, item by item, and what is left out.
 use Rattle.std.proofs.Common.{◌≡◌, ℕ, ◌+◌, ◌-◌, ◌<◌, ◌≤◌, List, [], ◌∷◌, ◌++◌, length, take, drop}
 use Rattle.std.proofs.Common.{arith, refl, sym, ap, ◌∙◌, subst, append_assoc, length-append, length-drop}
-use Rattle.std.proofs.Common.{drop_of_length-le, Option, IfSome}
+use Rattle.std.proofs.Common.{drop_of_length-le, Option, None, Some, IfSome, Bool, true, false, ◌⊎◌, inl, inr}
+use Rattle.std.specs.Prelude.{is_some}
 use Rattle.std.specs.List.{AllByRecursion}
 use Rattle.std.proofs.lemmas.List.{append-nil, drop-drop, length-take-le, take-append-drop, take_rest}
 use Rattle.gob_types.specs.declared.reason.Reason.TheVariants as reason
@@ -20,13 +21,21 @@ use Rattle.gob_stream.proofs.Reader.FeedingSteps.{rest_of}
 use Rattle.gob_go.proofs.SessionAnswers.{table_between}
 use Rattle.gob_go.proofs.ItemsLaws.{item_ends, item_grown, last_of, one_more, one_reading}
 use Rattle.gob_salvage.specs.declared.gap.Gap.{Gap}
-use Rattle.gob_salvage.specs.Keeping.{EndsTwice, GoesOn, HasKept, HasKeptWith, IsRefusedNext, IsTwice, KeepsMore}
+use Rattle.gob_salvage.specs.Keeping.{BeginsBefore, BreaksIn}
+use Rattle.gob_salvage.specs.Keeping.{EndsTwice, GoesOn, HasKept, HasKeptWith, IsRefusedNext, KeepsMore}
+use Rattle.gob_salvage.specs.Breaks.{BreaksAt, IsTwice}
 use Rattle.gob_salvage.specs.declared.keeping.Keeper.{Keeper}
 use Rattle.gob_stream.specs.declared.values.Passed.{Passed}
 use Rattle.gob_salvage.specs.Salvage.{Salvages, nothing_is_left, keeps, leaves_out, NoItemNext, IsSalvage}
 use Rattle.gob_salvage.specs.Salvage.{IsDefinedAgain, IsRepeated, StandsIn, TellsRepeated}
-use Rattle.gob_salvage.specs.Salvage.{RefusesHere, for_bytes, for_the_end}
+use Rattle.gob_salvage.specs.Salvage.{RefusesHere, for_bytes, for_the_end, IsAlone, of_unknown_type, of_repeated}
+use Rattle.gob_salvage.specs.Salvage.{Resumes, at_the_end, where_they_go_on, at_a_line_feed, behind_its_count}
+use Rattle.gob_salvage.specs.Evidence.{BeginsAnew, GoOn, IsFrame}
+use Rattle.gob_salvage.specs.Searching.{AreNoted, HasSpent, IsNextPlace, IsUnknown, NotesItemOf, NotesItemsOf}
+use Rattle.gob_salvage.specs.Searching as searching
+use Rattle.gob_salvage.specs.declared.search.Search.{Search}
 use Rattle.gob_salvage.specs.Taking.{HasReadAll, NotesItem, OneMore, ReadsOne, RefusesNext, noted, nothing_new}
+use Rattle.gob_salvage.proofs.EvidenceLaws.{frame_moved}
 use Rattle.gob_salvage.proofs.PassingSteps.{between_still, none_passed, passed_items, passed_some}
 use Rattle.gob_salvage.proofs.SalvageLaws.{item_moved, items_moved, same_items}
 use Rattle.gob_salvage.proofs.TakingSteps.{between_stream, new_between}
@@ -91,10 +100,11 @@ repeats {bytes = bytes} {out = out} g e again same ends =
 only_base : {L : Bounds} {b : List ℕ} {T : Table} → FilledStream base_table L [] b T → T ≡ base_table
 only_base no_more = refl
 
-pub keep_start : {s : SessionState} {L : Bounds} {out defs : List ℕ} {gaps : List Gap} (bytes : List ℕ)
-    → HasRead s [] [] → within_trees (limits_of s) ≡ L → out ≡ [] → gaps ≡ [] → length bytes ≤ L.stream → defs ≡ []
-    → HasKept L s bytes 0 0 0 out defs gaps
-keep_start {s = s} {L = L} {out = out} {gaps = gaps} bytes a l none no_gaps small no_defs = record {
+pub keep_start : {s : SessionState} {L : Bounds} {out defs : List ℕ} {gaps : List Gap} {search : Search}
+    (bytes : List ℕ) → HasRead s [] [] → within_trees (limits_of s) ≡ L → out ≡ [] → gaps ≡ [] → length bytes ≤ L.stream
+    → defs ≡ [] → within_trees search.limits ≡ L → AreNoted search.kept_types []
+    → HasKept L s bytes 0 0 0 out defs gaps true search
+keep_start {s = s} {L = L} {out = out} {gaps = gaps} bytes a l none no_gaps small no_defs same known = record {
   items = [];
   own = [];
   read = [];
@@ -114,11 +124,13 @@ keep_start {s = s} {L = L} {out = out} {gaps = gaps} bytes a l none no_gaps smal
   few = omega arith;
   within = omega arith;
   repeated = subst (λ g. AllByRecursion (TellsRepeated bytes out) g) (sym no_gaps) tt;
+  search_limits = same;
+  noted = known;
   on = λ T more rest others h.
-      subst (λ (o : List ℕ). Salvages L base_table 0 0 bytes more (o ++ rest) (gaps ++ others) T) (sym none)
-      (subst (λ (g : List Gap). Salvages L base_table 0 0 bytes more rest (g ++ others) T) (sym no_gaps)
-      (subst (λ (n : ℕ). Salvages L base_table n 0 bytes more rest others T) (ap length none)
-      (subst (λ (U : Table). Salvages L U (length out) 0 bytes more rest others T)
+      subst (λ (o : List ℕ). Salvages L base_table [] true 0 0 bytes more (o ++ rest) (gaps ++ others) T) (sym none)
+      (subst (λ (g : List Gap). Salvages L base_table [] true 0 0 bytes more rest (g ++ others) T) (sym no_gaps)
+      (subst (λ (n : ℕ). Salvages L base_table [] true n 0 bytes more rest others T) (ap length none)
+      (subst (λ (U : Table). Salvages L U [] true (length out) 0 bytes more rest others T)
       (sym (table_between a (new_between a)) ∙ only_base a.stream) h)));
 }
 
@@ -180,14 +192,16 @@ notes_few (nothing_new e same) l = omega (arith, ap length same)
 notes_few {old = old} {z = z} (noted e) l = omega (arith, ap length e, length-append old z)
 
 pub keep_on : {s s' : SessionState} {L : Bounds} {at ahead count used before after : ℕ}
-    {out out' defs defs' : List ℕ} {gaps : List Gap} (bytes : List ℕ) → HasKept L s bytes at ahead count out defs gaps
+    {out out' defs defs' : List ℕ} {gaps : List Gap} {in_step : Bool} {search search' : Search} (bytes : List ℕ)
+    → HasKept L s bytes at ahead count out defs gaps in_step search
     → ReadsOne s s' (take used (rest_of bytes at)) → IsBetweenItems s' → limits_of s' ≡ limits_of s → 0 < used
     → used ≤ length (rest_of bytes at) → out' ≡ out ++ take used (rest_of bytes at) → IsTable (types_of s)
     → before ≡ definition_count (types_of s) → after ≡ definition_count (types_of s')
-    → NotesItem before after defs defs' (take used (rest_of bytes at))
-    → HasKept L s' bytes (at + used) ahead (count + 1) out' defs' gaps
+    → NotesItem before after defs defs' (take used (rest_of bytes at)) → search'.limits ≡ search.limits
+    → NotesItemOf (take used (rest_of bytes at)) search.kept_types search'.kept_types
+    → HasKept L s' bytes (at + used) ahead (count + 1) out' defs' gaps true search'
 keep_on {s = s} {s' = s'} {L = L} {at = at} {count = count} {used = used} {out = out} {out' = out'} {defs = defs}
-    {gaps = gaps} bytes h f between limits some few is table p q notes =
+    {gaps = gaps} {in_step = in_step} bytes h f between limits some few is table p q notes same known =
     let b = take used (rest_of bytes at) in
     let m = f h.own h.read h.has in
     let w = h.within in let n = h.few in let k = h.counted in let r = h.few_read in let o = h.few_out in
@@ -224,13 +238,18 @@ keep_on {s = s} {s' = s'} {L = L} {at = at} {count = count} {used = used} {out =
       within = here;
       repeated = subst (λ o. AllByRecursion (TellsRepeated bytes o) gaps) (sym is)
           (still_told bytes out b gaps h.repeated);
+      search_limits = ap (λ M. within_trees M) same ∙ h.search_limits;
+      noted = known L (types_of s) (types_of s') (length out) m.item there h.items h.noted;
       on = λ T more rest others S.
-          subst (λ (i : List FilledItem). Salvages L base_table 0 0 bytes i (out' ++ rest) (gaps ++ others) T)
+          subst (λ (i : List FilledItem). Salvages L base_table [] true 0 0 bytes i (out' ++ rest) (gaps ++ others) T)
           (sym (append_assoc h.items (m.item ∷ []) more))
-          (subst (λ (o : List ℕ). Salvages L base_table 0 0 bytes (h.items ++ m.item ∷ more) o (gaps ++ others) T)
+          (subst (λ (o : List ℕ). Salvages L base_table [] true 0 0 bytes (h.items ++ m.item ∷ more) o (gaps ++ others)
+          T)
           (sym (ap (λ (o : List ℕ). o ++ rest) is ∙ append_assoc out b rest))
           (h.on T (m.item ∷ more) (b ++ rest) others
-          (subst (λ (z : List ℕ). Salvages L (types_of s) (length out) at z (m.item ∷ more) (b ++ rest) others T) all
+          (subst (λ (z : List ℕ). Salvages L (types_of s) h.items in_step (length out) at z (m.item ∷ more)
+          (b ++ rest) others
+          T) all
           (keeps there long (omega arith) S))));
     }
 
@@ -277,13 +296,18 @@ refused_here {L = L} {T = T} {out = out} z R s (within_an_item {f = f} {T = U} y
     the_refusal e = cc
 
 pub leave_on : {s s' : SessionState} {L : Bounds} {at ahead next count : ℕ} {out defs : List ℕ} {gaps : List Gap}
-    {R : Refusal} (bytes : List ℕ) (g : Gap) → HasKept L s bytes at ahead count out defs gaps
+    {R : Refusal} {in_step still : Bool} {search search' : Search} (bytes : List ℕ) (g : Gap)
+    → HasKept L s bytes at ahead count out defs gaps in_step search
     → RefusesNext s (drop at bytes) R → at < next → next ≤ length bytes → HasReadAll s' defs
     → within_trees (limits_of s') ≡ L → g.begin ≡ at → g.end ≡ next → g.reason ≡ R.reason
-    → g.place ≡ counts_up R.place ahead → TellsRepeated bytes out g
-    → HasKept L s' bytes next (next - length defs) count out defs (gaps ++ g ∷ [])
+    → g.place ≡ counts_up R.place ahead → TellsRepeated bytes out g → HasSpent search search'
+    → ((items : List FilledItem) → AreNoted search.kept_types items → Resumes L (types_of s') items in_step
+    (take (next - at) (drop at bytes)) (drop next bytes) g still)
+    → HasKept L s' bytes next (next - length defs) count out defs (gaps ++ g ∷ []) still search'
 leave_on {s = s} {s' = s'} {L = L} {at = at} {ahead = ahead} {next = next} {count = count} {out = out} {defs = defs}
-    {gaps = gaps} {R = R} bytes g h f some within r limits begins ends why place told =
+    {gaps = gaps} {R = R} {in_step = in_step} {still = still} {search = search} {search' = search'} bytes g h f some
+    within
+    r limits begins ends why place told spent resumes =
     let d = take (next - at) (drop at bytes) in
     let n = h.few in let k = h.counted in let w = h.within in let o = h.few_out in let q = h.few_read in
     let fd = h.few_defs in
@@ -323,11 +347,14 @@ leave_on {s = s} {s' = s'} {L = L} {at = at} {ahead = ahead} {next = next} {coun
       few = omega arith;
       within = within;
       repeated = told_too bytes out gaps h.repeated told;
+      search_limits = ap (λ M. within_trees M) spent.limits ∙ h.search_limits;
+      noted = subst (λ k. AreNoted k h.items) (sym spent.types) h.noted;
       on = λ T more rest others S.
-          subst (λ (g : List Gap). Salvages L base_table 0 0 bytes (h.items ++ more) (out ++ rest) g T)
+          subst (λ (g : List Gap). Salvages L base_table [] true 0 0 bytes (h.items ++ more) (out ++ rest) g T)
           (sym (append_assoc gaps (g ∷ []) others))
           (h.on T more rest (g ∷ others)
-          (subst (λ (z : List ℕ). Salvages L (types_of s) (length out) at z more rest (g ∷ others) T) all
+          (subst (λ (z : List ℕ). Salvages L (types_of s) h.items in_step (length out) at z more rest
+          (g ∷ others) T) all
           (leaves_out d (omega arith)
           (λ i U b y p. own i U b y (item_moved (length h.read) p (let e = item_ends p in omega arith)))
           (record {
@@ -338,54 +365,88 @@ leave_on {s = s} {s' = s'} {L = L} {at = at} {ahead = ahead} {next = next} {coun
             reason_is = why;
             place_is = place ∙ ap (λ n. counts_up R.place n) moved;
           })
+          (subst (λ (U : Table). Resumes L U h.items in_step d (drop next bytes) g still) table
+          (resumes h.items h.noted))
           begins ends (omega arith)
-          (subst (λ (U : Table). Salvages L U (length out) next (drop next bytes) more rest others T) table S))));
+          (subst (λ (U : Table). Salvages L U h.items still (length out) next
+          (drop next bytes) more rest others T) table
+          S))));
     }
 
 pub keep_end : {s : SessionState} {L : Bounds} {at ahead count : ℕ} {out defs : List ℕ} {gaps : List Gap}
-    (bytes : List ℕ) → HasKept L s bytes at ahead count out defs gaps → length bytes ≤ at → IsSalvage L bytes count out
-    gaps
-keep_end {s = s} {L = L} {at = at} {out = out} {gaps = gaps} bytes h l =
+    {in_step : Bool} {search : Search} (bytes : List ℕ) → HasKept L s bytes at ahead count out defs gaps in_step search
+    → length bytes ≤ at → IsSalvage L bytes count out gaps
+keep_end {s = s} {L = L} {at = at} {out = out} {gaps = gaps} {in_step = in_step} bytes h l =
     record {
       items = h.items;
       table = types_of s;
-      salvages = subst (λ (i : List FilledItem). Salvages L base_table 0 0 bytes i out gaps (types_of s))
+      salvages = subst (λ (i : List FilledItem). Salvages L base_table [] true 0 0 bytes i out gaps (types_of s))
           (append-nil h.items)
-          (subst (λ (o : List ℕ). Salvages L base_table 0 0 bytes (h.items ++ []) o gaps (types_of s)) (append-nil out)
-          (subst (λ (g : List Gap). Salvages L base_table 0 0 bytes (h.items ++ []) (out ++ []) g (types_of s))
+          (subst (λ (o : List ℕ). Salvages L base_table [] true 0 0 bytes (h.items ++ []) o gaps (types_of s))
+          (append-nil out)
+          (subst (λ (g : List Gap). Salvages L base_table [] true 0 0 bytes (h.items ++ []) (out ++ []) g (types_of s))
           (append-nil gaps)
           (h.on (types_of s) [] [] []
-          (subst (λ (z : List ℕ). Salvages L (types_of s) (length out) at z [] [] [] (types_of s))
+          (subst (λ (z : List ℕ). Salvages L (types_of s) h.items in_step (length out) at z [] [] [] (types_of s))
           (sym (drop_of_length-le bytes l)) nothing_is_left))));
       counted = h.counted;
       repeated = h.repeated;
     }
 
 -- ---- values that are passed
-keeps_all : {L : Bounds} {T U V : Table} {kept next offset on : ℕ} {items more : List FilledItem}
-    {b z rest : List ℕ} {gaps : List Gap} → AreFilledItems base_table L T kept items b U → next ≡ kept + length b
-    → on ≡ offset + length b → Salvages L U next on z more rest gaps V
-    → Salvages L T kept offset (b ++ z) (items ++ more) (b ++ rest) gaps V
-keeps_all {L = L} {V = V} {next = next} {offset = offset} {more = more} {z = z} {rest = rest} {gaps = gaps}
-    (no_more {T = T}) k o S =
-    subst (λ n. Salvages L T n offset z more rest gaps V) (omega arith)
-    (subst (λ n. Salvages L T next n z more rest gaps V) (omega arith) S)
-keeps_all {L = L} {T = T} {V = V} {kept = kept} {offset = offset} {more = more} {z = z} {rest = rest} {gaps = gaps}
-    (and_then {i = i} {items = items} {b = b} {c = c} h n is) k o S =
-    subst (λ (l : List ℕ). Salvages L T kept offset l (i ∷ (items ++ more)) ((b ++ c) ++ rest) gaps V)
+keeps_one : {L : Bounds} {T U V : Table} {kept next offset : ℕ} {i : FilledItem} {more : List FilledItem}
+    {b : List ℕ} {gaps : List Gap} {in_step : Bool} (before : List FilledItem) (c z rest : List ℕ)
+    → IsFilledItem base_table L T kept i b U → next ≡ kept + length b
+    → Salvages L U (before ++ i ∷ []) true next (offset + length b) (c ++ z) more (c ++ rest) gaps V
+    → Salvages L T before in_step kept offset ((b ++ c) ++ z) (i ∷ more) ((b ++ c) ++ rest) gaps V
+keeps_one {L = L} {T = T} {V = V} {kept = kept} {offset = offset} {i = i} {more = more} {b = b} {gaps = gaps}
+    {in_step = in_step} before c z rest h n S =
+    subst (λ (l : List ℕ). Salvages L T before in_step kept offset l (i ∷ more) ((b ++ c) ++ rest) gaps V)
     (sym (append_assoc b c z))
-    (subst (λ (l : List ℕ). Salvages L T kept offset (b ++ (c ++ z)) (i ∷ (items ++ more)) l gaps V)
-    (sym (append_assoc b c rest))
-    (keeps {on = offset + length b} h n refl (keeps_all is (omega (arith, length-append b c))
-    (omega (arith, length-append b c)) S)))
+    (subst (λ (l : List ℕ). Salvages L T before in_step kept offset (b ++ (c ++ z)) (i ∷ more) l gaps V)
+    (sym (append_assoc b c rest)) (keeps {on = offset + length b} h n refl S))
+
+keeps_all : {L : Bounds} {T U V : Table} {kept next offset on : ℕ} {items more : List FilledItem}
+    {b z rest : List ℕ} {gaps : List Gap} (before : List FilledItem) → AreFilledItems base_table L T kept items b U
+    → next ≡ kept + length b → on ≡ offset + length b
+    → Salvages L U (before ++ items) true next on z more rest gaps V
+    → Salvages L T before true kept offset (b ++ z) (items ++ more) (b ++ rest) gaps V
+keeps_all {L = L} {V = V} {kept = kept} {next = next} {offset = offset} {on = on} {more = more} {z = z} {rest = rest}
+    {gaps = gaps} before (no_more {T = T}) k o S =
+    let at : on ≡ offset = omega arith in
+    let behind : next ≡ kept = omega arith in
+    subst (λ n. Salvages L T before true kept n z more rest gaps V) at
+    (subst (λ n. Salvages L T before true n on z more rest gaps V) behind
+    (subst (λ (l : List FilledItem). Salvages L T l true next on z more rest gaps V) (append-nil before) S))
+keeps_all {L = L} {U = U} {V = V} {next = next} {on = on} {more = more} {z = z} {rest = rest} {gaps = gaps} before
+    (and_then {i = i} {items = items} {b = b} {c = c} h n is) k o S =
+    keeps_one before c z rest h n (keeps_all (before ++ i ∷ []) is (omega (arith, length-append b c))
+    (omega (arith, length-append b c))
+    (subst (λ (l : List FilledItem). Salvages L U l true next on z more rest gaps V)
+    (sym (append_assoc before (i ∷ []) items)) S))
+
+keeps_some : {L : Bounds} {T U V : Table} {kept next offset on : ℕ} {items more : List FilledItem}
+    {b z rest : List ℕ} {gaps : List Gap} {in_step : Bool} (before : List FilledItem)
+    → AreFilledItems base_table L T kept items b U → next ≡ kept + length b → on ≡ offset + length b
+    → Salvages L U (before ++ items) true next on z more rest gaps V → 0 < length items
+    → Salvages L T before in_step kept offset (b ++ z) (items ++ more) (b ++ rest) gaps V
+keeps_some before no_more k o S some = absurd (omega arith)
+keeps_some {L = L} {U = U} {V = V} {next = next} {on = on} {more = more} {z = z} {rest = rest} {gaps = gaps} before
+    (and_then {i = i} {items = items} {b = b} {c = c} h n is) k o S some =
+    keeps_one before c z rest h n (keeps_all (before ++ i ∷ []) is (omega (arith, length-append b c))
+    (omega (arith, length-append b c))
+    (subst (λ (l : List FilledItem). Salvages L U l true next on z more rest gaps V)
+    (sym (append_assoc before (i ∷ []) items)) S))
 
 pub pass_on : {s s' : SessionState} {L : Bounds} {at ahead count used more : ℕ} {out out' defs : List ℕ}
-    {gaps : List Gap} (bytes : List ℕ) → HasKept L s bytes at ahead count out defs gaps → ReadsItems s s' more used
-    (rest_of bytes at)
+    {gaps : List Gap} {in_step : Bool} {search search' : Search} (bytes : List ℕ)
+    → HasKept L s bytes at ahead count out defs gaps in_step search → ReadsItems s s' more used (rest_of bytes at)
     → IsBetweenItems s' → limits_of s' ≡ limits_of s → table_of s' ≡ table_of s
-    → out' ≡ out ++ take used (rest_of bytes at) → HasKept L s' bytes (at + used) ahead (count + more) out' defs gaps
+    → out' ≡ out ++ take used (rest_of bytes at) → 0 < more → search'.limits ≡ search.limits
+    → NotesItemsOf (take used (rest_of bytes at)) search.kept_types search'.kept_types
+    → HasKept L s' bytes (at + used) ahead (count + more) out' defs gaps true search'
 pass_on {s = s} {s' = s'} {L = L} {at = at} {count = count} {used = used} {out = out} {out' = out'} {defs = defs}
-    {gaps = gaps} bytes h p between limits table is =
+    {gaps = gaps} {in_step = in_step} bytes h p between limits table is any same notes =
     let b = take used (rest_of bytes at) in
     let own = subst (λ (M : Bounds). AreFilledItems base_table M (types_of s) (length h.read) p.given b (types_of s'))
     h.limits (passed_items h.has h.between p between limits) in
@@ -422,18 +483,27 @@ pass_on {s = s} {s' = s'} {L = L} {at = at} {count = count} {used = used} {out =
       within = here;
       repeated = subst (λ o. AllByRecursion (TellsRepeated bytes o) gaps) (sym is)
           (still_told bytes out b gaps h.repeated);
+      search_limits = ap (λ M. within_trees M) same ∙ h.search_limits;
+      noted = notes L (types_of s) (length out) p.given
+          (subst (λ (T : Table). AreFilledItems base_table L (types_of s) (length out) p.given b T)
+          (ap (λ d. types d) table) there) h.items h.noted;
       on = λ T others rest gs S.
-          subst (λ (i : List FilledItem). Salvages L base_table 0 0 bytes i (out' ++ rest) (gaps ++ gs) T)
+          subst (λ (i : List FilledItem). Salvages L base_table [] true 0 0 bytes i (out' ++ rest) (gaps ++ gs) T)
           (sym (append_assoc h.items p.given others))
-          (subst (λ (o : List ℕ). Salvages L base_table 0 0 bytes (h.items ++ (p.given ++ others)) o (gaps ++ gs) T)
+          (subst (λ (o : List ℕ). Salvages L base_table [] true 0 0 bytes (h.items ++ (p.given ++ others)) o
+          (gaps ++ gs)
+          T)
           (sym (ap (λ (o : List ℕ). o ++ rest) is ∙ append_assoc out b rest))
           (h.on T (p.given ++ others) (b ++ rest) gs
-          (subst (λ (z : List ℕ). Salvages L (types_of s) (length out) at z (p.given ++ others) (b ++ rest) gs T) all
-          (keeps_all there long (omega arith) S))));
+          (subst (λ (z : List ℕ). Salvages L (types_of s) h.items in_step (length out) at z (p.given ++ others)
+          (b ++ rest) gs
+          T) all
+          (keeps_some h.items there long (omega arith) S (omega (arith, p.counted))))));
     }
 
 pub pass_few : {s s' : SessionState} {L : Bounds} {at ahead count used more : ℕ} {out defs : List ℕ} {gaps : List Gap}
-    (bytes : List ℕ) → HasKept L s bytes at ahead count out defs gaps → ReadsItems s s' more used (rest_of bytes at)
+    {in_step : Bool} {search : Search} (bytes : List ℕ)
+    → HasKept L s bytes at ahead count out defs gaps in_step search → ReadsItems s s' more used (rest_of bytes at)
     → IsBetweenItems s' → limits_of s' ≡ limits_of s → (more ≤ used) × (at + used ≤ length bytes)
 pass_few {at = at} bytes h p between limits =
     let q = p.within in let w = h.within in (
@@ -443,10 +513,12 @@ pass_few {at = at} bytes h p between limits =
 
 -- no value was passed
 pub still_kept : {s s' : SessionState} {L : Bounds} {at ahead count used more : ℕ} {out defs : List ℕ}
-    {gaps : List Gap} (bytes piece : List ℕ) → HasKept L s bytes at ahead count out defs gaps → ReadsItems s s' more
-    used piece → more ≡ 0
-    → limits_of s' ≡ limits_of s → table_of s' ≡ table_of s → HasKept L s' bytes at ahead count out defs gaps
-still_kept {s = s} {s' = s'} {L = L} {at = at} {out = out} {defs = defs} {gaps = gaps} bytes piece h p e limits table =
+    {gaps : List Gap} {in_step : Bool} {search : Search} (bytes piece : List ℕ)
+    → HasKept L s bytes at ahead count out defs gaps in_step search → ReadsItems s s' more used piece → more ≡ 0
+    → limits_of s' ≡ limits_of s → table_of s' ≡ table_of s
+    → HasKept L s' bytes at ahead count out defs gaps in_step search
+still_kept {s = s} {s' = s'} {L = L} {at = at} {out = out} {defs = defs} {gaps = gaps} {in_step = in_step} bytes piece h
+    p e limits table =
     let b = none_passed piece p e h.has in
     record {
       items = h.items;
@@ -467,68 +539,182 @@ still_kept {s = s} {s' = s'} {L = L} {at = at} {out = out} {defs = defs} {gaps =
       few = h.few;
       within = h.within;
       repeated = h.repeated;
+      search_limits = h.search_limits;
+      noted = h.noted;
       on = λ T more rest others S. h.on T more rest others
-          (subst (λ (U : Table). Salvages L U (length out) at (drop at bytes) more rest others T)
+          (subst (λ (U : Table). Salvages L U h.items in_step (length out) at (drop at bytes) more rest others T)
           (ap (λ d. types d) table) S);
     }
 
 -- ---- what the keeper has
 stands_so : {L : Bounds} {s s' : SessionState} {bytes out defs defs' : List ℕ} {at at' ahead ahead' count count' : ℕ}
-    {gaps gaps' : List Gap} → HasKept L s bytes at ahead count out defs gaps → s' ≡ s → at' ≡ at → ahead' ≡ ahead
-    → count' ≡ count → defs' ≡ defs → gaps' ≡ gaps → HasKept L s' bytes at' ahead' count' out defs' gaps'
+    {gaps gaps' : List Gap} {step step' : Bool} {search search' : Search}
+    → HasKept L s bytes at ahead count out defs gaps step search → s' ≡ s → at' ≡ at → ahead' ≡ ahead → count' ≡ count
+    → defs' ≡ defs → gaps' ≡ gaps → step' ≡ step → search' ≡ search
+    → HasKept L s' bytes at' ahead' count' out defs' gaps' step' search'
 stands_so {L = L} {s = s} {bytes = bytes} {out = out} {defs = defs} {defs' = defs'} {at = at} {at' = at'}
-    {ahead = ahead} {ahead' = ahead'} {count = count} {count' = count'} {gaps' = gaps'} h session place before items
-    defining left =
-    subst (λ s. HasKept L s bytes at' ahead' count' out defs' gaps') (sym session)
-    (subst (λ n. HasKept L s bytes n ahead' count' out defs' gaps') (sym place)
-    (subst (λ n. HasKept L s bytes at n count' out defs' gaps') (sym before)
-    (subst (λ n. HasKept L s bytes at ahead n out defs' gaps') (sym items)
-    (subst (λ (d : List ℕ). HasKept L s bytes at ahead count out d gaps') (sym defining)
-    (subst (λ (g : List Gap). HasKept L s bytes at ahead count out defs g) (sym left) h)))))
+    {ahead = ahead} {ahead' = ahead'} {count = count} {count' = count'} {gaps = gaps} {gaps' = gaps'} {step = step}
+    {step' = step'} {search = search} {search' = search'} h session place before items defining left steps searches =
+    subst (λ s. HasKept L s bytes at' ahead' count' out defs' gaps' step' search') (sym session)
+    (subst (λ n. HasKept L s bytes n ahead' count' out defs' gaps' step' search') (sym place)
+    (subst (λ n. HasKept L s bytes at n count' out defs' gaps' step' search') (sym before)
+    (subst (λ n. HasKept L s bytes at ahead n out defs' gaps' step' search') (sym items)
+    (subst (λ (d : List ℕ). HasKept L s bytes at ahead count out d gaps' step' search') (sym defining)
+    (subst (λ (g : List Gap). HasKept L s bytes at ahead count out defs g step' search') (sym left)
+    (subst (λ b. HasKept L s bytes at ahead count out defs gaps b search') (sym steps)
+    (subst (λ k. HasKept L s bytes at ahead count out defs gaps step k) (sym searches) h)))))))
+
+-- another stream that was found is found still
+breaks_so : (L : Bounds) (j k : Keeper) (bytes : List ℕ) → k.later ≡ j.later → k.kept.gaps ≡ j.kept.gaps
+    → BreaksIn L j bytes → BreaksIn L k bytes
+breaks_so L j k bytes later gaps b =
+    subst (λ (l : Option ℕ). IfSome l (λ n. BreaksAt L n k.kept.gaps.items bytes)) (sym later)
+    (subst (λ (g : List Gap). IfSome j.later (λ n. BreaksAt L n g bytes)) (sym (ap (λ v. v.items) gaps)) b)
+
+-- the end of what is left out alone is the one that is known
+pub known_alone : (alone known : Option ℕ) (next : ℕ) → IfSome alone (λ e. known ≡ Some e)
+    → IfSome known (λ e. next ≡ e) → IfSome alone (λ e. next ≡ e)
+known_alone None known next is same = tt
+known_alone (Some e) known next is same = rw is at same
+
+-- a stream is found behind the items that are kept, and the last gap runs up to the end
+pub breaks_there : (L : Bounds) (alone known clash later : Option ℕ) {at next : ℕ} (gaps gaps' : List Gap)
+    (bytes : List ℕ) (g : Gap) → at < length bytes → IfSome later (λ n. BeginsBefore clash n)
+    → IfSome later (λ n. BeginsAnew L 2 (drop n bytes)) → IfSome clash (λ n. n ≡ at)
+    → IfSome clash (λ _. IsTwice g.reason) → IfSome clash (λ _. alone ≡ None)
+    → IfSome later (λ _. alone ≡ None → known ≡ Some (length bytes)) → IfSome known (λ e. next ≡ e)
+    → gaps' ≡ gaps ++ g ∷ [] → g.begin ≡ at → g.end ≡ next → IfSome later (λ n. BreaksAt L n gaps' bytes)
+breaks_there L alone known clash None gaps gaps' bytes g more b anew here twice none ends same is begins end = tt
+breaks_there L alone known clash (Some n) {at = at} {next = next} gaps gaps' bytes g more b anew here twice none ends
+    same is
+    begins end =
+    let place : b.at ≡ at = rw b.is at here in
+    let last : next ≡ length bytes = rw (ends (rw b.is at none)) at same in
+    record {
+      before = gaps;
+      gap = g;
+      gaps_are = is;
+      twice = rw b.is at twice;
+      to_end = end ∙ last;
+      some = b.some;
+      within = let p = b.before in omega arith;
+      inside = let p = b.before in omega arith;
+      anew = anew;
+    }
+
+-- ---- where items go on
+-- what stands at a place stands at the front of the bytes from there on
+front_frame : {bytes : List ℕ} {at next : ℕ} → IsFrame bytes at next → at < next → next ≤ length bytes
+    → IsFrame (take (next - at) (drop at bytes) ++ drop next bytes) 0 (length (take (next - at) (drop at bytes)))
+front_frame {bytes = bytes} {at = at} {next = next} f more within =
+    let d = take (next - at) (drop at bytes) in
+    let size : length d ≡ next - at = length-take-le (next - at) (drop at bytes) (omega (arith, length-drop at bytes))
+    in
+    let all : d ++ drop next bytes ≡ drop at bytes =
+    ap (λ (l : List ℕ). d ++ l) (sym (drop-drop (next - at) at bytes ∙ ap (λ n. drop n bytes) (omega arith)))
+    ∙ take-append-drop (next - at) (drop at bytes) in
+    subst (λ (z : List ℕ). IsFrame z 0 (length d)) (sym all)
+    (subst (λ n. IsFrame (drop at bytes) 0 n) (sym size) (frame_moved f))
+
+pub found_there : {L : Bounds} {T : Table} {items : List FilledItem} {in_step : Bool} {bytes : List ℕ} {at next : ℕ}
+    {g : Gap} → IsNextPlace L T items bytes at next → at < next → next ≤ length bytes
+    → Resumes L T items in_step (take (next - at) (drop at bytes)) (drop next bytes) g false
+found_there {bytes = bytes} (searching.at_the_end e) more within =
+    at_the_end (drop_of_length-le bytes (omega arith))
+found_there (searching.by_its_count f e) more within = at_a_line_feed (front_frame f more within) e
+found_there (searching.by_evidence e) more within = where_they_go_on e
+
+-- it is so under equal limits and types
+pub next_so : {L M : Bounds} {T U : Table} {items : List FilledItem} {bytes : List ℕ} {at next : ℕ} → M ≡ L → T ≡ U
+    → IsNextPlace M T items bytes at next → IsNextPlace L U items bytes at next
+next_so {L = L} {T = T} {items = items} {bytes = bytes} {at = at} {next = next} e f p =
+    subst (λ (T : Table). IsNextPlace L T items bytes at next) f
+    (subst (λ (M : Bounds). IsNextPlace M T items bytes at next) e p)
+
+alone_so : {g : Gap} → IsUnknown g.reason ⊎ IsTwice g.reason → (IsTwice g.reason → g.is_repeated ≡ true) → IsAlone g
+alone_so (inl u) f = of_unknown_type u.is u.own
+alone_so (inr t) f = of_repeated (f t)
+
+pub resumes_there : {L : Bounds} {T : Table} {in_step : Bool} {bytes : List ℕ} {at next : ℕ} {g : Gap}
+    {items : List FilledItem} (alone known later : Option ℕ) → at < next → next ≤ length bytes
+    → IfSome alone (λ e. known ≡ Some e) → IfSome later (λ _. alone ≡ None → known ≡ Some (length bytes))
+    → (alone ≡ None → later ≡ None → known ≡ None) → IfSome known (λ e. next ≡ e)
+    → (known ≡ None → IsNextPlace L T items bytes at next) → IfSome alone (λ _. in_step ≡ true)
+    → IfSome alone (λ e. IsFrame bytes at e) → IfSome alone (λ _. IsUnknown g.reason ⊎ IsTwice g.reason)
+    → IfSome alone (λ _. IsTwice g.reason → g.is_repeated ≡ true)
+    → Resumes L T items in_step (take (next - at) (drop at bytes)) (drop next bytes) g (is_some alone)
+resumes_there {bytes = bytes} {at = at} {next = next} (Some e) known later more within is ends none same shown
+    step frame why told =
+    let here : next ≡ e = rw is at same in
+    behind_its_count step (front_frame (subst (λ n. IsFrame bytes at n) (sym here) frame) more within)
+    (alone_so why told)
+resumes_there {bytes = bytes} {next = next} None known (Some n) more within is ends none same shown step frame why
+    told =
+    let here : next ≡ length bytes = rw (ends refl) at same in
+    at_the_end (drop_of_length-le bytes (omega arith))
+resumes_there None known None more within is ends none same shown step frame why told =
+    found_there (shown (none refl refl)) more within
 
 -- it goes on from wherever it stood at the same place
-pub goes_from : {L : Bounds} {j k k' : Keeper} {bytes : List ℕ} → j.at ≡ k.at → GoesOn L k k' bytes
-    → GoesOn L j k' bytes
-goes_from same g = record { keeping = g.keeping; further = let f = g.further in omega arith }
+pub goes_from : {L : Bounds} {j k k' : Keeper} {bytes : List ℕ} → j.at ≡ k.at → j.later ≡ k.later
+    → j.kept.gaps ≡ k.kept.gaps → GoesOn L k k' bytes → GoesOn L j k' bytes
+goes_from {L = L} {j = j} {k = k} {bytes = bytes} same later gaps g = record {
+  keeping = g.keeping;
+  further = let f = g.further in omega arith;
+  later = λ b. g.later (breaks_so L j k bytes (sym later) (sym gaps) b);
+}
 
-pub values_kept : {L : Bounds} {s : SessionState} {k k' : Keeper} {passed : Passed} (bytes : List ℕ)
-    → HasKeptWith L s k bytes → ReadsItems s k.session passed.items passed.used (rest_of bytes k.at)
+pub values_kept : {L : Bounds} {s : SessionState} {k k' : Keeper} {passed : Passed} {step : Bool} {search : Search}
+    (bytes : List ℕ) → HasKept L s bytes k.at k.ahead k.kept.items k.kept.bytes.items k.defining.items
+    k.kept.gaps.items step search → ReadsItems s k.session passed.items passed.used (rest_of bytes k.at)
     → IsBetweenItems k.session → limits_of k.session ≡ limits_of s → table_of k.session ≡ table_of s
-    → 0 < passed.items → KeepsMore k k' passed (take passed.used (rest_of bytes k.at)) → GoesOn L k k' bytes
-values_kept bytes h p between limits table some m = record {
-  keeping = stands_so (pass_on bytes h p between limits table m.bytes) m.session m.at m.ahead m.items
-      (ap (λ v. v.items) m.defining) (ap (λ v. v.items) m.gaps);
+    → 0 < passed.items → k.search.limits ≡ search.limits
+    → NotesItemsOf (take passed.used (rest_of bytes k.at)) search.kept_types k.search.kept_types
+    → KeepsMore k k' passed (take passed.used (rest_of bytes k.at)) → GoesOn L k k' bytes
+values_kept {L = L} {k = k} {k' = k'} bytes h p between limits table some same notes m = record {
+  keeping = stands_so (pass_on bytes h p between limits table m.bytes some same notes) m.session m.at m.ahead m.items
+      (ap (λ v. v.items) m.defining) (ap (λ v. v.items) m.gaps) m.in_step m.search;
   further = let few = passed_some h.has h.between p between limits in let place = m.at in omega arith;
+  later = breaks_so L k k' bytes m.later m.gaps;
 }
 
 pub item_kept : {L : Bounds} {s : SessionState} {k k' : Keeper} {passed : Passed} {before after : ℕ} {defs : List ℕ}
-    (bytes : List ℕ) → HasKept L s bytes k.at k.ahead k.kept.items k.kept.bytes.items defs k.kept.gaps.items
+    {step : Bool} {search : Search} (bytes : List ℕ)
+    → HasKept L s bytes k.at k.ahead k.kept.items k.kept.bytes.items defs k.kept.gaps.items step search
     → ReadsOne s k.session (take passed.used (rest_of bytes k.at)) → IsBetweenItems k.session
     → limits_of k.session ≡ limits_of s → 0 < passed.used → passed.used ≤ length (rest_of bytes k.at)
     → passed.items ≡ 1 → IsTable (types_of s) → before ≡ definition_count (types_of s)
     → after ≡ definition_count (types_of k.session)
     → NotesItem before after defs k.defining.items (take passed.used (rest_of bytes k.at))
+    → k.search.limits ≡ search.limits
+    → NotesItemOf (take passed.used (rest_of bytes k.at)) search.kept_types k.search.kept_types
     → KeepsMore k k' passed (take passed.used (rest_of bytes k.at)) → GoesOn L k k' bytes
-item_kept {k = k} bytes h f between limits some few one is p q notes m = record {
-  keeping = stands_so (keep_on bytes h f between limits some few m.bytes is p q notes) m.session m.at m.ahead
-      (m.items ∙ ap (λ n. k.kept.items + n) one) (ap (λ v. v.items) m.defining) (ap (λ v. v.items) m.gaps);
+item_kept {L = L} {k = k} {k' = k'} bytes h f between limits some few one is p q notes same known m = record {
+  keeping = stands_so (keep_on bytes h f between limits some few m.bytes is p q notes same known) m.session m.at m.ahead
+      (m.items ∙ ap (λ n. k.kept.items + n) one) (ap (λ v. v.items) m.defining) (ap (λ v. v.items) m.gaps) m.in_step
+      m.search;
   further = let place = m.at in omega arith;
+  later = breaks_so L k k' bytes m.later m.gaps;
 }
 
-pub gap_left : {L : Bounds} {k k' : Keeper} {next : ℕ} {R : Refusal} (bytes : List ℕ) (g : Gap)
+pub gap_left : {L : Bounds} {k k' : Keeper} {next : ℕ} {R : Refusal} {still : Bool} (bytes : List ℕ) (g : Gap)
     → (h : IsRefusedNext L k bytes R) → k.at < next → next ≤ length bytes
     → HasReadAll k'.session k.defining.items → within_trees (limits_of k'.session) ≡ L
     → k'.kept.gaps.items ≡ k.kept.gaps.items ++ g ∷ [] → g.begin ≡ k.at → g.end ≡ next → g.reason ≡ R.reason
-    → g.place ≡ counts_up R.place k.ahead → TellsRepeated bytes k.kept.bytes.items g → k'.at ≡ next
-    → k'.ahead ≡ next - length k.defining.items
-    → k'.kept.items ≡ k.kept.items → k'.kept.bytes ≡ k.kept.bytes → k'.defining ≡ k.defining → GoesOn L k k' bytes
-gap_left {L = L} {k' = k'} bytes g h some within read limits gaps begins ends why place told at ahead items out
-    defining =
+    → g.place ≡ counts_up R.place k.ahead → TellsRepeated bytes k.kept.bytes.items g → HasSpent k.search k'.search
+    → ((items : List FilledItem) → AreNoted k.search.kept_types items → Resumes L (types_of k'.session) items k.in_step
+    (take (next - k.at) (drop k.at bytes)) (drop next bytes) g still)
+    → k'.in_step ≡ still → k'.at ≡ next → k'.ahead ≡ next - length k.defining.items
+    → k'.kept.items ≡ k.kept.items → k'.kept.bytes ≡ k.kept.bytes → k'.defining ≡ k.defining
+    → BreaksIn L k' bytes → GoesOn L k k' bytes
+gap_left {L = L} {k' = k'} bytes g h some within read limits gaps begins ends why place told spent resumes step at ahead
+    items out defining later =
     record {
       keeping = subst (λ (o : List ℕ). HasKept L k'.session bytes k'.at k'.ahead k'.kept.items o k'.defining.items
-          k'.kept.gaps.items) (sym (ap (λ v. v.items) out))
-          (stands_so (leave_on bytes g h.kept h.refused some within read limits begins ends why place told) refl at
-          ahead
-          items (ap (λ v. v.items) defining) gaps);
+          k'.kept.gaps.items k'.in_step k'.search) (sym (ap (λ v. v.items) out))
+          (stands_so (leave_on bytes g h.kept h.refused some within read limits begins ends why place told spent
+          resumes)
+          refl at ahead items (ap (λ v. v.items) defining) gaps step refl);
       further = omega arith;
+      later = λ _. later;
     }

@@ -2,5 +2,9 @@ pub mod KeepingSteps
 pub mod PassingSteps
 pub mod RunLaws
 pub mod SalvageLaws
+pub mod EvidenceLaws
+pub mod NotingLaws
+pub mod SearchLaws
 pub mod TakingSteps
 pub mod ReportLaws
+pub mod StreamsLaws

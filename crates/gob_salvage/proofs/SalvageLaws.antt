@@ -1,6 +1,6 @@
 -- What is kept is a stream, and of a stream all is.
-use Rattle.std.proofs.Common.{◌≡◌, ℕ, ◌+◌, ◌<◌, ◌≤◌, List, [], ◌++◌, length, arith, refl, sym, ap, ◌∙◌, subst}
-use Rattle.std.proofs.Common.{append_assoc, length-append}
+use Rattle.std.proofs.Common.{◌≡◌, ℕ, ◌+◌, ◌<◌, ◌≤◌, List, [], ◌∷◌, ◌++◌, length, arith, refl, sym, ap, ◌∙◌, subst}
+use Rattle.std.proofs.Common.{append_assoc, length-append, Bool, true}
 use Rattle.gob_num.proofs.PublicLaws.{unsigned_length}
 use Rattle.gob_types.specs.Base.{base_table}
 use Rattle.gob_types.specs.Table.{Table}
@@ -25,15 +25,18 @@ item_some (of_definition {c = c} {d = d} u l s x) = let n = (unsigned_length u).
 item_some (of_value may sg k cs) = counted_some cs
 
 pub kept_stream : {L : Bounds} {T V : Table} {kept offset : ℕ} {bytes out : List ℕ} {items : List FilledItem}
-    {gaps : List Gap} → Salvages L T kept offset bytes items out gaps V → AreFilledItems base_table L T kept items out V
+    {gaps : List Gap} {before : List FilledItem} {in_step : Bool}
+    → Salvages L T before in_step kept offset bytes items out
+    gaps V → AreFilledItems base_table L T kept items out V
 kept_stream nothing_is_left = no_more
 kept_stream (keeps i n o s) = and_then i n (kept_stream s)
-kept_stream (leaves_out d p n w f l o s) = kept_stream s
+kept_stream (leaves_out d p n w r f l o s) = kept_stream s
 
 -- of the front that is a stream all is kept
 pub kept_front : {L : Bounds} {T U V : Table} {kept offset : ℕ} {front bytes out : List ℕ}
-    {items others : List FilledItem} {gaps : List Gap} (z : List ℕ) → AreFilledItems base_table L T kept items front U
-    → Salvages L T kept offset bytes others out gaps V → bytes ≡ front ++ z → KeepsAtLeast items others front out
+    {items others before : List FilledItem} {gaps : List Gap} {in_step : Bool} (z : List ℕ)
+    → AreFilledItems base_table L T kept items front U → Salvages L T before in_step kept offset bytes others out gaps V
+    → bytes ≡ front ++ z → KeepsAtLeast items others front out
 kept_front {out = out} {others = others} z no_more s e = record {
   more = others;
   rest = out;
@@ -43,17 +46,18 @@ kept_front {out = out} {others = others} z no_more s e = record {
 kept_front z (and_then {b = b} {c = c} i k is) nothing_is_left e =
     let some = item_some i in
     absurd (omega (arith, ap length e, length-append (b ++ c) z, length-append b c))
-kept_front z (and_then {U = W} {i = i} {b = b} {c = c} h k is) (leaves_out d p n w f l o s) e =
+kept_front z (and_then {U = W} {i = i} {b = b} {c = c} h k is) (leaves_out d p n w r f l o s) e =
     absurd (n i W b (c ++ z) h (e ∙ append_assoc b c z))
 kept_front {L = L} {kept = kept} z (and_then {U = W} {next = next} {i = i} {items = items} {b = b} {c = c} h k is)
-    (keeps {U = X} {V = V} {next = next'} {on = on} {i = j} {items = others} {b = d} {z = y} {out = out} {gaps = gaps}
+    (keeps {U = X} {V = V} {before = before} {next = next'} {on = on} {i = j} {items = others} {b = d} {z = y}
+    {out = out} {gaps = gaps}
     g n o s) e =
     let grouped : b ++ (c ++ z) ≡ d ++ y = sym (e ∙ append_assoc b c z) in
     let one = one_filled_item (c ++ z) y h g grouped in
     let eb : b ≡ d = one.1 in
     let places : next' ≡ next = n ∙ ap (λ (b : List ℕ). kept + length b) (sym eb) ∙ sym k in
-    let r = kept_front z is (subst (λ T. Salvages L T next on y others out gaps V) (sym one.2)
-    (subst (λ n. Salvages L X n on y others out gaps V) places s))
+    let r = kept_front z is (subst (λ T. Salvages L T (before ++ j ∷ []) true next on y others out gaps V) (sym one.2)
+    (subst (λ n. Salvages L X (before ++ j ∷ []) true n on y others out gaps V) places s))
     (sym (same_end b (c ++ z) y (grouped ∙ ap (λ (b : List ℕ). b ++ y) (sym eb)))) in
     record {
       more = r.more;
@@ -65,24 +69,26 @@ kept_front {L = L} {kept = kept} z (and_then {U = W} {next = next} {i = i} {item
 
 -- of a stream all is
 pub kept_whole : {L : Bounds} {T U V : Table} {kept offset : ℕ} {whole bytes out : List ℕ}
-    {items others : List FilledItem} {gaps : List Gap} → AreFilledItems base_table L T kept items whole U
-    → Salvages L T kept offset bytes others out gaps V → bytes ≡ whole
+    {items others before : List FilledItem} {gaps : List Gap} {in_step : Bool}
+    → AreFilledItems base_table L T kept items whole U → Salvages L T before in_step kept offset bytes others out gaps V
+    → bytes ≡ whole
     → (others ≡ items) × (out ≡ whole) × (gaps ≡ [])
 kept_whole no_more nothing_is_left e = (refl, refl, refl)
 kept_whole no_more (keeps {b = d} {z = y} g n o s) e =
     let some = item_some g in absurd (omega (arith, ap length e, length-append d y))
-kept_whole no_more (leaves_out {z = y} d p n w f l o s) e = absurd (omega (arith, ap length e, length-append d y))
+kept_whole no_more (leaves_out {z = y} d p n w r f l o s) e = absurd (omega (arith, ap length e, length-append d y))
 kept_whole (and_then {b = b} {c = c} h k is) nothing_is_left e =
     let some = item_some h in absurd (omega (arith, ap length e, length-append b c))
-kept_whole (and_then {U = W} {i = i} {b = b} {c = c} h k is) (leaves_out d p n w f l o s) e = absurd (n i W b c h e)
+kept_whole (and_then {U = W} {i = i} {b = b} {c = c} h k is) (leaves_out d p n w r f l o s) e = absurd (n i W b c h e)
 kept_whole {L = L} {kept = kept} (and_then {U = W} {next = next} {i = i} {items = items} {b = b} {c = c} h k is)
-    (keeps {U = X} {V = V} {next = next'} {on = on} {i = j} {items = others} {b = d} {z = y} {out = out} {gaps = gaps}
+    (keeps {U = X} {V = V} {before = before} {next = next'} {on = on} {i = j} {items = others} {b = d} {z = y}
+    {out = out} {gaps = gaps}
     g n o s) e =
     let one = one_filled_item c y h g (sym e) in
     let eb : b ≡ d = one.1 in
     let places : next' ≡ next = n ∙ ap (λ (b : List ℕ). kept + length b) (sym eb) ∙ sym k in
-    let r = kept_whole is (subst (λ T. Salvages L T next on y others out gaps V) (sym one.2)
-    (subst (λ n. Salvages L X n on y others out gaps V) places s))
+    let r = kept_whole is (subst (λ T. Salvages L T (before ++ j ∷ []) true next on y others out gaps V) (sym one.2)
+    (subst (λ n. Salvages L X (before ++ j ∷ []) true n on y others out gaps V) places s))
     (sym (same_end b c y (sym e ∙ ap (λ (b : List ℕ). b ++ y) (sym eb)))) in (
       (let a : i ≡ j = one.0 in let f = r.0 in cc),
       (ap (λ (b : List ℕ). b ++ out) (sym eb) ∙ ap (λ (l : List ℕ). b ++ l) r.1),

@@ -1,6 +1,11 @@
+pub mod Evidence
 pub mod Salvage
+pub mod Searching
+pub mod Breaks
+pub mod Streams
 pub mod Laws
 pub mod Taking
 pub mod Keeping
 pub mod Running
 pub mod Report
+pub mod Joined

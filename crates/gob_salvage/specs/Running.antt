@@ -11,11 +11,11 @@ use Rattle.gob_tool.specs.declared.fault.ToolFault.{ToolFault}
 use Rattle.gob_tool.specs.declared.fault.ToolFault.TheVariants as fault
 use Rattle.gob_tool.specs.Showing.{AppendsPrefix}
 use Rattle.gob_salvage.specs.declared.keeping.Salvaged.{Salvaged}
-use Rattle.gob_salvage.specs.Salvage.{IsSalvage}
+use Rattle.gob_salvage.specs.Streams.{IsSalvaged}
 
 -- this is what is kept of the bytes, and what is left out
 abbrev pub IsOf : Bounds → (bytes : List ℕ) → Salvaged → Type 0
-IsOf L bytes kept = IsSalvage L bytes kept.items kept.bytes.items kept.gaps.items
+IsOf L bytes kept = IsSalvaged L bytes kept.items kept.bytes.items kept.gaps.items
 
 -- all of the input was read, what is kept of it went out, and that is told
 pub record SendsSalvage (L : Bounds) (bytes : List ℕ) (now old new : Option (List ℕ)) (told : Option Salvaged) : Type

@@ -2,7 +2,7 @@
 -- those before them. Other bytes are left out, and only from a place on where no item stands that continues what was
 -- kept. (docs/FORMAT.md, What is kept of damaged bytes: this project's own.)
 use Rattle.std.specs.Prelude.{◌≡◌, ◌≢◌, ℕ, ℤ, pos, ◌<ℤ◌, ◌+◌, ◌-◌, ◌<◌, ◌≤◌, List, [], ◌∷◌, ◌++◌, length, take, drop}
-use Rattle.std.specs.Prelude.{Bool, true, not, slice_range}
+use Rattle.std.specs.Prelude.{Bool, true, false, not, slice_range}
 use Rattle.std.specs.List.{AllByRecursion, list_any, sum_by}
 use Rattle.gob_num.specs.Place.{IsUnsignedAt}
 use Rattle.gob_num.specs.Signed.{IsSigned}
@@ -17,6 +17,7 @@ use Rattle.gob_stream.specs.declared.fault.Refusal.{Refusal}
 use Rattle.gob_filled.specs.Outcome.{RefusesFilled}
 use Rattle.gob_filled.specs.Stream.{FilledItem, IsFilledItem}
 use Rattle.gob_salvage.specs.declared.gap.Gap.{Gap}
+use Rattle.gob_salvage.specs.Evidence.{GoOn, IsFrame}
 
 -- no item stands at the front of the bytes that continues a stream of so many bytes, behind which the types are these
 abbrev pub NoItemNext : Bounds → Table → (kept : ℕ) → List ℕ → Type 0
@@ -40,19 +41,41 @@ pub record TellsWhy (L : Bounds) (T : Table) (kept : ℕ) (z : List ℕ) (g : Ga
   pub reason_is : g.reason ≡ refusal.reason
   pub place_is : g.place ≡ counts_up refusal.place (g.begin - behind)
 
--- from this offset of the bytes on, where so many bytes were kept before and the types are those of the first table:
--- what is there, the items that are kept of it, their bytes, and what is left out, by offsets; the types behind them
--- are those of the last table
-pub data Salvages (L : Bounds) : Table → (kept offset : ℕ) → (bytes : List ℕ) → List FilledItem
-    → (out : List ℕ) → List Gap → Table → Type 0 where
-  nothing_is_left : {T : Table} {kept offset : ℕ} → Salvages L T kept offset [] [] [] [] T
-  keeps : {T U V : Table} {kept offset next on : ℕ} {i : FilledItem} {items : List FilledItem} {b z out : List ℕ}
-      {gaps : List Gap} → IsFilledItem base_table L T kept i b U → next ≡ kept + length b → on ≡ offset + length b
-      → Salvages L U next on z items out gaps V → Salvages L T kept offset (b ++ z) (i ∷ items) (b ++ out) gaps V
-  leaves_out : {T V : Table} {kept offset on : ℕ} {items : List FilledItem} {z out : List ℕ} {gaps : List Gap} {g : Gap}
-      (d : List ℕ) → 0 < length d → NoItemNext L T kept (d ++ z) → TellsWhy L T kept (d ++ z) g
-      → g.begin ≡ offset → g.end ≡ on → on ≡ offset + length d → Salvages L T kept on z items out gaps V
-      → Salvages L T kept offset (d ++ z) items out (g ∷ gaps) V
+-- where an item of this kind is refused, it is left out by its count alone: its type isn't known, or it is a definition
+-- that is kept already
+pub data IsAlone (g : Gap) : Type 0 where
+  of_unknown_type : {id : TypeId} → g.reason ≡ reason.UndefinedType id → 64 ≤ id.0 → IsAlone g
+  of_repeated : g.is_repeated ≡ true → IsAlone g
+
+-- why so many bytes are left out, and no fewer, where these items were kept and their last one, or what is left out by
+-- its count alone, ends there or not: nothing follows, or what shows that items go on, or a line feed at the end; or
+-- they are one that is left out by its count alone
+pub data Resumes (L : Bounds) (T : Table) (before : List FilledItem) (in_step : Bool) (d z : List ℕ) (g : Gap) :
+    (still : Bool) → Type 0 where
+  at_the_end : z ≡ [] → Resumes L T before in_step d z g false
+  where_they_go_on : GoOn L T before z → Resumes L T before in_step d z g false
+  at_a_line_feed : IsFrame (d ++ z) 0 (length d) → z ≡ 10 ∷ [] → Resumes L T before in_step d z g false
+  behind_its_count : in_step ≡ true → IsFrame (d ++ z) 0 (length d) → IsAlone g
+      → Resumes L T before in_step d z g true
+
+-- from this offset of the bytes on, where so many bytes were kept before, which are these items, and the types are
+-- those of the first table, in step or not: what is there, the items that are kept of it, their bytes, and what is left
+-- out, by offsets; the types behind them are those of the last table
+pub data Salvages (L : Bounds) : Table → (before : List FilledItem) → (in_step : Bool) → (kept offset : ℕ)
+    → (bytes : List ℕ) → List FilledItem → (out : List ℕ) → List Gap → Table → Type 0 where
+  nothing_is_left : {T : Table} {before : List FilledItem} {in_step : Bool} {kept offset : ℕ}
+      → Salvages L T before in_step kept offset [] [] [] [] T
+  keeps : {T U V : Table} {before : List FilledItem} {in_step : Bool} {kept offset next on : ℕ} {i : FilledItem}
+      {items : List FilledItem} {b z out : List ℕ} {gaps : List Gap} → IsFilledItem base_table L T kept i b U
+      → next ≡ kept + length b → on ≡ offset + length b
+      → Salvages L U (before ++ i ∷ []) true next on z items out gaps V
+      → Salvages L T before in_step kept offset (b ++ z) (i ∷ items) (b ++ out) gaps V
+  leaves_out : {T V : Table} {before : List FilledItem} {in_step still : Bool} {kept offset on : ℕ}
+      {items : List FilledItem} {z out : List ℕ} {gaps : List Gap} {g : Gap} (d : List ℕ) → 0 < length d
+      → NoItemNext L T kept (d ++ z) → TellsWhy L T kept (d ++ z) g → Resumes L T before in_step d z g still
+      → g.begin ≡ offset → g.end ≡ on → on ≡ offset + length d
+      → Salvages L T before still kept on z items out gaps V
+      → Salvages L T before in_step kept offset (d ++ z) items out (g ∷ gaps) V
 
 -- the bytes stand in what is kept
 pub record StandsIn (b out : List ℕ) : Type 0 where
@@ -91,7 +114,7 @@ TellsRepeated bytes out g = g.is_repeated ≡ true → IsRepeated bytes out g
 pub record IsSalvage (L : Bounds) (bytes : List ℕ) (count : ℕ) (out : List ℕ) (gaps : List Gap) : Type 0 where
   pub items : List FilledItem
   pub table : Table
-  pub salvages : Salvages L base_table 0 0 bytes items out gaps table
+  pub salvages : Salvages L base_table [] true 0 0 bytes items out gaps table
   pub counted : count ≡ length items
   pub repeated : AllByRecursion (TellsRepeated bytes out) gaps
 

@@ -1,7 +1,9 @@
 //! Sessions that read from memory.
 
 ghost use Rattle.std.specs.Prelude.{◌≡◌, ◌≤◌, IfOk, length};
+ghost use Rattle.gob_stream.specs.Bounds.{within_trees};
 ghost use Rattle.gob_go.specs.Calls.Session.{limits_of};
+ghost use Rattle.gob_salvage.specs.Searching.{BeginsStream};
 ghost use Rattle.gob_salvage.specs.Taking.{HasReadAll};
 
 use crate::item::take_item;
@@ -39,7 +41,7 @@ pub(crate) fn read_some(
     piece: &[u8],
     most: u64,
 ) -> Result<(u64, usize), Memory>
-    ensures { IfOk result (λ read. read.1 ≤ length piece.now) }
+    ensures { IfOk result (λ read. BeginsStream (within_trees limits) piece.now read.0 read.1) }
 {
     let mut session = GoSession::new(alloc, limits)?;
     let mut end = 0;

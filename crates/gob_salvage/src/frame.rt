@@ -1,31 +1,37 @@
-//! What may be an item, by its count alone.
+//! What may be an item, by its first bytes alone.
 
 ghost use Rattle.std.specs.Prelude.{◌<◌, ◌≤◌, length, IfSome, IsTrue};
+ghost use Rattle.gob_salvage.specs.Evidence.{IsFrame};
 ghost use Rattle.gob_salvage.specs.Salvage.{HasTypeAt, StandsIn};
 
 use gob_num::{to_signed, uint_at};
 use gob_stream::Limits;
 
-/// Where what may be an item ends that begins at the place: behind as many bytes as its count says, if they are there.
-pub(crate) fn frame_end(limits: &Limits, bytes: &[u8], at: usize) -> Option<usize>
-    ensures behind { IfSome result (λ end. at < end) }
-    ensures within { IfSome result (λ end. end ≤ length bytes.now) }
+/// What may be an item: a count whose bytes are there, and a type number among them.
+#[derive(Clone, Copy)]
+pub(crate) struct Frame {
+    /// Where it ends.
+    pub end: usize,
+    /// The type number: below 0 where a type is defined.
+    pub number: i64,
+}
+
+/// What may be an item at the place.
+pub(crate) fn frame_at(limits: &Limits, bytes: &[u8], at: usize) -> Option<Frame>
+    ensures number { IfSome result (λ frame. HasTypeAt bytes.now at frame.number) }
+    ensures frame { IfSome result (λ frame. IsFrame bytes.now at frame.end) }
+    ensures behind { IfSome result (λ frame. at < frame.end) }
+    ensures within { IfSome result (λ frame. frame.end ≤ length bytes.now) }
 {
     let (count, head) = uint_at(bytes, at)?;
     if count < 2 || count > limits.item() || count > (bytes.len() - head) as u64 {
         return None;
     }
-    Some(head + count as usize)
-}
-
-/// The type number of what may be an item at the place: below 0 where a type is defined.
-pub(crate) fn number_at(limits: &Limits, bytes: &[u8], at: usize) -> Option<i64>
-    ensures { IfSome result (λ number. HasTypeAt bytes.now at number) }
-{
-    let _end = frame_end(limits, bytes, at)?;
-    let (_, head) = uint_at(bytes, at)?;
     let (number, _) = uint_at(bytes, head)?;
-    Some(to_signed(number))
+    Some(Frame {
+        end: head + count as usize,
+        number: to_signed(number),
+    })
 }
 
 /// Where bytes stand in others.

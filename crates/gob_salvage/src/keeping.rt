@@ -1,21 +1,31 @@
 //! What isn't damaged.
 
-ghost use Rattle.std.specs.Prelude.{◌+◌, ◌^◌, ◌<◌, ◌≤◌, length, take, IfOk, IfSome, IsTrue, OnOk};
+ghost use Rattle.std.specs.Prelude.{◌≡◌, ◌+◌, ◌^◌, ◌<◌, ◌≤◌, ◌⊎◌, ℕ, length, take, None, Some, IfOk, IfSome, IsTrue};
+ghost use Rattle.std.specs.Prelude.{List, OnOk, true};
+ghost use Rattle.gob_types.specs.Defined.{types};
 ghost use Rattle.gob_stream.specs.Bounds.{Bounds, within_trees};
-ghost use Rattle.gob_salvage.specs.Keeping.{EndsTwice, GoesOn, IsKeeping, IsRefusedNext, IsTwice, KeepsMore};
-ghost use Rattle.gob_salvage.specs.Salvage.{IsDefinedAgain, IsSalvage};
+ghost use Rattle.gob_filled.specs.Stream.{FilledItem};
+ghost use Rattle.gob_salvage.specs.Evidence.{IsFrame};
+ghost use Rattle.gob_salvage.specs.Keeping.{EndsTwice, GoesOn, IsKeeping, IsRefusedNext, KeepsMore};
+ghost use Rattle.gob_salvage.specs.Breaks.{BreaksAt, IsTwice};
+ghost use Rattle.gob_salvage.specs.Searching.{AreNoted, HasSpent, IsNextPlace, IsUnknown};
+ghost use Rattle.gob_salvage.specs.Salvage.{HasTypeAt, IsDefinedAgain, IsSalvage};
 ghost use Rattle.gob_salvage.specs.Taking.{NotesItem};
 
 use crate::again::read_again;
-use crate::frame::{Span, frame_end, has_piece, number_at};
+use crate::frame::{Frame, Span, frame_at, has_piece};
 use crate::gap::Gap;
 use crate::item::take_item;
 use crate::search::Search;
 use gob_go::GoSession;
 use gob_num::Memory;
 use gob_stream::{Fault, Limits, Passed, Refusal};
-use gob_types::Reason;
+use gob_types::{Reason, Table};
 use std::alloc::Global;
+
+// What is read again is looked at in vain too, and a definition takes so many times as long as a value of as many
+// bytes.
+const TIMES_A_VALUE: usize = 100;
 
 /// What is kept of bytes in which some are damaged, and what is left out.
 #[derive(Drop)]
@@ -67,29 +77,55 @@ struct Keeper {
     ahead: usize,
     // Whether an item that is kept ends there, or one that is left out by its count.
     in_step: bool,
+    // Where another encoder's stream begins, if one was found. Nothing is kept of that.
+    later: Option<usize>,
     search: Search,
 }
 
-/// Keeps what isn't damaged in the bytes. An item is kept exactly where one stands that continues what was kept before,
-/// and what is kept is a stream. From a place where none stands some bytes are left out, up to where values are found
-/// again. No value may be deeper than the limits allow, or than 1000.
-pub fn salvage(alloc: Global, limits: Limits, bytes: &[u8]) -> Result<Salvaged, Memory>
+/// What is kept of one encoder's stream.
+#[derive(Drop)]
+pub(crate) struct Kept {
+    pub kept: Salvaged,
+    /// The offset where another encoder's stream begins, if one was found. All of it is left out.
+    pub later: Option<usize>,
+    /// How many bytes may still be looked at in vain.
+    pub left: u64,
+}
+
+/// Keeps what isn't damaged of the bytes up to another encoder's stream, while so many may be looked at in vain. An
+/// item is kept exactly where one stands that continues what was kept before, and what is kept is a stream. From a
+/// place where none stands some bytes are left out, up to where values are found again.
+pub(crate) fn keep_stream(
+    alloc: Global,
+    limits: Limits,
+    bytes: &[u8],
+    left: u64,
+) -> Result<Kept, Memory>
     requires { length bytes.now ≤ limits.stream }
-    ensures { IfOk result (λ kept.
-        IsSalvage (within_trees limits) bytes.now kept.items kept.bytes.items kept.gaps.items) }
+    ensures kept { IfOk result (λ kept.
+        IsSalvage (within_trees limits) bytes.now kept.kept.items kept.kept.bytes.items kept.kept.gaps.items) }
+    ensures later { IfOk result (λ kept.
+        IfSome kept.later (λ begin. BreaksAt (within_trees limits) begin kept.kept.gaps.items bytes.now)) }
 {
-    let mut keeper = Keeper::over(alloc, limits, bytes)?;
+    let mut keeper = Keeper::over(alloc, limits, bytes, left)?;
     'items: while keeper.at < bytes.len() {
         keeper.go_on(alloc, bytes)?;
     }
-    Ok(keeper.kept)
+    let later = keeper.later;
+    let left = keeper.search.left();
+    Ok(Kept {
+        kept: keeper.kept,
+        later,
+        left,
+    })
 }
 
 impl Keeper {
     // Nothing is kept of the bytes yet.
-    fn over(alloc: Global, limits: Limits, bytes: &[u8]) -> Result<Keeper, Memory>
+    fn over(alloc: Global, limits: Limits, bytes: &[u8], left: u64) -> Result<Keeper, Memory>
         requires { length bytes.now ≤ limits.stream }
-        ensures { IfOk result (λ keeper. IsKeeping (within_trees limits) keeper bytes.now) }
+        ensures keeping { IfOk result (λ keeper. IsKeeping (within_trees limits) keeper bytes.now) }
+        ensures later { IfOk result (λ keeper. keeper.later ≡ None) }
     {
         let session = GoSession::new(alloc, limits)?;
         Ok(Keeper {
@@ -104,7 +140,8 @@ impl Keeper {
             at: 0,
             ahead: 0,
             in_step: true,
-            search: Search::over(limits, bytes),
+            later: None,
+            search: Search::new(alloc, limits, left),
         })
     }
 
@@ -118,6 +155,7 @@ impl Keeper {
         let piece = &bytes[self.at..];
         let passed = self.session.pass_values(piece);
         if passed.items > 0 {
+            self.search.keep_values(&piece[..passed.used], self.at)?;
             return self.keep(piece, passed);
         }
         self.take(alloc, bytes)
@@ -139,6 +177,7 @@ impl Keeper {
                 let end = begin.saturating_add(used);
                 note_place(&mut self.defined, known, count, Span { begin, end })?;
                 note(&mut self.defining, known, count, &piece[..used])?;
+                self.search.keep_item(&piece[..used], self.at)?;
                 self.keep(piece, Passed { items: 1, used })
             }
             Err(Fault::Refused(refusal)) => self.leave_out(alloc, bytes, refusal),
@@ -169,9 +208,15 @@ impl Keeper {
     {
         let limits = self.session.limits();
         let alone = self.end_alone(&limits, refusal.reason, bytes);
-        self.in_step = alone.is_some();
+        let clash = self.clash_at(refusal.reason, alone);
+        let later = self.search.later_stream(alloc, bytes, clash)?;
+        self.search
+            .spend(self.defining.len().saturating_mul(TIMES_A_VALUE));
+        self.session = read_again(alloc, limits, &self.defining)?;
+        let known = known_end(alone, later, bytes.len());
         let table = self.session.table();
-        let next = self.search.resume(alloc, table, bytes, self.at, alone)?;
+        let next = place_behind(alloc, &mut self.search, table, bytes, self.at, known)?;
+        self.search.go_behind(next);
         self.kept.gaps.push(Gap {
             begin: self.at as u64,
             end: next as u64,
@@ -179,17 +224,19 @@ impl Keeper {
             place: refusal.place.saturating_add(self.ahead as u64),
             is_repeated: ends_twice(alone, refusal.reason),
         })?;
-        // What is read again is looked at in vain too, and a definition takes longer than a value.
-        self.search.spend(self.defining.len().saturating_mul(8));
-        self.session = read_again(alloc, limits, &self.defining)?;
         self.ahead = next - self.defining.len();
         self.at = next;
+        self.in_step = alone.is_some();
+        self.later = later;
         Ok(())
     }
 
     // Where the refused item ends, if it is left out alone: behind an end that is known it is a value of a type that
     // isn't known, or defines a type with the very bytes with which that was defined before.
     fn end_alone(&self, limits: &Limits, reason: Reason, bytes: &[u8]) -> Option<usize>
+        ensures step { IfSome result (λ _. self.now.in_step ≡ true) }
+        ensures frame { IfSome result (λ end. IsFrame bytes.now self.now.at end) }
+        ensures why { IfSome result (λ _. IsUnknown reason ⊎ IsTwice reason) }
         ensures behind { IfSome result (λ end. self.now.at < end) }
         ensures within { IfSome result (λ end. end ≤ length bytes.now) }
         ensures again { IsTwice reason → IfSome result (λ end.
@@ -198,37 +245,89 @@ impl Keeper {
         if !self.in_step || self.search.is_spent() {
             return None;
         }
-        let end = frame_end(limits, bytes, self.at)?;
-        if !self.is_alone(limits, reason, bytes, end) {
+        let frame = frame_at(limits, bytes, self.at)?;
+        if !self.is_alone(reason, bytes, frame) {
             return None;
         }
-        Some(end)
+        Some(frame.end)
     }
 
-    // Whether the refused item is such a value or such a definition.
-    fn is_alone(&self, limits: &Limits, reason: Reason, bytes: &[u8], end: usize) -> bool
-        requires order { self.now.at ≤ end }
-        requires inside { end ≤ length bytes.now }
-        ensures { IsTrue result → IsTwice reason
-            → IsDefinedAgain bytes.now self.now.at end self.now.kept.bytes.items }
+    // Where the refused item begins, if it isn't left out alone and defines a type again behind an item that is kept.
+    fn clash_at(&self, reason: Reason, alone: Option<usize>) -> Option<usize>
+        ensures here { IfSome result (λ at. at ≡ self.now.at) }
+        ensures again { IfSome result (λ _. IsTwice reason) }
+        ensures alone { IfSome result (λ _. alone ≡ None) }
+    {
+        match reason {
+            Reason::DefinedTwice(_) if self.in_step && alone.is_none() => Some(self.at),
+            _ => None,
+        }
+    }
+
+    // Whether the refused item, which has this frame, is such a value or such a definition.
+    fn is_alone(&self, reason: Reason, bytes: &[u8], frame: Frame) -> bool
+        requires order { self.now.at ≤ frame.end }
+        requires inside { frame.end ≤ length bytes.now }
+        requires number { HasTypeAt bytes.now self.now.at frame.number }
+        ensures why { IsTrue result → IsUnknown reason ⊎ IsTwice reason }
+        ensures again { IsTrue result → IsTwice reason
+            → IsDefinedAgain bytes.now self.now.at frame.end self.now.kept.bytes.items }
     {
         match reason {
             Reason::UndefinedType(id) => id.0 >= 64,
-            Reason::DefinedTwice(_) => self.defines_again(limits, bytes, end),
+            Reason::DefinedTwice(_) => self.defines_again(bytes, frame),
             _ => false,
         }
     }
 
     // Whether it defines a type, and is kept already.
-    fn defines_again(&self, limits: &Limits, bytes: &[u8], end: usize) -> bool
-        requires order { self.now.at ≤ end }
-        requires inside { end ≤ length bytes.now }
-        ensures { IsTrue result → IsDefinedAgain bytes.now self.now.at end self.now.kept.bytes.items }
+    fn defines_again(&self, bytes: &[u8], frame: Frame) -> bool
+        requires order { self.now.at ≤ frame.end }
+        requires inside { frame.end ≤ length bytes.now }
+        requires number { HasTypeAt bytes.now self.now.at frame.number }
+        ensures { IsTrue result → IsDefinedAgain bytes.now self.now.at frame.end self.now.kept.bytes.items }
     {
-        let Some(number) = number_at(limits, bytes, self.at) else {
-            return false;
-        };
-        number < 0 && has_piece(&self.kept.bytes, &self.defined, &bytes[self.at..end])
+        frame.number < 0 && has_piece(&self.kept.bytes, &self.defined, &bytes[self.at..frame.end])
+    }
+}
+
+// Where what is left out ends, if that is known: where an item is left out alone, or another encoder's stream begins.
+fn known_end(alone: Option<usize>, later: Option<usize>, end: usize) -> Option<usize>
+    ensures alone { IfSome alone (λ known. result ≡ Some known) }
+    ensures later { IfSome later (λ _. alone ≡ None → result ≡ Some end) }
+    ensures none { alone ≡ None → later ≡ None → result ≡ None }
+    ensures behind { (at : ℕ) → at < end → IfSome alone (λ known. at < known) → IfSome result (λ known. at < known) }
+    ensures within { IfSome alone (λ known. known ≤ end) → IfSome result (λ known. known ≤ end) }
+{
+    match later {
+        Some(_) if alone.is_none() => Some(end),
+        _ => alone,
+    }
+}
+
+// The place behind what is left out: the end that is known, or else where items go on.
+fn place_behind(
+    alloc: Global,
+    search: &mut Search,
+    table: &Table,
+    bytes: &[u8],
+    at: usize,
+    known: Option<usize>,
+) -> Result<usize, Memory>
+    requires more { at < length bytes.now }
+    requires behind { IfSome known (λ end. at < end) }
+    requires within { IfSome known (λ end. end ≤ length bytes.now) }
+    ensures spent { HasSpent search.old search.new }
+    ensures behind { IfOk result (λ next. at < next) }
+    ensures within { IfOk result (λ next. next ≤ length bytes.now) }
+    ensures known { IfSome known (λ end. IfOk result (λ next. next ≡ end)) }
+    ensures shown { known ≡ None → (kept : List FilledItem) → AreNoted search.old.kept_types kept
+        → IfOk result (λ next.
+        IsNextPlace (within_trees search.old.limits) (types table.now) kept bytes.now at next) }
+{
+    match known {
+        Some(end) => Ok(end),
+        None => search.resume(alloc, table, bytes, at),
     }
 }
 
@@ -247,7 +346,8 @@ fn note_place(
 
 // Whether what is refused so has a known end, and is a type that is defined twice.
 fn ends_twice(known: Option<usize>, reason: Reason) -> bool
-    ensures { IsTrue result → EndsTwice known reason }
+    ensures twice { IsTrue result → EndsTwice known reason }
+    ensures all { IfSome known (λ _. IsTwice reason → result ≡ true) }
 {
     matches!((known, reason), (Some(_), Reason::DefinedTwice(_)))
 }

@@ -16,12 +16,15 @@ mod frame;
 mod gap;
 mod item;
 mod keeping;
+mod kept_types;
 pub mod laws;
 mod lines;
 mod run;
 mod search;
+mod streams;
 
 pub use gap::Gap;
-pub use keeping::{Salvaged, salvage};
+pub use keeping::Salvaged;
 pub use lines::report;
 pub use run::{run_salvage, salvage_all};
+pub use streams::salvage;

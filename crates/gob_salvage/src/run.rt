@@ -9,7 +9,8 @@ ghost use Rattle.gob_tool.specs.Ending.{CountsOnlyWrites};
 ghost use Rattle.gob_tool.specs.Showing.{CountsReadFaults, CountsWriteFaults, IsFlushedSince};
 ghost use Rattle.gob_salvage.specs.Running.{CountsReading, IsOf, SalvageAnswers, StopsReading};
 
-use crate::keeping::{Salvaged, salvage};
+use crate::keeping::Salvaged;
+use crate::streams::salvage;
 use gob_stream::{Input, Limits, Output, Waiting, refusal};
 use gob_tool::{ToolFault, end_run};
 use gob_types::Reason;

@@ -1,23 +1,37 @@
 //! Where items go on behind one that is refused. That is found by evidence: values of known types that stand whole one
 //! behind another.
 
-ghost use Rattle.std.specs.Prelude.{◌≡◌, ◌+◌, ◌^◌, ◌<◌, ◌≤◌, length, IfOk, IfSome};
+ghost use Rattle.std.specs.Prelude.{◌≡◌, ◌+◌, ◌^◌, ◌<◌, ◌≤◌, length, drop, min, List, None, IfOk, IfSome, IsTrue};
+ghost use Rattle.std.specs.Prelude.{[], OnOk, true, false};
 ghost use Rattle.gob_types.specs.Defined.{types};
 ghost use Rattle.gob_types.specs.Ready.{IsReady};
+ghost use Rattle.gob_stream.specs.Bounds.{greatest_depth, within_trees};
+ghost use Rattle.gob_filled.specs.Stream.{FilledItem};
+ghost use Rattle.gob_go.specs.Whole.{IsFilledWhole};
+ghost use Rattle.gob_salvage.specs.Evidence.{AllDefine, BeginsAnew, GoOn, HasValue, ReachesEnd, StandsUpTo};
+ghost use Rattle.gob_salvage.specs.Keeping.{BeginsBefore};
+ghost use Rattle.gob_salvage.specs.Searching.{AreNoted, HasSpent, IsNextPlace, NotesItemOf, NotesItemsOf, Suffices};
+ghost use Rattle.gob_salvage.specs.Searching.{ValueStands};
+ghost use Rattle.gob_salvage.specs.declared.search.There.TheVariants as what;
 
 use crate::again::read_some;
-use crate::frame::{frame_end, number_at};
+use crate::frame::frame_at;
+use crate::kept_types::KeptTypes;
+use gob_go::is_filled_whole;
 use gob_num::Memory;
-use gob_read::{BodyReader, Progress, SkipBuilder, Stop};
+use gob_read::{BodyReader, SkipBuilder, Stop};
 use gob_stream::{Limits, whole_value};
-use gob_types::{Reason, Shapes, Table, TypeId};
+use gob_types::{Reason, Table, TypeId};
 use std::alloc::Global;
 
-// So many values show that items go on.
+// So many values of types of which a value was kept show that items go on.
 const ENOUGH: u64 = 3;
 
-// So many items do where no type is known, or behind a definition.
+// So many items do where no value was kept.
 const ENOUGH_ANEW: u64 = 32;
+
+// So many items show that another encoder's stream begins, behind an item that is kept.
+const FEW: u64 = 2;
 
 // So many other items may stand among the values.
 const MOST_OTHERS: u64 = 16;
@@ -25,58 +39,132 @@ const MOST_OTHERS: u64 = 16;
 /// The search for the places where items go on, with what it may still cost over all of the bytes.
 pub(crate) struct Search {
     limits: Limits,
+    kept_types: KeptTypes,
+    // Where the definitions begin that are kept and stand right in front of what was looked at last.
+    definitions: usize,
     // How many bytes may be looked at in vain.
     left: u64,
 }
 
 impl Drop for Search {
     fn drop(self) {
-        let Search { limits: _, left: _ } = self;
+        let Search {
+            limits: _,
+            kept_types: _,
+            definitions: _,
+            left: _,
+        } = self;
     }
 }
 
 // What may stand at a place.
 #[derive(Clone, Copy)]
 enum There {
-    // A value in which no interface holds another.
+    // A value of a type of which one was kept.
     Value,
-    // A definition, a value of a type that isn't known, or one that holds something.
+    // A definition, or another value, as one of a type that isn't known.
     Other,
     // No item.
     Nothing,
 }
 
-// What stands one behind another from a place on.
+// What stands one behind another from the front of a piece on, up to the end.
 #[derive(Clone, Copy)]
 struct Row {
     values: u64,
     others: u64,
+    end: usize,
 }
 
 impl Row {
-    // Whether it shows that items go on, where these are all that there is up to the end or not.
+    // The row, and behind it what stands there up to the end.
+    fn and(self, there: There, end: usize) -> Option<Row>
+        requires { self.values + self.others < 32 }
+        ensures end { IfSome result (λ row. row.end ≡ end) }
+        ensures count { IfSome result (λ row. row.values + row.others ≡ self.values + self.others + 1) }
+        ensures value { there ≡ what.Value → IfSome result (λ row. row.others ≡ self.others) }
+        ensures other { there ≡ what.Other → IfSome result (λ row. row.values ≡ self.values) }
+        ensures nothing { there ≡ what.Nothing → result ≡ None }
+    {
+        match there {
+            There::Value => Some(Row {
+                values: self.values + 1,
+                others: self.others,
+                end,
+            }),
+            There::Other => Some(Row {
+                values: self.values,
+                others: self.others + 1,
+                end,
+            }),
+            There::Nothing => None,
+        }
+    }
+
+    // Whether it shows that items go on, where a value was kept or none, and where the bytes end with it or not.
     fn is_enough(self, is_first: bool, is_last: bool) -> bool
         requires { self.values + self.others < 2 ^ 64 }
+        ensures first { IsTrue result → is_first ≡ true → Suffices 32 2 (self.values + self.others) is_last }
+        ensures few { IsTrue result → is_first ≡ false → self.others ≤ 16 }
+        ensures later { IsTrue result → is_first ≡ false → Suffices 3 1 self.values is_last }
     {
-        let items = self.values + self.others;
         if is_first {
-            return items >= ENOUGH_ANEW || is_last && items > 1;
+            return suffices(ENOUGH_ANEW, 2, self.values + self.others, is_last);
         }
-        self.values >= ENOUGH || is_last && self.values > 0
+        self.others <= MOST_OTHERS && suffices(ENOUGH, 1, self.values, is_last)
     }
 }
 
+// Whether so many are enough, or fewer if they are the last.
+fn suffices(many: u64, few: u64, count: u64, is_last: bool) -> bool
+    ensures { IsTrue result → Suffices many few count is_last }
+{
+    count >= many || is_last && count >= few
+}
+
 impl Search {
-    /// For so many bytes. Sixty-four times as many may be looked at in vain, and a million.
-    pub(crate) fn over(limits: Limits, bytes: &[u8]) -> Search {
-        let left = (bytes.len() as u64)
-            .saturating_mul(64)
-            .saturating_add(1048576);
-        Search { limits, left }
+    /// Nothing was kept yet, and so many bytes may be looked at in vain.
+    pub(crate) fn new(alloc: Global, limits: Limits, left: u64) -> Search
+        ensures limits { result.limits ≡ limits }
+        ensures noted { AreNoted result.kept_types [] }
+    {
+        Search {
+            limits,
+            kept_types: KeptTypes::new(alloc),
+            definitions: 0,
+            left,
+        }
+    }
+
+    /// How many bytes may still be looked at in vain.
+    pub(crate) fn left(&self) -> u64 {
+        self.left
+    }
+
+    /// This item is kept, which begins at the place.
+    pub(crate) fn keep_item(&mut self, item: &[u8], at: usize) -> Result<(), Memory>
+        ensures limits { self.new.limits ≡ self.old.limits }
+        ensures noted { OnOk result (NotesItemOf item.now self.old.kept_types self.new.kept_types) }
+    {
+        if self.kept_types.note_item(&self.limits, item)? {
+            self.definitions = at.saturating_add(item.len());
+        }
+        Ok(())
+    }
+
+    /// These items are kept, which begin at the place: values that define nothing.
+    pub(crate) fn keep_values(&mut self, values: &[u8], at: usize) -> Result<(), Memory>
+        ensures limits { self.new.limits ≡ self.old.limits }
+        ensures noted { OnOk result (NotesItemsOf values.now self.old.kept_types self.new.kept_types) }
+    {
+        self.definitions = at.saturating_add(values.len());
+        self.kept_types.note_values(&self.limits, values)
     }
 
     /// So many bytes were looked at in vain.
-    pub(crate) fn spend(&mut self, bytes: usize) {
+    pub(crate) fn spend(&mut self, bytes: usize)
+        ensures { HasSpent self.old self.new }
+    {
         self.left = self.left.saturating_sub(bytes as u64);
     }
 
@@ -85,37 +173,85 @@ impl Search {
         self.left == 0
     }
 
-    /// Where items go on behind the refused one at the place: at the end that is known, else where its count says, if
-    /// some go on there or the bytes end, else at the next place where some do. Where the search would cost too much,
-    /// all that follows is given up.
+    /// Where another encoder's stream begins, if an item of it is refused at this place, since it defines a type again:
+    /// with the definitions that stand right in front of it, or with itself. It is seen by the items that stand there.
+    pub(crate) fn later_stream(
+        &mut self,
+        alloc: Global,
+        bytes: &[u8],
+        clash: Option<usize>,
+    ) -> Result<Option<usize>, Memory>
+        requires { IfSome clash (λ at. at ≤ length bytes.now) }
+        ensures spent { HasSpent self.old self.new }
+        ensures before { IfOk result (λ later. IfSome later (λ from. BeginsBefore clash from)) }
+        ensures anew { IfOk result (λ later. IfSome later (λ from.
+            BeginsAnew (within_trees self.old.limits) 2 (drop from bytes.now))) }
+    {
+        let Some(at) = clash else {
+            return Ok(None);
+        };
+        let from = self.definitions.min(at);
+        if from > 0 && self.begins_anew(alloc, &bytes[from..], FEW)? {
+            return Ok(Some(from));
+        }
+        Ok(None)
+    }
+
+    /// Where items go on behind the refused one at the place: where its count says, if some go on there or the bytes
+    /// end,
+    /// else at the next place where some do. Where the search would cost too much, all that follows is given up.
     pub(crate) fn resume(
         &mut self,
         alloc: Global,
         table: &Table,
         bytes: &[u8],
         at: usize,
-        known: Option<usize>,
     ) -> Result<usize, Memory>
-        requires more { at < length bytes.now }
-        requires behind { IfSome known (λ end. at < end) }
-        requires within { IfSome known (λ end. end ≤ length bytes.now) }
-        ensures known { IfSome known (λ end. IfOk result (λ next. next ≡ end)) }
+        requires { at < length bytes.now }
+        ensures spent { HasSpent self.old self.new }
         ensures behind { IfOk result (λ next. at < next) }
         ensures within { IfOk result (λ next. next ≤ length bytes.now) }
+        ensures shown { (kept : List FilledItem) → AreNoted self.old.kept_types kept → IfOk result (λ next.
+            IsNextPlace (within_trees self.old.limits) (types table.now) kept bytes.now at next) }
     {
-        if let Some(end) = known {
-            return Ok(end);
-        }
         if self.is_spent() {
             return Ok(bytes.len());
         }
-        if let Some(end) = frame_end(&self.limits, bytes, at) {
-            if end == bytes.len() || self.goes_on(alloc, table, bytes, end)? {
-                return Ok(end);
+        if let Some(frame) = frame_at(&self.limits, bytes, at) {
+            if reaches_end(bytes, frame.end) {
+                return Ok(frame.end);
+            }
+            if self.goes_on(alloc, table, bytes, frame.end)? {
+                return Ok(frame.end);
             }
         }
-        for place in at + 1..bytes.len() {
-            if self.goes_on(alloc, table, bytes, place)? {
+        self.next_place(alloc, table, bytes, at)
+    }
+
+    /// All before the place is kept or left out.
+    pub(crate) fn go_behind(&mut self, at: usize)
+        ensures { HasSpent self.old self.new }
+    {
+        self.definitions = at;
+    }
+
+    // The next place where items go on, or else the end.
+    fn next_place(
+        &mut self,
+        alloc: Global,
+        table: &Table,
+        bytes: &[u8],
+        at: usize,
+    ) -> Result<usize, Memory>
+        requires { at < length bytes.now }
+        ensures spent { HasSpent self.old self.new }
+        ensures behind { IfOk result (λ next. at < next) }
+        ensures within { IfOk result (λ next. next ≤ length bytes.now) }
+        ensures shown { (kept : List FilledItem) → AreNoted self.old.kept_types kept → IfOk result (λ next.
+            IsNextPlace (within_trees self.old.limits) (types table.now) kept bytes.now at next) }
+    {
+        'places: for place in at + 1..bytes.len() {
+            if self.begin_there(alloc, table, bytes, place)? {
                 return Ok(place);
             }
             if self.is_spent() {
@@ -134,21 +270,59 @@ impl Search {
         at: usize,
     ) -> Result<bool, Memory>
         requires { at ≤ length bytes.now }
+        ensures spent { HasSpent self.old self.new }
+        ensures shown { (kept : List FilledItem) → AreNoted self.old.kept_types kept → IfOk result (λ found.
+            IsTrue found → GoOn (within_trees self.old.limits) (types table.now) kept (drop at bytes.now)) }
     {
-        let Some(number) = number_at(&self.limits, bytes, at) else {
+        let Some(frame) = frame_at(&self.limits, bytes, at) else {
             return Ok(false);
         };
         let piece = &bytes[at..];
-        if number <= -64 && self.begins_anew(alloc, piece)? {
+        if self.kept_types.is_empty()
+            && frame.number <= -64
+            && self.begins_anew(alloc, piece, ENOUGH_ANEW)?
+        {
             return Ok(true);
         }
         self.values_go_on(alloc, table, piece)
     }
 
+    // Whether items go on at the place, no byte of which is counted by an item before it: where a value was kept, not
+    // with one of a type that isn't known.
+    fn begin_there(
+        &mut self,
+        alloc: Global,
+        table: &Table,
+        bytes: &[u8],
+        at: usize,
+    ) -> Result<bool, Memory>
+        requires { at ≤ length bytes.now }
+        ensures spent { HasSpent self.old self.new }
+        ensures shown { (kept : List FilledItem) → AreNoted self.old.kept_types kept → IfOk result (λ found.
+            IsTrue found → GoOn (within_trees self.old.limits) (types table.now) kept (drop at bytes.now)) }
+    {
+        if !self.may_begin(table, bytes, at) {
+            return Ok(false);
+        }
+        self.goes_on(alloc, table, bytes, at)
+    }
+
+    // Whether the first of them may be one.
+    fn may_begin(&self, table: &Table, bytes: &[u8], at: usize) -> bool {
+        match frame_at(&self.limits, bytes, at) {
+            Some(frame) => !is_unknown(table, frame.number) || self.kept_types.is_empty(),
+            None => false,
+        }
+    }
+
     // Whether so many items stand at the front of the piece, of types that are defined there, or fewer up to its end.
-    fn begins_anew(&mut self, alloc: Global, piece: &[u8]) -> Result<bool, Memory> {
-        let (items, end) = read_some(alloc, self.limits, piece, ENOUGH_ANEW)?;
-        if items == ENOUGH_ANEW || items >= 2 && end == piece.len() {
+    fn begins_anew(&mut self, alloc: Global, piece: &[u8], enough: u64) -> Result<bool, Memory>
+        ensures spent { HasSpent self.old self.new }
+        ensures shown { IfOk result (λ found.
+            IsTrue found → BeginsAnew (within_trees self.old.limits) enough piece.now) }
+    {
+        let (items, end) = read_some(alloc, self.limits, piece, enough)?;
+        if suffices(enough, 2, items, reaches_end(piece, end)) {
             return Ok(true);
         }
         self.spend(end);
@@ -156,50 +330,72 @@ impl Search {
     }
 
     // Whether so many values stand at the front of the piece, among few other items, or fewer up to the end.
-    fn values_go_on(&mut self, alloc: Global, table: &Table, piece: &[u8]) -> Result<bool, Memory> {
-        let is_first = table.count() == 0;
+    fn values_go_on(&mut self, alloc: Global, table: &Table, piece: &[u8]) -> Result<bool, Memory>
+        ensures spent { HasSpent self.old self.new }
+        ensures shown { (kept : List FilledItem) → AreNoted self.old.kept_types kept → IfOk result (λ found.
+            IsTrue found → GoOn (within_trees self.old.limits) (types table.now) kept piece.now) }
+    {
+        let is_first = self.kept_types.is_empty();
         let mut row = Row {
             values: 0,
             others: 0,
+            end: 0,
         };
-        let mut place = 0;
-        let mut looked = 0usize;
         'items: for _ in 0..ENOUGH_ANEW {
-            let Some(end) = frame_end(&self.limits, piece, place) else {
+            let Some(longer) = self.longer_row(alloc, table, piece, row)? else {
                 break;
             };
-            match self.look_at(alloc, table, &piece[place..])? {
-                There::Value => {
-                    row.values += 1;
-                    looked = looked.saturating_add(end - place);
-                }
-                There::Other => row.others += 1,
-                There::Nothing => break,
-            }
-            if row.is_enough(is_first, end == piece.len()) {
+            row = longer;
+            if row.is_enough(is_first, reaches_end(piece, row.end)) {
                 return Ok(true);
             }
             if row.others > MOST_OTHERS && !is_first {
                 break;
             }
-            place = end;
         }
-        self.spend(looked);
+        self.spend(row.end);
         Ok(false)
     }
 
+    // The row, with what stands behind it, if an item does.
+    fn longer_row(
+        &mut self,
+        alloc: Global,
+        table: &Table,
+        piece: &[u8],
+        row: Row,
+    ) -> Result<Option<Row>, Memory>
+        requires few { row.values + row.others < 32 }
+        requires within { row.end ≤ length piece.now }
+        ensures spent { HasSpent self.old self.new }
+        ensures count { IfOk result (λ longer. IfSome longer (λ more.
+            more.values + more.others ≡ row.values + row.others + 1)) }
+        ensures within { IfOk result (λ longer. IfSome longer (λ more. more.end ≤ length piece.now)) }
+        ensures stands { (kept : List FilledItem) → AreNoted self.old.kept_types kept
+            → StandsUpTo (within_trees self.old.limits) (types table.now) kept piece.now row.values row.others row.end
+            → IfOk result (λ longer. IfSome longer (λ more. StandsUpTo (within_trees self.old.limits) (types table.now)
+            kept piece.now more.values more.others more.end)) }
+    {
+        let Some(frame) = frame_at(&self.limits, piece, row.end) else {
+            return Ok(None);
+        };
+        let there = self.look_at(alloc, table, &piece[row.end..])?;
+        Ok(row.and(there, frame.end))
+    }
+
     // What stands at the front of the piece.
-    fn look_at(&mut self, alloc: Global, table: &Table, piece: &[u8]) -> Result<There, Memory> {
+    fn look_at(&mut self, alloc: Global, table: &Table, piece: &[u8]) -> Result<There, Memory>
+        ensures spent { HasSpent self.old self.new }
+        ensures value { (kept : List FilledItem) → AreNoted self.old.kept_types kept → IfOk result (λ there.
+            there ≡ what.Value → ValueStands (within_trees self.old.limits) (types table.now) kept piece.now) }
+    {
         if let Some(value) = whole_value(table, &self.limits, 0, piece) {
             return self.value_there(alloc, table, value.id, value.body);
         }
-        if self.may_be_other(table, piece) {
-            return Ok(There::Other);
-        }
-        Ok(There::Nothing)
+        self.other_there(alloc, table, piece)
     }
 
-    // Whether the body is a value of the type.
+    // Whether the body is a value of the type, of which one was kept or not.
     fn value_there(
         &mut self,
         alloc: Global,
@@ -208,12 +404,47 @@ impl Search {
         body: &[u8],
     ) -> Result<There, Memory>
         requires { IsReady (types table.now) id }
+        ensures spent { HasSpent self.old self.new }
+        ensures known { (kept : List FilledItem) → AreNoted self.old.kept_types kept → IfOk result (λ there.
+            there ≡ what.Value → HasValue kept id.0) }
+        ensures whole { IfOk result (λ there. there ≡ what.Value
+            → IsFilledWhole (types table.now) id (min self.old.limits.depth greatest_depth) body.now) }
+    {
+        let depth = self.limits.depth().min(Limits::GREATEST_DEPTH);
+        if is_filled_whole(table, id, body, depth) {
+            return Ok(self.value_of(id));
+        }
+        self.spend_on(alloc, table, id, body)
+    }
+
+    // A value of the type.
+    fn value_of(&self, id: TypeId) -> There
+        ensures { result ≡ what.Value → (kept : List FilledItem) → AreNoted self.now.kept_types kept
+            → HasValue kept id.0 }
+    {
+        if self.kept_types.has(id) {
+            There::Value
+        } else {
+            There::Other
+        }
+    }
+
+    // The body may be a value of the type only if types are defined in it: how much of it was looked at in vain.
+    fn spend_on(
+        &mut self,
+        alloc: Global,
+        table: &Table,
+        id: TypeId,
+        body: &[u8],
+    ) -> Result<There, Memory>
+        requires { IsReady (types table.now) id }
+        ensures spent { HasSpent self.old self.new }
+        ensures none { IfOk result (λ there. there ≡ what.Value → ⊥) }
     {
         let depth = Limits::GREATEST_DEPTH;
         let mut reader = BodyReader::<SkipBuilder>::new(alloc, id, body.len() as u64, depth)?;
         match reader.push(alloc, table, body) {
-            Ok(Progress::Done { .. }) => Ok(There::Value),
-            Ok(Progress::More) => Ok(There::Nothing),
+            Ok(_) => Ok(There::Nothing),
             Err(Stop::Refused { seen, reason, .. }) => {
                 self.spend(seen as usize);
                 if matches!(reason, Reason::InterfaceValue) {
@@ -225,13 +456,41 @@ impl Search {
         }
     }
 
-    // Whether a definition may stand at the front of the piece, or a value of a type that isn't known.
-    fn may_be_other(&self, table: &Table, piece: &[u8]) -> bool {
-        match number_at(&self.limits, piece, 0) {
-            Some(number) => {
-                number <= -64 || number >= 64 && table.shape_of(TypeId(number as u64)).is_none()
+    // Whether a definition stands at the front of the piece, or maybe a value of a type that isn't known.
+    fn other_there(&self, alloc: Global, table: &Table, piece: &[u8]) -> Result<There, Memory>
+        ensures { IfOk result (λ there. there ≡ what.Value → ⊥) }
+    {
+        match frame_at(&self.limits, piece, 0) {
+            Some(frame) if frame.number <= -64 => {
+                let (items, _) = read_some(alloc, self.limits, piece, 1)?;
+                Ok(other_if(items == 1))
             }
-            None => false,
+            Some(frame) => Ok(other_if(is_unknown(table, frame.number))),
+            None => Ok(There::Nothing),
         }
     }
+}
+
+// An item that is no value of which one was kept, or none.
+fn other_if(is_item: bool) -> There
+    ensures { result ≡ what.Value → ⊥ }
+{
+    if is_item {
+        There::Other
+    } else {
+        There::Nothing
+    }
+}
+
+// Whether it is the number of a type that isn't known, or not all that it leads to.
+fn is_unknown(table: &Table, number: i64) -> bool {
+    number >= 64 && !table.kept(TypeId(number as u64))
+}
+
+// Whether the bytes end at the place, or with a line feed there.
+fn reaches_end(bytes: &[u8], at: usize) -> bool
+    requires { at ≤ length bytes.now }
+    ensures { IsTrue result → ReachesEnd bytes.now at }
+{
+    at == bytes.len() || at + 1 == bytes.len() && bytes[at] == b'\n'
 }

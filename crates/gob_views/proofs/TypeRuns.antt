@@ -18,7 +18,6 @@ use Rattle.gob_stream.specs.Reading.{CountsReads}
 use Rattle.gob_stream.specs.declared.fault.Fault.{Fault}
 use Rattle.gob_stream.specs.declared.fault.Refusal.{Refusal}
 use Rattle.gob_stream.specs.declared.fault.Fault.TheVariants as reading
-use Rattle.gob_stream.specs.Item.{puts}
 use Rattle.gob_stream.proofs.PublicLaws.{whole_item}
 use Rattle.gob_filled.specs.Filled.{filled, no_filling}
 use Rattle.gob_filled.specs.Outcome.{profile}
@@ -26,6 +25,7 @@ use Rattle.gob_filled.specs.Stream.{FilledItem, FilledStream, putting}
 use Rattle.gob_go.specs.Calls.Reader.{EndsWith, HasReadFrom, KnowsTypes, PassesOne, StepsOnFrom, StopsFrom, session_of}
 use Rattle.gob_go.specs.Calls.Reader.{waits_in}
 use Rattle.gob_go.specs.Calls.Session.{HasBodyNext, IsBetweenItems, limits_of, taken_of, types_of}
+use Rattle.gob_go.specs.GoStepping.{go_stepping}
 use Rattle.gob_go.specs.Ids.{defined_ids}
 use Rattle.gob_go.specs.Reading.{LeadsBehind}
 use Rattle.gob_go.specs.Calls.Reader.{GoReader}

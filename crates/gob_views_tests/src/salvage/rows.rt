@@ -15,7 +15,7 @@ pub(crate) struct Row {
     pub is_damaged: bool,
 }
 
-pub(crate) const ROWS: [Row; 15] = [
+pub(crate) const ROWS: [Row; 18] = [
     Row {
         what: "no bytes",
         bytes: "",
@@ -52,11 +52,20 @@ gob: kept 3 items, 48 bytes; left out 1 byte in 1 place",
     },
     Row {
         what: "a count that is too large",
+        bytes: "POINT 07 ff 82 01 2c 01 42 00 70 ff 82 01 2c 01 42 00 07 ff 82 01 02 01 04 00",
+        items: 3,
+        kept: "POINT 07 ff 82 01 2c 01 42 00 07 ff 82 01 02 01 04 00",
+        told: "gob: left out 8 bytes, 40 to 47: Extra at 48
+gob: kept 3 items, 48 bytes; left out 8 bytes in 1 place",
+        is_damaged: true,
+    },
+    Row {
+        what: "a count that is too large, where no value of the type was kept",
         bytes: "POINT 70 ff 82 01 2c 01 42 00 07 ff 82 01 02 01 04 00",
-        items: 2,
-        kept: "POINT 07 ff 82 01 02 01 04 00",
-        told: "gob: left out 8 bytes, 32 to 39: Extra at 40
-gob: kept 2 items, 40 bytes; left out 8 bytes in 1 place",
+        items: 1,
+        kept: "POINT",
+        told: "gob: left out 16 bytes, 32 to 47: Extra at 40
+gob: kept 1 item, 32 bytes; left out 16 bytes in 1 place",
         is_damaged: true,
     },
     Row {
@@ -96,12 +105,21 @@ gob: kept 1 item, 88 bytes; left out 88 bytes in 1 place",
         is_damaged: true,
     },
     Row {
-        what: "another definition of the same type",
+        what: "another encoder's stream, with another type under the id",
         bytes: "POINT 07 ff 82 01 2c 01 42 00 ARRAY 06 ff 82 00 02 02 04",
+        items: 4,
+        kept: "POINT 07 ff 82 01 2c 01 42 00 \
+            0e ff 83 01 01 02 ff 84 00 01 04 01 04 00 00 06 ff 84 00 02 02 04",
+        told: "gob: kept 4 items, 62 bytes; left out nothing",
+        is_damaged: false,
+    },
+    Row {
+        what: "another definition of the same type, and no value",
+        bytes: "POINT 07 ff 82 01 2c 01 42 00 ARRAY",
         items: 2,
         kept: "POINT 07 ff 82 01 2c 01 42 00",
-        told: "gob: left out 22 bytes, 40 to 61: DefinedTwice(65) at 41
-gob: kept 2 items, 40 bytes; left out 22 bytes in 1 place",
+        told: "gob: left out 15 bytes, 40 to 54: DefinedTwice(65) at 41
+gob: kept 2 items, 40 bytes; left out 15 bytes in 1 place",
         is_damaged: true,
     },
     Row {
@@ -133,6 +151,16 @@ gob: kept 2 items, 40 bytes; left out 1 byte in 1 place",
         is_damaged: true,
     },
     Row {
+        what: "a stream behind a line of text, and with a line feed behind it",
+        bytes: "23 21 0a POINT 07 ff 82 01 2c 01 42 00 0a",
+        items: 2,
+        kept: "POINT 07 ff 82 01 2c 01 42 00",
+        told: "gob: left out 3 bytes, 0 to 2: ReservedType(17) at 1
+gob: left out 1 byte, 43 to 43: Ended at 44
+gob: kept 2 items, 40 bytes; left out 4 bytes in 2 places",
+        is_damaged: true,
+    },
+    Row {
         what: "a lost definition",
         bytes: "07 ff 82 01 2c 01 42 00",
         items: 0,
@@ -143,11 +171,11 @@ gob: kept 0 items, 0 bytes; left out 8 bytes in 1 place",
     },
     Row {
         what: "a value in an interface",
-        bytes: "0a 10 00 03 69 6e 74 04 02 00 0a 00 03 04 00 06 03 04 00 08",
-        items: 3,
-        kept: "0a 10 00 03 69 6e 74 04 02 00 0a 03 04 00 06 03 04 00 08",
+        bytes: "0a 10 00 03 69 6e 74 04 02 00 0a 00 0a 10 00 03 69 6e 74 04 02 00 08",
+        items: 2,
+        kept: "0a 10 00 03 69 6e 74 04 02 00 0a 0a 10 00 03 69 6e 74 04 02 00 08",
         told: "gob: left out 1 byte, 11 to 11: Short at 12
-gob: kept 3 items, 19 bytes; left out 1 byte in 1 place",
+gob: kept 2 items, 22 bytes; left out 1 byte in 1 place",
         is_damaged: true,
     },
     Row {

@@ -84,7 +84,7 @@ fn ints_apart(alloc: Global, count: usize) -> Result<Vec<u8>, AllocError> {
     Ok(bytes)
 }
 
-// Where no type is known, so few values show nothing, so a definition stands in front.
+// So many gaps are told one by one, and how many more there are.
 #[test]
 fn twenty_gaps_are_told(rt: HostRuntime) -> Result<(), Fail> {
     let alloc = rt.alloc();

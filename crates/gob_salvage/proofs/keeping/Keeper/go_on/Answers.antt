@@ -18,8 +18,10 @@ keep-requires-clause-near c =
 pub returns-then-passed-gt0 : goal.returns-then-passed-gt0
 returns-then-passed-gt0 c L h =
     let p = c.pass_values-passed.ensures in
-    on_ok_weaker c.keep.result (λ m. goes_from refl (values_kept c.args.bytes.now h p.passed (p.both (omega arith)).1
-    p.limits p.types (omega arith) m)) c.keep.ensures
+    on_ok_weaker c.keep.result (λ m. goes_from refl refl refl (values_kept c.args.bytes.now h p.passed
+    (p.both (omega arith)).1 p.limits p.types (omega arith) c.keep_values.ensures.limits
+    c.in_ok-keep_values.ensures.noted
+    m)) c.keep.ensures
 
 pub take-requires-clause-keeping : goal.take-requires-clause-keeping
 take-requires-clause-keeping c =
@@ -32,6 +34,6 @@ take-requires-clause-keeping c =
 pub returns : goal.returns
 returns c L h =
     let p = c.pass_values-passed.ensures in
-    on_ok_weaker c.take.result (λ g. goes_from refl g) (c.take.ensures L
+    on_ok_weaker c.take.result (λ g. goes_from refl refl refl g) (c.take.ensures L
     (still_kept c.args.bytes.now (rest_of c.args.bytes.now c.args.self.now.at) h p.passed (omega arith) p.limits
     p.types))

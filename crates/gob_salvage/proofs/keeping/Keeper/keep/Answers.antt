@@ -10,4 +10,7 @@ returns c = record {
   defining = refl;
   gaps = refl;
   ahead = refl;
+  later = refl;
+  in_step = refl;
+  search = refl;
 }

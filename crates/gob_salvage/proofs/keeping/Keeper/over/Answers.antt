@@ -3,8 +3,8 @@ use Rattle.gob_stream.specs.Bounds.{within_trees}
 use Rattle.gob_salvage.proofs.KeepingSteps.{keep_start}
 use Rattle.gob_salvage.proofs.keeping.Keeper.over.Goals as goal
 
-pub returns : goal.returns
-returns c = keep_start c.args.bytes.now c.in_ok-session.ensures.has_read
-    (ap (λ L. within_trees L) c.in_ok-session.ensures.limits) c.new-4.ensures.items c.new-5.ensures.items
-    c.requires
-    c.new-2.ensures.items
+pub returns-clause-keeping : goal.returns-clause-keeping
+returns-clause-keeping c =
+    keep_start c.args.bytes.now c.in_ok-session.ensures.has_read
+    (ap (λ L. within_trees L) c.in_ok-session.ensures.limits) c.new-4.ensures.items c.new-5.ensures.items c.requires
+    c.new-2.ensures.items (ap (λ L. within_trees L) c.new-6.ensures.limits) c.new-6.ensures.noted

@@ -31,14 +31,14 @@ keep-requires-clause-near c =
     let rest = ap length (take_rest c.args.bytes.now c.args.self.now.at) in
     omega (arith, rest, length-drop c.args.self.now.at c.args.bytes.now)
 
-pub returns-in_ok-note-in-Ok : goal.returns-in_ok-note-in-Ok
-returns-in_ok-note-in-Ok c L h =
-    on_ok_weaker c.keep.result (λ m. goes_from refl (item_kept c.args.bytes.now h c.in-Ok.ensures.read
+pub returns-in_ok-keep_item-in-Ok : goal.returns-in_ok-keep_item-in-Ok
+returns-in_ok-keep_item-in-Ok c L h =
+    on_ok_weaker c.keep.result (λ m. goes_from refl refl refl (item_kept c.args.bytes.now h c.in-Ok.ensures.read
     c.in-Ok.ensures.between c.in-Ok.ensures.limits c.in-Ok.ensures.used.0 c.in-Ok.ensures.used.1 refl
     (subst (λ (d : Defined). IsTable (types d)) c.table.ensures c.count-known.ensures.known)
     (c.count-known.ensures.count ∙ ap (λ (d : Defined). definition_count (types d)) c.table.ensures)
     (c.count-count.ensures.count ∙ ap (λ (d : Defined). definition_count (types d)) c.table-in-Ok.ensures)
-    c.in_ok-note-in-Ok.ensures m)) c.keep.ensures
+    c.in_ok-note-in-Ok.ensures c.keep_item.ensures.limits c.in_ok-keep_item-in-Ok.ensures.noted m)) c.keep.ensures
 
 pub leave_out-requires-clause-refused : goal.leave_out-requires-clause-refused
 leave_out-requires-clause-refused c =
@@ -48,5 +48,5 @@ leave_out-requires-clause-refused c =
 pub returns-in-Err-Refused : goal.returns-in-Err-Refused
 returns-in-Err-Refused c L h =
     let at = (goal.at.returns-in-Err-Refused c).In-Err-Refused in
-    on_ok_weaker c.leave_out.result (λ g. goes_from refl g) (c.leave_out.ensures L
+    on_ok_weaker c.leave_out.result (λ g. goes_from refl refl refl g) (c.leave_out.ensures L
     (rw at.in-Err-Refused.field-0-is (refused_next at L h)))

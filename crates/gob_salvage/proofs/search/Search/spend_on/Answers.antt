@@ -1,7 +1,7 @@
 use Rattle.std.proofs.Common.{[]}
 use Rattle.gob_types.specs.Defined.{types}
 use Rattle.gob_read.proofs.PublicLaws.{usable}
-use Rattle.gob_salvage.proofs.search.Search.value_there.Goals as goal
+use Rattle.gob_salvage.proofs.search.Search.spend_on.Goals as goal
 
 pub push-requires : goal.push-requires
 push-requires c =
