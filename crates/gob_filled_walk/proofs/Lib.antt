@@ -1,4 +1,5 @@
 pub mod WalkLaws
 pub mod ShiftLaws
+pub mod LeadLaws
 pub mod ShownLaws
 pub mod LineLaws

@@ -22,9 +22,6 @@ use Rattle.gob_value.specs.Tree as Value
 use Rattle.gob_value.specs.Spelling.{Spells, SpellsEach, SpellsPairs, no_element, element, no_entry, entry}
 use Rattle.gob_value.specs.Top.{IsStruct, at_once, tagged}
 use Rattle.gob_value.specs.Machine.Begins.{BeginsThisNumber}
-use Rattle.gob_read.specs.Held.{PartialPart, in_itself, in_part, not_begun, PartialBody, in_struct, behind_tag}
-use Rattle.gob_read.specs.Held.{PartsBefore, before_element, before_array_element, before_key, before_value}
-use Rattle.gob_read.specs.Held.{before_field, WholeFields, no_whole_field, whole_field}
 use Rattle.gob_read.specs.Weight.{part_count, parts_of_all, parts_of_pairs, parts_of_fields}
 use Rattle.gob_filled.specs.Filled.{Fillings, filled, no_filling, filling, no_definitions}
 use Rattle.gob_go.specs.Machine.WholeFilled.{IsOfKind, Filler, BeginsFilled, BeginsFilledEach, BeginsFilledPairs}
@@ -53,48 +50,14 @@ use Rattle.gob_filled_walk.specs.Reads.{Reads, ReadsTop, ReadsEach, ReadsEntries
 use Rattle.gob_filled_walk.specs.Reads.{reads_slice, reads_array, reads_map, reads_struct, reads_held, reads_at_once}
 use Rattle.gob_filled_walk.specs.Reads.{reads_tagged, no_more, and_element, unfilled_elements, no_entry_more}
 use Rattle.gob_filled_walk.specs.Reads.{and_entry, fields_stop, and_field, BeginsHeld}
+use Rattle.gob_filled_walk.proofs.LeadLaws.{LeadsToPart, LeadsToElements, LeadsToEntries, LeadsToFields, LeadsTo}
+use Rattle.gob_filled_walk.proofs.LeadLaws.{LeadsBehindKey, LeadsBehindDelta, at_struct, at_tagged, begun, first_element}
+use Rattle.gob_filled_walk.proofs.LeadLaws.{other_elements, slice_elements, array_elements, first_key, behind_key}
+use Rattle.gob_filled_walk.proofs.LeadLaws.{map_entries, behind_delta, struct_parts}
 use Rattle.gob_filled_walk.proofs.ShiftLaws.{spliced, before_seam, behind_seam, first_spliced, rest_spliced}
 use Rattle.gob_filled_walk.proofs.ShiftLaws.{first_alike, rest_alike, trans_alike, value_shifts, elements_shift}
 use Rattle.gob_filled_walk.proofs.ShiftLaws.{pairs_shift, fields_shift}
 use Rattle.gob_filled_walk.proofs.ShiftLaws.{Agrees, first_agrees, rest_agrees}
-
--- ---- where parts begin
--- behind these bytes of a value a part of the other type begins, before which so many parts have begun
-pub record LeadsToPart (T : Table) (t : TypeId) (p : List ℕ) (u : TypeId) (n : ℕ) : Type 0 where
-  pub leads : (z : List ℕ) (m w : ℕ) → PartialPart T u z m w → (r : ℕ) × PartialBody T t (p ++ z) (n + m) r
-
--- so does each of so many elements, each of so many keys and elements, and each field
-pub record LeadsToElements (T : Table) (e : TypeId) (count : ℕ) (t : TypeId) (p : List ℕ) (n : ℕ) : Type 0 where
-  pub each : (vs : Trees) (q : List ℕ) → SpellsEach T e vs q → tree_count vs < count
-      → LeadsToPart T t (p ++ q) e (n + parts_of_all vs)
-
-pub record LeadsToEntries (T : Table) (k e : TypeId) (count : ℕ) (t : TypeId) (p : List ℕ) (n : ℕ) : Type 0 where
-  pub keys : (ps : Pairs) (q : List ℕ) → SpellsPairs T k e ps q → pair_count ps < count
-      → LeadsToPart T t (p ++ q) k (n + parts_of_pairs ps)
-  pub values : (ps : Pairs) (x : Tree) (q a : List ℕ) → SpellsPairs T k e ps q → pair_count ps < count
-      → Spells T k x a → LeadsToPart T t (p ++ (q ++ a)) e (n + (parts_of_pairs ps + part_count x))
-
-pub record LeadsToFields (T : Table) (types : List Field) (next : ℕ) (t : TypeId) (p : List ℕ) (n : ℕ) : Type 0 where
-  pub each : (fs : Fields) (now f : ℕ) (e : Field) (a b : List ℕ) → WholeFields T types next now fs a → now ≤ f
-      → slice_get types f ≡ Some e → IsUnsigned (f + 1 - now) b
-      → LeadsToPart T t (p ++ (a ++ b)) e.id (n + parts_of_fields fs)
-
-moved : {T : Table} {t u : TypeId} {p q : List ℕ} {n m : ℕ} → p ≡ q → n ≡ m → LeadsToPart T t p u n
-    → LeadsToPart T t q u m
-moved {T = T} {t = t} {u = u} {q = q} {n = n} e f leads =
-    subst (λ m. LeadsToPart T t q u m) f (subst (λ p. LeadsToPart T t p u n) e leads)
-
-enters : {T : Table} {t u v : TypeId} {k : Kind} {p c : List ℕ} {n m w : ℕ} → LeadsToPart T t p u n → IsOfKind T u k
-    → PartsBefore T k c v m w → LeadsToPart T t (p ++ c) v (n + m)
-enters {T = T} {t = t} {v = v} {p = p} {c = c} {n = n} {m = m} {w = w} leads (s, found, is) before = record {
-  leads = λ z k x part.
-      let here = subst (λ k. PartsBefore T k c v m w) (sym is) before in
-      let r = leads.leads (c ++ z) (m + k) (w + x) (in_part found here part) in (
-        r.0,
-        subst (λ q. PartialBody T t q (n + m + k) r.0) (sym (append_assoc p c z))
-            (subst (λ a. PartialBody T t (p ++ (c ++ z)) a r.0) (sym (add_assoc n m k)) r.1),
-      );
-}
 
 -- ---- what parts show
 -- earlier, where the nils between show null
@@ -143,9 +106,6 @@ both_show {c = c} {d = d} {b = b} {r = r} {g = g} {M = M} {O = O} first then one
 }
 
 -- ---- what is read, part by part
-abbrev pub LeadsTo : Table → (u : TypeId) → TypeId → List ℕ → ℕ → Type 0
-LeadsTo T u t p n = LeadsToPart T t p u n
-
 -- what fills the nils defines nothing
 abbrev pub Plain : Filler → Type 0
 Plain fill = (p : List ℕ) (fs : Fillings) → DefineNothing fs → DefineNothing (fill p fs)
@@ -193,19 +153,52 @@ texts : {a b c d : List ℕ} → a ≡ b → c ≡ d → a ++ c ≡ b ++ d
 texts e f = cc
 
 -- ---- what holds nothing
+abbrev pub unfilled_begins : {T : Table} {u : TypeId} {limit : ℕ} {v : Tree} {b piece rest : List ℕ} → Spells T u v b
+    → depth v ≤ limit → piece ≡ b ++ rest → BeginsFilled T u limit piece rest
+unfilled_begins {v = v} {b = b} spelled within whole = record {
+  value = v;
+  skeleton = b;
+  bytes = b;
+  fill = λ p fs. fs;
+  spelled = spelled;
+  within = within;
+  whole = whole;
+  fills = λ o base L t p left ls fs around most leads deep f. as_they_stand p b o f;
+}
+
+abbrev pub elements_begin : {T : Table} {e : TypeId} {limit count : ℕ} {vs : Trees} {b piece rest : List ℕ}
+    → SpellsEach T e vs b → Value.trees_depth vs ≤ limit → tree_count vs ≡ count → piece ≡ b ++ rest
+    → BeginsFilledEach T e limit count piece rest
+elements_begin {vs = vs} {b = b} spelled within counted whole = record {
+  values = vs;
+  skeleton = b;
+  bytes = b;
+  fill = λ p fs. fs;
+  spelled = spelled;
+  within = within;
+  counted = counted;
+  whole = whole;
+  fills = λ o base L t p q left ls fs around most all before leads sp n deep f. as_they_stand (p ++ q) b o f;
+}
+
+abbrev pub no_entries_begin : (T : Table) (k e : TypeId) (limit : ℕ) (piece : List ℕ)
+    → BeginsFilledPairs T k e limit 0 piece piece
+no_entries_begin T k e limit piece = record {
+  pairs = no_pair;
+  skeleton = [];
+  bytes = [];
+  fill = λ p fs. fs;
+  spelled = no_entry;
+  within = omega arith;
+  counted = refl;
+  whole = refl;
+  fills = λ o base L t p q left ls fs around most all before keys values sp n deep f. as_they_stand (p ++ q) [] o f;
+}
+
 unfilled_shown : {T : Table} {u : TypeId} {limit : ℕ} {v : Tree} {b piece rest : List ℕ} → Spells T u v b
     → depth v ≤ limit → piece ≡ b ++ rest → PartShown T u limit (all_told (value_told T u v)) piece rest
 unfilled_shown {T = T} {u = u} {v = v} {b = b} spelled within whole = record {
-  begins = record {
-    value = v;
-    skeleton = b;
-    bytes = b;
-    fill = λ p fs. fs;
-    spelled = spelled;
-    within = within;
-    whole = whole;
-    fills = λ o base L t p left ls fs around most leads deep f. as_they_stand p b o f;
-  };
+  begins = unfilled_begins spelled within whole;
   nils = nulls;
   shows = unfilled_shows (part_count v) b;
   defines = λ p fs plain. plain;
@@ -216,17 +209,7 @@ unfilled_each : {T : Table} {e : TypeId} {limit count : ℕ} {later : Bool} {vs 
     → SpellsEach T e vs b → Value.trees_depth vs ≤ limit → tree_count vs ≡ count → piece ≡ b ++ rest
     → EachShown T e limit count later (all_told (elements_told later T e vs)) piece rest
 unfilled_each {T = T} {e = e} {later = later} {vs = vs} {b = b} spelled within counted whole = record {
-  begins = record {
-    values = vs;
-    skeleton = b;
-    bytes = b;
-    fill = λ p fs. fs;
-    spelled = spelled;
-    within = within;
-    counted = counted;
-    whole = whole;
-    fills = λ o base L t p q left ls fs around most all before leads sp n deep f. as_they_stand (p ++ q) b o f;
-  };
+  begins = elements_begin spelled within counted whole;
   nils = nulls;
   shows = unfilled_shows (parts_of_all vs) b;
   defines = λ p fs plain. plain;
@@ -254,13 +237,7 @@ element_shown {T = T} {e = e} {limit = limit} {count = count} {later = later} {e
       begins = element_begins e limit (count + 1) count refl piece mid rest h.begins k.begins;
       nils = N;
       shows = both_show {A = LeadsTo T e} {B = LeadsToElements T e count} {C = LeadsToElements T e (count + 1)}
-          (λ t p n leads. moved (append-nil p) (add-zero n) (leads.each no_tree [] no_element (omega arith)))
-          (λ t p n leads. record {
-            each = λ ws q s less. moved (sym (append_assoc p h.begins.skeleton q))
-                (sym (add_assoc n c (parts_of_all ws)))
-                (leads.each (tree v ws) (h.begins.skeleton ++ q) (element h.begins.spelled s) (omega (arith, less)));
-          })
-          h.shows k.shows;
+          (first_element count) (other_elements h.begins.spelled) h.shows k.shows;
       defines = λ p fs plain. h.defines p _ (k.defines _ fs plain);
       text = ap (λ l. comma_if later ++ l)
           (held_text_of_both es fs ∙ texts h.text k.text
@@ -270,17 +247,7 @@ element_shown {T = T} {e = e} {limit = limit} {count = count} {later = later} {e
 no_elements_shown : (T : Table) (e : TypeId) (limit : ℕ) (later : Bool) (piece : List ℕ)
     → EachShown T e limit 0 later (told event.list_ends ∷ []) piece piece
 no_elements_shown T e limit later piece = record {
-  begins = record {
-    values = no_tree;
-    skeleton = [];
-    bytes = [];
-    fill = λ p fs. fs;
-    spelled = no_element;
-    within = omega arith;
-    counted = refl;
-    whole = refl;
-    fills = λ o base L t p q left ls fs around most all before leads sp n deep f. as_they_stand (p ++ q) [] o f;
-  };
+  begins = elements_begin no_element (omega arith) refl refl;
   nils = nulls;
   shows = unfilled_shows 0 [];
   defines = λ p fs plain. plain;
@@ -315,8 +282,7 @@ entry_shown {T = T} {k = k} {e = e} {limit = limit} {count = count} {later = lat
     let others : pairs_json_with N T k e (0 + c + d) ps ≡ pairs_json_with o.nils T k e 0 ps =
     pairs_shift T k e ps N o.nils (0 + c + d) 0
     (trans_alike r (rest_alike d r (d + r) (omega arith) seam) (rest_spliced d h.nils o.nils r)) in
-    let Second : TypeId → List ℕ → ℕ → Type 0 =
-    λ t p n. LeadsToPart T t p e n × LeadsToEntries T k e count t (p ++ b) (n + d) in
+    let Second = LeadsBehindKey T k e count b d in
     let ends = told (event.entry_ends k) ∷ [] in
     let second : held_text (es ++ ends) ≡ compact_text (value_json_with N T e (0 + c) v) ++ 93 ∷ [] =
     held_text_of_both es ends ∙ ap (λ l. l ++ 93 ∷ []) (h.text ∙ ap compact_text (sym value)) in
@@ -328,19 +294,7 @@ entry_shown {T = T} {k = k} {e = e} {limit = limit} {count = count} {later = lat
       begins = pair_begins k e limit (count + 1) count refl piece behind mid rest g.begins h.begins o.begins;
       nils = N;
       shows = both_show {A = LeadsTo T k} {B = Second} {C = LeadsToEntries T k e (count + 1)}
-          (λ t p n leads. moved (append-nil p) (add-zero n) (leads.keys no_pair [] no_entry (omega arith)))
-          (λ t p n leads. (
-            moved refl (ap (λ i. n + i) (zero-add c))
-                (leads.values no_pair x [] a no_entry (omega arith) g.begins.spelled),
-            record {
-              keys = λ qs q s less. moved (regrouped p a b q) (omega arith)
-                  (leads.keys (pair x v qs) (a ++ (b ++ q)) (entry g.begins.spelled h.begins.spelled s)
-                  (omega (arith, less)));
-              values = λ qs y q i s less key. moved (regrouped_more p a b q i) (omega arith)
-                  (leads.values (pair x v qs) y (a ++ (b ++ q)) i (entry g.begins.spelled h.begins.spelled s)
-                  (omega (arith, less)) key);
-            },
-          ))
+          (first_key count) (behind_key g.begins.spelled h.begins.spelled)
           g.shows (both_show {A = LeadsTo T e} {B = LeadsToEntries T k e count} {C = Second}
           (λ t p n leads. leads.0) (λ t p n leads. leads.1) h.shows o.shows);
       defines = λ p fs plain. g.defines p _ (h.defines _ _ (o.defines _ fs plain));
@@ -348,27 +302,11 @@ entry_shown {T = T} {k = k} {e = e} {limit = limit} {count = count} {later = lat
           (held_text_of_both (ks ++ told (event.between k) ∷ (es ++ ends)) fs
           ∙ texts one (o.text ∙ ap (items_text true) (sym others)));
     }
-  where
-    regrouped : (p a b q : List ℕ) → p ++ (a ++ (b ++ q)) ≡ ((p ++ a) ++ b) ++ q
-    regrouped p a b q = sym (append_assoc p a (b ++ q)) ∙ sym (append_assoc (p ++ a) b q)
-
-    regrouped_more : (p a b q i : List ℕ) → p ++ ((a ++ (b ++ q)) ++ i) ≡ ((p ++ a) ++ b) ++ (q ++ i)
-    regrouped_more p a b q i = simp append_assoc
 
 no_entries_shown : (T : Table) (k e : TypeId) (limit : ℕ) (later : Bool) (piece : List ℕ)
     → EntriesShown T k e limit 0 later (told (event.map_ends k) ∷ []) piece piece
 no_entries_shown T k e limit later piece = record {
-  begins = record {
-    pairs = no_pair;
-    skeleton = [];
-    bytes = [];
-    fill = λ p fs. fs;
-    spelled = no_entry;
-    within = omega arith;
-    counted = refl;
-    whole = refl;
-    fills = λ o base L t p q left ls fs around most all before keys values sp n deep f. as_they_stand (p ++ q) [] o f;
-  };
+  begins = no_entries_begin T k e limit piece;
   nils = nulls;
   shows = unfilled_shows 0 [];
   defines = λ p fs plain. plain;
@@ -410,8 +348,7 @@ field_shown {T = T} {types = types} {next = next} {f = f} {limit = limit} {delta
     ap (λ t. value_json_with N T t 0 v) type ∙ value_shifts T e.id v N h.nils 0 0 (first_spliced c h.nils k.nils) in
     let others : fields_json_with N T types (0 + c) ws ≡ fields_json_with k.nils T types 0 ws =
     fields_shift T types ws N k.nils (0 + c) 0 (rest_spliced c h.nils k.nils d) in
-    let Behind : TypeId → List ℕ → ℕ → Type 0 =
-    λ t p n. LeadsToPart T t p e.id n × LeadsToFields T types (f + 1) t (p ++ b) (n + c) in
+    let Behind = LeadsBehindDelta T types e.id f b c in
     let ends = told event.field_ends ∷ [] in
     let inner : held_text (es ++ ends)
     ≡ compact_text (value_json_with N T (field_type (slice_get types f)) 0 v) ++ 93 ∷ [] =
@@ -425,14 +362,7 @@ field_shown {T = T} {types = types} {next = next} {f = f} {limit = limit} {delta
       shows = counted (zero-add (c + d))
           (both_show {A = λ t p n. Unit {0}} {B = Behind} {C = LeadsToFields T types next}
           (λ t p n leads. tt)
-          (λ t p n leads. (
-            leads.each no_field next f e [] g.bytes no_whole_field order here spelled,
-            record {
-              each = λ others now i o x y run low there bytes. moved (regrouped p g.bytes b x y) (omega arith)
-                  (leads.each (field f v others) now i o (g.bytes ++ (b ++ x)) y
-                  (whole_field order here spelled h.begins.spelled run) low there bytes);
-            },
-          ))
+          (behind_delta order here spelled h.begins.spelled)
           (unfilled_shows 0 g.bytes) (both_show {A = LeadsTo T e.id} {B = LeadsToFields T types (f + 1)} {C = Behind}
           (λ t p n leads. leads.0) (λ t p n leads. leads.1) h.shows k.shows));
       defines = λ p fs plain. h.defines _ _ (k.defines _ fs plain);
@@ -443,17 +373,11 @@ field_shown {T = T} {types = types} {next = next} {f = f} {limit = limit} {delta
           (items_text true (fields_json_with N T types (0 + c) ws));
     }
   where
-    regrouped : (p a b x y : List ℕ) → p ++ ((a ++ (b ++ x)) ++ y) ≡ ((p ++ a) ++ b) ++ (x ++ y)
-    regrouped p a b x y = simp append_assoc
-
     counted : {T : Table} {Leads : TypeId → List ℕ → ℕ → Type 0} {c d : ℕ} {b : List ℕ} {fill : Filler}
         {M : ℕ → Data} → c ≡ d → Shows T Leads c b fill M → Shows T Leads d b fill M
     counted {T = T} {Leads = Leads} {b = b} {fill = fill} {M = M} e s = subst (λ n. Shows T Leads n b fill M) e s
 
 -- ---- values with parts
-counted_at : (p c q : List ℕ) → p ++ (c ++ q) ≡ ((p ++ c) ++ []) ++ q
-counted_at p c q = sym (append_assoc p c q) ∙ ap (λ l. l ++ q) (sym (append-nil (p ++ c)))
-
 -- a count, with which the value begins, and its parts
 behind_count : {T : Table} {u : TypeId} {Parts : TypeId → List ℕ → ℕ → Type 0} {d : ℕ} {r : List ℕ} {g : Filler}
     {M : ℕ → Data} (c : List ℕ)
@@ -481,12 +405,7 @@ slice_shown {T = T} {u = u} {e = e} {limit = limit} {count = count} {es = es} {p
     record {
       begins = slice_begins u e limit count is some piece behind rest g h.begins;
       nils = spliced 1 nulls h.nils;
-      shows = behind_count g.bytes
-          (λ t p n leads. record {
-            each = λ ws q s less. moved (counted_at p g.bytes q) (omega arith)
-                (enters leads is (before_element g.spelled s less));
-          })
-          h.shows;
+      shows = behind_count g.bytes (slice_elements is g.spelled) h.shows;
       defines = λ p fs plain. h.defines _ fs plain;
       text = ap (λ l. 91 ∷ l) (h.text ∙ ap (items_text false)
           (sym (elements_shift T e vs (spliced 1 nulls h.nils) h.nils 1 0
@@ -507,12 +426,7 @@ array_shown {T = T} {u = u} {e = e} {limit = limit} {count = count} {es = es} {p
     record {
       begins = array_begins u e limit count count is some refl piece behind rest g h.begins;
       nils = spliced 1 nulls h.nils;
-      shows = behind_count g.bytes
-          (λ t p n leads. record {
-            each = λ ws q s less. moved (counted_at p g.bytes q) (omega arith)
-                (enters leads is (before_array_element g.spelled s less));
-          })
-          h.shows;
+      shows = behind_count g.bytes (array_elements is g.spelled) h.shows;
       defines = λ p fs plain. h.defines _ fs plain;
       text = ap (λ l. 91 ∷ l) (h.text ∙ ap (items_text false)
           (sym (elements_shift T e vs (spliced 1 nulls h.nils) h.nils 1 0
@@ -536,14 +450,7 @@ map_shown {T = T} {u = u} {k = k} {e = e} {limit = limit} {count = count} {es = 
     record {
       begins = map_begins u k e limit count is some piece behind rest g h.begins;
       nils = N;
-      shows = behind_count g.bytes
-          (λ t p n leads. record {
-            keys = λ qs q s less. moved (counted_at p g.bytes q) (omega arith)
-                (enters leads is (before_key g.spelled s less));
-            values = λ qs x q a s less key. moved (counted_at p g.bytes (q ++ a)) (omega arith)
-                (enters leads is (before_value g.spelled s less key));
-          })
-          h.shows;
+      shows = behind_count g.bytes (map_entries is g.spelled) h.shows;
       defines = λ p fs plain. h.defines _ fs plain;
       text = ap (λ l. 91 ∷ l) (h.text ∙ ap (items_text false)
           (sym (pairs_shift T k e ps N h.nils 1 0 (rest_spliced 1 nulls h.nils (parts_of_pairs ps)))
@@ -568,12 +475,7 @@ struct_shown {T = T} {u = u} {types = types} {limit = limit} {es = es} {piece = 
       shows = subst
           (λ n. Shows T (LeadsTo T u) n h.begins.skeleton (λ p fs. h.begins.fill (p ++ []) fs) N) up
           (both_show {A = LeadsTo T u} {B = LeadsToFields T types 0} {C = LeadsTo T u} (λ t p n l. l)
-          (λ t p n leads. record {
-            each = λ others now f e a b run low there bytes.
-                moved (ap (λ l. l ++ (a ++ b)) (sym (append-nil p))) (omega arith)
-                (enters leads is (before_field run low there bytes));
-          })
-          (unfilled_shows 1 []) h.shows);
+          (struct_parts is) (unfilled_shows 1 []) h.shows);
       defines = λ p fs plain. h.defines _ fs plain;
       text = ap (λ l. 91 ∷ l) (h.text ∙ ap (items_text false)
           (sym (fields_shift T types ws N h.nils 1 0 (rest_spliced 1 nulls h.nils d))
@@ -607,17 +509,12 @@ held_shown {T = T} {u = u} {held = held} {limit = limit} {size = size} {es = es}
       nils = λ k. json;
       shows = record {
         there = λ t bytes p left n N fs split leads same more.
-            let here : p ++ [] ≡ p = append-nil p in
-            let part = leads.leads [] 0 0 (in_itself is.1 not_begun) in
-            let place : take (length (p ++ [])) bytes ≡ p ++ [] =
-            ap (λ l. take (length (p ++ [])) l) (split ∙ ap (λ l. l ++ (0 ∷ left)) (sym here))
-            ∙ take-append_seam (p ++ []) (0 ∷ left) in
+            let part = begun bytes p (0 ∷ left) split is leads in
             let length_is : length bytes ≡ length p + length (0 ∷ left) =
             ap length split ∙ length-append p (0 ∷ left) in
-            let size_is : length (p ++ []) ≡ length p = ap length here in
+            let size_is : length (p ++ []) ≡ length p = ap length (append-nil p) in
             then_shown (omega (arith, size_is)) (omega (arith, size_is, length_is))
-            (subst (λ l. PartialBody T t l n part.0) (sym place)
-            (subst (λ m. PartialBody T t (p ++ []) m part.0) (add-zero n) part.1))
+            part.1
             (omega arith) (λ m low high. absurd (omega (arith, low, high))) h.shows
             (ap N (sym (add-zero n)) ∙ same.each 0 (omega arith))
             (earlier (omega (arith, size_is, length-append p (0 ∷ []))) (omega arith)
@@ -648,16 +545,12 @@ struct_top_shown {T = T} {t = t} {es = es} {piece = piece} {rest = rest} found i
     let b = h.begins.skeleton in
     let c = part_count v in
     let N = spliced c h.nils nulls in
-    let leads : LeadsToPart T t [] t 0 =
-    record {
-      leads = λ z m w part. (w, subst (λ n. PartialBody T t z n w) (sym (zero-add m)) (in_struct found is part));
-    } in
     record {
       begins = struct_top found is piece rest h.begins;
       tree = v;
       nils = N;
       shows = filled_shows (at_once found is h.begins.spelled)
-          (h.shows.there t b [] [] 0 N no_filling (sym (append-nil b)) leads (agrees_alone c h.nils)
+          (h.shows.there t b [] [] 0 N no_filling (sym (append-nil b)) (at_struct found is) (agrees_alone c h.nils)
           (none_left (null_behind c h.nils)));
       defines = defines_nothing (h.defines [] no_filling none_defines);
       text = h.text ∙ ap compact_text (sym (value_shifts T t v N h.nils 0 0 (first_spliced c h.nils nulls)));
@@ -672,19 +565,14 @@ tagged_top_shown {T = T} {t = t} {es = es} {piece = piece} {rest = rest} found i
     let b = h.begins.skeleton in
     let c = part_count v in
     let N = spliced c h.nils nulls in
-    let leads : LeadsToPart T t (0 ∷ []) t 0 =
-    record {
-      leads = λ z m w part.
-          (w, subst (λ n. PartialBody T t (0 ∷ z) n w) (sym (zero-add m)) (behind_tag found isnt part));
-    } in
     record {
       begins = tagged_top found isnt piece rest h.begins;
       tree = v;
       nils = N;
       shows = filled_shows (tagged found isnt h.begins.spelled)
           (earlier (omega arith) (omega arith) (λ m low high. absurd (omega (arith, low, high)))
-          (h.shows.there t (0 ∷ b) (0 ∷ []) [] 0 N no_filling (ap (λ l. 0 ∷ l) (sym (append-nil b))) leads
-          (agrees_alone c h.nils) (none_left (null_behind c h.nils))));
+          (h.shows.there t (0 ∷ b) (0 ∷ []) [] 0 N no_filling (ap (λ l. 0 ∷ l) (sym (append-nil b)))
+          (at_tagged found isnt) (agrees_alone c h.nils) (none_left (null_behind c h.nils))));
       defines = defines_nothing (h.defines (0 ∷ []) no_filling none_defines);
       text = h.text ∙ ap compact_text (sym (value_shifts T t v N h.nils 0 0 (first_spliced c h.nils nulls)));
     }
