@@ -1,6 +1,6 @@
 -- What a value says whose nils are filled, where a text is put together for each that it holds.
 use Rattle.std.proofs.Common.{◌≡◌, ◌∙◌, ℕ, zero, suc, ◌+◌, Bool, true, false, List, [], ◌∷◌, ◌++◌}
-use Rattle.std.proofs.Common.{Option, arith, ap, refl, sym, subst, get_or, take, append_assoc, append-nil}
+use Rattle.std.proofs.Common.{Option, Some, None, arith, ap, refl, sym, subst, get_or, take, append_assoc, append-nil}
 use Rattle.std.specs.Prelude.{slice_get}
 use Rattle.std.specs.Borrow.{Bor}
 use Rattle.json.specs.Json.{Json}
@@ -9,10 +9,11 @@ use Rattle.json.specs.Lex.{tokens}
 use Rattle.json.specs.Print.{print}
 use Rattle.json.specs.Tree.{json_tokens}
 use Rattle.gob_types.specs.declared.id.TypeId.{TypeId}
-use Rattle.gob_types.specs.Table.{Table}
-use Rattle.gob_value.specs.Tree.{Tree}
+use Rattle.gob_types.specs.Table.{Table, shape_of}
+use Rattle.gob_value.specs.Tree.{Pairs, Tree}
 use Rattle.gob_value.specs.Top.{SpellsTop}
 use Rattle.gob_read.specs.Held.{PartialBody}
+use Rattle.gob_json.specs.Json.{element_type, key_type}
 use Rattle.gob_tape.specs.Flat.{Flat}
 use Rattle.gob_tape.specs.Meaning.{Means}
 use Rattle.gob_plain.specs.declared.style.Style.{Style}
@@ -20,8 +21,8 @@ use Rattle.gob_plain.specs.declared.fillers.Filler.{Filler}
 use Rattle.gob_plain.specs.declared.go.level.HeldText.{HeldText}
 use Rattle.gob_plain.specs.declared.go.level.OwnText.{OwnText}
 use Rattle.gob_plain.specs.OpaqueText.{content_in}
-use Rattle.gob_plain.specs.Filled.{SaysIn, SaysInWith, shown}
-use Rattle.gob_plain.specs.Plain.{all_null, nils}
+use Rattle.gob_plain.specs.Filled.{SaysListed, SaysValue, SaysValueWith, listed_pairs, shown, shown_pairs, within}
+use Rattle.gob_plain.specs.Plain.{all_null, nils, nils_of_pairs}
 use Rattle.gob_plain.specs.Fillers.{FillerSays}
 use Rattle.gob_plain.specs.Machine.Levels.{LevelSays, held_of, level_of, level_says, name_of, named_json, text_of}
 use Rattle.gob_plain.specs.Machine.Nulls.{all_held, own_json}
@@ -29,8 +30,8 @@ use Rattle.gob_plain.specs.Machine.Parting.{AreParted, none_parted, nothing_part
 use Rattle.gob_plain.specs.Machine.Placing.{AllFit, AreIn, HeldFits, IsTag, filler_in, none_fits, none_left, nothing_in}
 use Rattle.gob_plain.specs.Machine.Placing.{then_fits}
 use Rattle.gob_plain.proofs.LevelLaws.{bare_says}
-use Rattle.gob_plain.proofs.NilLaws.{says_as_much}
-use Rattle.gob_plain.proofs.NullLaws.{all_become, value_held}
+use Rattle.gob_plain.proofs.ListedLaws.{value_as_much}
+use Rattle.gob_plain.proofs.NullLaws.{Becomes, Own, Whole, all_become, listed_held, opened, said_at, value_held}
 use Rattle.gob_plain.proofs.PartingLaws.{AllSay, PartedSay, held_says, none_say, nothing_says, parted_say}
 use Rattle.gob_filled.specs.Filled as spelled
 use Rattle.gob_filled.specs.Filled.{Fillings, filling, no_filling}
@@ -113,7 +114,7 @@ nils_said {tagged = tagged} {style = style} {T = T} {t = t} {b = b}
 -- a text of the value of the tape with what its nils say in it
 abbrev pub TapeText : Style → Table → TypeId → Flat → List (Option Filler) → List ℕ → Type 0
 TapeText style T t tape texts text = (v : Tree) → Means tape v
-    → (j : Json) × SaysInWith (λ k i. FillerSays (slice_get texts (0 + k)) i) style T t v j
+    → (j : Json) × SaysValueWith (λ k i. FillerSays (slice_get texts (0 + k)) i) style T t v j
     × (text ≡ print (json_tokens j)) × (tokens text ≡ json_tokens j)
 
 -- what a level says
@@ -124,24 +125,35 @@ LevelText tagged style T t value level = (w : spelled.Filled) → IsFilled T t v
 -- with what its nulls stand for
 pub own_held : (style : Style) (T : Table) (t : TypeId) (v : Tree) (own : Json) (level : OwnText) (texts : List (Option
     Filler)) (p : PartedSay texts (held_of level))
-    → SaysInWith (λ k i. FillerSays (slice_get texts (0 + k)) i) style T t v own
+    → SaysValueWith (λ k i. FillerSays (slice_get texts (0 + k)) i) style T t v own
     → tokens (text_of level) ≡ json_tokens own
-    → (j : Json) × SaysInWith (λ k i. i ≡ get_or p.said k json.null) style T t v j × LevelSays level j
+    → (j : Json) × SaysValueWith (λ k i. i ≡ get_or p.said k json.null) style T t v j × LevelSays level j
 own_held style T t v own level texts p s e =
-    let S : ℕ → Json = λ k. get_or p.said k json.null in
-    let w = shown style T t v in
-    let h = value_held S (content_in style) T t w own
-    (says_as_much (λ k i. FillerSays (slice_get texts (0 + k)) i) (λ k i. i ≡ own_json (S k)) (content_in style) T t w
-    own (λ k l i q. p.each k i (subst (λ m. FillerSays (slice_get texts m) i) (omega arith) q)) s) in (
-      h.json,
-      h.says,
-      level_says own (all_held p.said) e p.nulls
-          (all_become p.said (nils T t w) (json_tokens own) (json_tokens h.json) h.becomes) h.alike,
-    )
+    by (listed_pairs style v)
+    (value_as_much (λ k i. FillerSays (slice_get texts (0 + k)) i) (Own (said_at p.said)) style T t v own
+    (λ k i q. p.each k i (subst (λ m. FillerSays (slice_get texts m) i) (omega arith) q)) s)
+  where
+    held : (n : ℕ) (j : Json) → Becomes (opened (said_at p.said) n) (json_tokens own) (json_tokens j)
+        → own_json j ≡ own_json own → LevelSays level j
+    held n j becomes alike =
+        level_says own (all_held p.said) e p.nulls (all_become p.said n (json_tokens own) (json_tokens j) becomes) alike
+
+    by : (o : Option Pairs) → SaysListed o (Own (said_at p.said)) style T t v own
+        → (j : Json) × SaysListed o (Whole (said_at p.said)) style T t v j × LevelSays level j
+    by None s =
+        let w = shown style T t v in
+        let h = value_held (said_at p.said) (content_in style) T t w own s in
+        (h.json, h.says, held (nils T t w) h.json h.becomes h.alike)
+    by (Some ps) s =
+        let k = key_type (shape_of T t) in
+        let d = element_type (shape_of T t) in
+        let w = shown_pairs style T k d ps in
+        let h = listed_held (said_at p.said) (content_in style) T k d w own s in
+        (h.json, h.says, held (nils_of_pairs T k d w) h.json h.becomes h.alike)
 
 pub some_said : (style : Style) (T : Table) (t : TypeId) {texts : List (Option Filler)} {all : List (Option HeldText)}
     (level : OwnText) → AreParted all texts (held_of level) → AllSay all → (v : Tree)
-    → (own : Json) × SaysInWith (λ k i. FillerSays (slice_get texts (0 + k)) i) style T t v own
+    → (own : Json) × SaysValueWith (λ k i. FillerSays (slice_get texts (0 + k)) i) style T t v own
     × (text_of level ≡ print (json_tokens own)) × (tokens (text_of level) ≡ json_tokens own)
     → (j : Json) × LevelSays level j
 some_said style T t {texts = texts} level parted all v own =
@@ -164,14 +176,15 @@ pub level_said : {tagged : Bool} {style : Style} {T : Table} {t : TypeId} {value
     → ((v : Tree) → SpellsTop T t v (out-Filled value).skeleton.items → Means tape v)
     → ((v : Tree) → Means tape v → nils ≡ nil_parts 0 v)
     → AreGaps T t (out-Filled value).skeleton.items 0 (out-Filled value).fillings.items gaps
-    → AllFit tagged style T (out-Filled value).fillings.items fillers → AreIn 0 nils gaps fillers all
+    → AllFit tagged (within style) T (out-Filled value).fillings.items fillers → AreIn 0 nils gaps fillers all
     → AreParted all texts (held_of level) → TapeText style T t tape texts (text_of level)
     → LevelText tagged style T t value level
 level_said {tagged = tagged} {style = style} {T = T} {t = t} {value = value} {gaps = gaps} {fillers = fillers}
     {all = all} {texts = texts} level tape nils are fit into parted text _ (is_filled {v = v} {fs = fs} spells a) =
     let means = tape v spells in
     let own = text v means in
-    let n : NilsSaid tagged style T t (out-Filled value).skeleton.items (nil_parts 0 v) fs texts (held_of level) =
+    let n : NilsSaid tagged (within style) T t (out-Filled value).skeleton.items (nil_parts 0 v) fs texts
+    (held_of level) =
     nils_said (subst (λ ns. AreIn 0 ns gaps fillers all) (nils v means) into) are fit a parted in
     let h = own_held style T t v own.0 level texts n.nils own.1 own.3 in (h.0, says_filled spells n.says h.1, h.2)
 
@@ -194,19 +207,17 @@ say_nulls [] = no_nil
 say_nulls (n ∷ ns) = says_null (say_nulls ns)
 
 pub unfilled_says : (tagged : Bool) (style : Style) (T : Table) (t : TypeId) (v : Tree) (j : Json)
-    → SaysFilled tagged style T t (spelled.filled v no_filling) j → SaysIn style T t v j
+    → SaysFilled tagged style T t (spelled.filled v no_filling) j → SaysValue style T t v j
 unfilled_says tagged style T t v j (says_filled {said = said} spells n s) =
-    says_as_much (λ k i. i ≡ get_or said k json.null) all_null (content_in style) T t (shown style T t v) j
-    (λ k l i p. p ∙ nulls_said n k) s
+    value_as_much (λ k i. i ≡ get_or said k json.null) all_null style T t v j (λ k i p. p ∙ nulls_said n k) s
 
 pub says_unfilled : (tagged : Bool) (style : Style) (T : Table) (t : TypeId) (v : Tree) (b : List ℕ) (j : Json)
-    → SpellsTop T t v b → SaysIn style T t v j → SaysFilled tagged style T t (spelled.filled v no_filling) j
+    → SpellsTop T t v b → SaysValue style T t v j → SaysFilled tagged style T t (spelled.filled v no_filling) j
 says_unfilled tagged style T t v b j spells s =
-    let n = say_nulls {tagged = tagged} {style = style} {T = T} {t = t} {b = b} (nil_parts 0 v) in
+    let n = say_nulls {tagged = tagged} {style = within style} {T = T} {t = t} {b = b} (nil_parts 0 v) in
     says_filled spells n
-    (says_as_much all_null (λ k i. i ≡ get_or (nulls (nil_parts 0 v)) k json.null) (content_in style) T t (shown
-    style T t v) j
-    (λ k l i p. p ∙ sym (nulls_said n k)) s)
+    (value_as_much all_null (λ k i. i ≡ get_or (nulls (nil_parts 0 v)) k json.null) style T t v j
+    (λ k i p. p ∙ sym (nulls_said n k)) s)
 
 no_filling_of : {T : Table} {all : List Filling} {fs : Fillings} → all ≡ [] → AreFillings T all fs → fs ≡ no_filling
 no_filling_of e no_fillings = refl
@@ -218,7 +229,7 @@ no_filling_of e (filling_then m a) = absurd (by e)
 -- a text of the value of the tape, where nothing is held
 abbrev pub BareText : Style → Table → TypeId → Flat → List ℕ → Type 0
 BareText style T t tape text = (v : Tree) → Means tape v
-    → (j : Json) × SaysIn style T t v j × (text ≡ print (json_tokens j)) × (tokens text ≡ json_tokens j)
+    → (j : Json) × SaysValue style T t v j × (text ≡ print (json_tokens j)) × (tokens text ≡ json_tokens j)
 
 -- the text of the value of the tape as its level
 pub bare_said : {style : Style} {T : Table} {t : TypeId} {value : Filled} {tape : Flat} (level : OwnText)

@@ -23,7 +23,7 @@ use Rattle.gob_plain.specs.declared.opaque.Content.TheVariants as content
 use Rattle.gob_plain.specs.BigInt.{SaysInt}
 use Rattle.gob_plain.specs.OpaqueText.{SaysContent, Takes}
 use Rattle.gob_plain.specs.Machine.Nulls.{all_held, held_json, left_held, own_json, token_held, with_held}
-use Rattle.gob_plain.specs.Plain.{IsMapOf, SaysBoth, SaysFloat, SaysPattern, SaysWith, SayEachWith}
+use Rattle.gob_plain.specs.Plain.{IsArrayOf, IsMapOf, SaysBoth, SaysFloat, SaysPattern, SaysWith, SayEachWith}
 use Rattle.gob_plain.specs.Plain.{SayFieldsWith, SayMembersWith, SayPairsWith, are_bare, are_named, differ}
 use Rattle.gob_plain.specs.Plain.{entries_json}
 use Rattle.gob_plain.specs.Plain.{has_parts, is_nil, key_texts, may_be_named, members_of, nils, nils_of_each}
@@ -164,7 +164,7 @@ name_full b = by (is_utf8 b)
 -- ---- nils
 
 -- what the first n nils hold
-abbrev opened : (ℕ → Json) → ℕ → List Json
+abbrev pub opened : (ℕ → Json) → ℕ → List Json
 opened S zero = []
 opened S (suc n) = held_json (S 0) ++ opened (λ k. S (suc k)) n
 
@@ -238,10 +238,10 @@ some_before (Some s) (Some more) texts e = (s, refl, more, refl)
 -- ---- values
 
 -- what the nils say in the value's own JSON, and with what they hold
-abbrev Own : (ℕ → Json) → ℕ → Json → Type 0
+abbrev pub Own : (ℕ → Json) → ℕ → Json → Type 0
 Own S k i = i ≡ own_json (S k)
 
-abbrev Whole : (ℕ → Json) → ℕ → Json → Type 0
+abbrev pub Whole : (ℕ → Json) → ℕ → Json → Type 0
 Whole S k i = i ≡ S k
 
 pub record ValueHeld (S : ℕ → Json) (how : Takes) (T : Table) (t : TypeId) (v : Tree) (own : Json) : Type 0 where
@@ -351,8 +351,8 @@ struct_held S how T t fs own h = record {
 }
 
 -- the entries of a map
-record MapHeld (S : ℕ → Json) (how : Takes) (T : Table) (k e : TypeId) (ps : Pairs) (named held : Bool) (own : Json) :
-    Type 0 where
+pub record MapHeld (S : ℕ → Json) (how : Takes) (T : Table) (k e : TypeId) (ps : Pairs) (named held : Bool)
+    (own : Json) : Type 0 where
   pub json : Json
   pub says : IsMapOf named held (λ ms. SayMembersWith (Whole S) how T e ps ms) (λ js. SayPairsWith (Whole S) how T k e
       ps js) json
@@ -601,6 +601,16 @@ mutual
             one.becomes rest.become);
       }
 
+-- an array of [key,element]
+pub listed_held : (S : ℕ → Json) (how : Takes) (T : Table) (k e : TypeId) (ps : Pairs) (own : Json)
+    → IsArrayOf (λ js. SayPairsWith (Own S) how T k e ps js) own → MapHeld S how T k e ps false false own
+listed_held S how T k e ps own s =
+    subst (λ j. MapHeld S how T k e ps false false j) (sym s.1)
+    (entries_held S how T k e ps false s.0 (λ f. absurd (by f)) (pairs_held S how T k e ps s.0 s.2))
+  where
+    by : false ≡ true → ⊥
+    by f = cc
+
 -- ---- with all that is held
 
 abbrev nulls : ℕ → List Json
@@ -639,7 +649,7 @@ nulls_stay hs m (Token.boolean b ∷ ts) = ap (λ (l : List Token). Token.boolea
 nulls_stay hs m (Token.bad ∷ ts) = ap (λ (l : List Token). Token.bad ∷ l) (nulls_stay hs m ts)
 
 -- what is said, and null behind the last
-abbrev said_at : List Json → ℕ → Json
+abbrev pub said_at : List Json → ℕ → Json
 said_at said k = get_or said k json.null
 
 none_said : (k : ℕ) → said_at [] (suc k) ≡ said_at [] k

@@ -1,6 +1,6 @@
 -- A value with the zeros that Go's encoder leaves out: in each struct of it, what the tidy form drops is put back.
 -- (Go's encoding/gob documentation, Encoding Details, on omitted zero values; docs/FORMAT.md, Tidy form; Plain values.)
-use Rattle.std.specs.Prelude.{ℕ, zero, suc, pos, ◌+◌, ◌-◌, min, false, List, [], length, Option, Some, None}
+use Rattle.std.specs.Prelude.{◌≡◌, ℕ, zero, suc, pos, ◌+◌, ◌-◌, min, true, false, List, [], length, Option, Some, None}
 use Rattle.std.specs.Prelude.{slice_get, if◌then◌else◌}
 use Rattle.json.specs.Json.{Json}
 use Rattle.gob_types.specs.declared.basic.Basic.TheVariants as basic
@@ -139,3 +139,41 @@ SaysMapIn N style T k e ps j = SaysMapWith N (content_in style) T k e (shown_pai
 
 abbrev pub SaysStructIn : (ℕ → Json → Type 0) → Style → Table → List Field → Fields → Json → Type 0
 SaysStructIn N style T types fs j = SaysStructWith N (content_in style) T types (shown_fields style T types 0 fs) j
+
+-- ---- a value, and no part of one
+
+-- the pairs of a map that are an array in this style, whatever its keys are
+abbrev pub pairs_of : Tree → Option Pairs
+pairs_of (Value.pairs ps) = Some ps
+pairs_of v = None
+
+abbrev pub listed_pairs : Style → Tree → Option Pairs
+listed_pairs style v = if style.pairs then pairs_of v else None
+
+-- it is such a map
+abbrev pub IsListed : Style → Tree → Type 0
+IsListed style v = (ps : Pairs) × (v ≡ Value.pairs ps) × (style.pairs ≡ true)
+
+-- how many nils the value has then, and what the JSON says of it
+abbrev pub nils_listed : Option Pairs → Style → Table → TypeId → Tree → ℕ
+nils_listed None style T t v = nils_in style T t v
+nils_listed (Some ps) style T t v =
+    nils_of_pairs_in style T (key_type (shape_of T t)) (element_type (shape_of T t)) ps
+
+abbrev pub SaysListed : Option Pairs → (ℕ → Json → Type 0) → Style → Table → TypeId → Tree → Json → Type 0
+SaysListed None N style T t v j = SaysInWith N style T t v j
+SaysListed (Some ps) N style T t v j =
+    SaysPairsIn N style T (key_type (shape_of T t)) (element_type (shape_of T t)) ps j
+
+abbrev pub nils_of_value : Style → Table → TypeId → Tree → ℕ
+nils_of_value style T t v = nils_listed (listed_pairs style v) style T t v
+
+abbrev pub SaysValueWith : (ℕ → Json → Type 0) → Style → Table → TypeId → Tree → Json → Type 0
+SaysValueWith N style T t v j = SaysListed (listed_pairs style v) N style T t v j
+
+abbrev pub SaysValue : Style → Table → TypeId → Tree → Json → Type 0
+SaysValue style T t v j = SaysValueWith all_null style T t v j
+
+-- the style of what a value holds
+abbrev pub within : Style → Style
+within style = record { zeros = style.zeros; raw = style.raw; taken = style.taken; pairs = false }

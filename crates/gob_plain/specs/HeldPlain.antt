@@ -13,7 +13,7 @@ use Rattle.gob_value.specs.Top.{SpellsTop}
 use Rattle.gob_read.specs.Held.{PartialBody}
 use Rattle.gob_read.specs.Weight.{part_count}
 use Rattle.gob_plain.specs.declared.style.Style.{Style}
-use Rattle.gob_plain.specs.Filled.{SaysInWith}
+use Rattle.gob_plain.specs.Filled.{SaysValueWith, within}
 use Rattle.gob_plain.specs.Plain.{name_text}
 use Rattle.gob_filled.specs.Filled.{Definitions, Filled, filled, Fillings, no_filling, filling}
 
@@ -46,19 +46,18 @@ tagged_json false name i = i
 
 mutual
   -- the JSON says the value of the type in this style: its nils, in their order, say this
-  pub data SaysFilled (tagged : Bool) (style : Style) (T : Table) : TypeId → Filled → Json → Type 0 where
-    says_filled : {t : TypeId} {v : Tree} {fs : Fillings} {b : List ℕ} {said : List Json} {j : Json}
-        → SpellsTop T t v b → NilsSay tagged style T t b (nil_parts 0 v) fs said
-        → SaysInWith (λ k i. i ≡ get_or said k json.null) style T t v j → SaysFilled tagged style T t (filled v fs) j
+  pub data SaysFilled (tagged : Bool) : Style → Table → TypeId → Filled → Json → Type 0 where
+    says_filled : {style : Style} {T : Table} {t : TypeId} {v : Tree} {fs : Fillings} {b : List ℕ} {said : List Json}
+        {j : Json} → SpellsTop T t v b → NilsSay tagged (within style) T t b (nil_parts 0 v) fs said
+        → SaysValueWith (λ k i. i ≡ get_or said k json.null) style T t v j → SaysFilled tagged style T t (filled v fs) j
 
   -- the nils that are the parts of these numbers, in a value that is spelled so, say this: one in which a filling
   -- stands what that has it hold, and any other null; each filling stands in one of them
-  pub data NilsSay (tagged : Bool) (style : Style) (T : Table) : TypeId → List ℕ → List ℕ → Fillings → List Json
-      → Type 0 where
-    no_nil : {t : TypeId} {b : List ℕ} → NilsSay tagged style T t b [] no_filling []
-    says_null : {t : TypeId} {b ns : List ℕ} {n : ℕ} {fs : Fillings} {said : List Json}
+  pub data NilsSay (tagged : Bool) : Style → Table → TypeId → List ℕ → List ℕ → Fillings → List Json → Type 0 where
+    no_nil : {style : Style} {T : Table} {t : TypeId} {b : List ℕ} → NilsSay tagged style T t b [] no_filling []
+    says_null : {style : Style} {T : Table} {t : TypeId} {b ns : List ℕ} {n : ℕ} {fs : Fillings} {said : List Json}
         → NilsSay tagged style T t b ns fs said → NilsSay tagged style T t b (n ∷ ns) fs (json.null ∷ said)
-    says_held : {t u : TypeId} {b ns name : List ℕ} {n raws place : ℕ} {ds : Definitions} {w : Filled} {fs : Fillings}
-        {i : Json} {said : List Json} → PartialBody T t (take place b) n raws → SaysFilled tagged style T u w i
-        → NilsSay tagged style T t b ns fs said
+    says_held : {style : Style} {T : Table} {t u : TypeId} {b ns name : List ℕ} {n raws place : ℕ} {ds : Definitions}
+        {w : Filled} {fs : Fillings} {i : Json} {said : List Json} → PartialBody T t (take place b) n raws
+        → SaysFilled tagged style T u w i → NilsSay tagged style T t b ns fs said
         → NilsSay tagged style T t b (n ∷ ns) (filling place name ds u w fs) (tagged_json tagged name i ∷ said)

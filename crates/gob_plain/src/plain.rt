@@ -1,15 +1,16 @@
 //! The plain JSON of a value that a tape means, written part by part as the views show it.
 
-ghost use Rattle.std.specs.Prelude.{◌≡◌, true};
+ghost use Rattle.std.specs.Prelude.{◌≡◌, true, MatchBool, None};
 ghost use Rattle.gob_types.specs.Defined.{types};
 ghost use Rattle.gob_types.specs.Table.{shape_of};
 ghost use Rattle.gob_json.specs.Json.{element_type, key_type};
-ghost use Rattle.gob_value.specs.Tree.{Pairs};
+ghost use Rattle.gob_value.specs.Tree.{Pairs, Tree};
 ghost use Rattle.gob_tape.specs.Meaning.{Means};
 ghost use Rattle.gob_tape.specs.Seeing.{Gives, elements, alternating, present};
 ghost use Rattle.gob_plain.specs.Plain.{are_bare};
 ghost use Rattle.gob_plain.specs.Filled.{nils_in, nils_of_each_in, nils_of_map_in, nils_of_members_in};
-ghost use Rattle.gob_plain.specs.Filled.{nils_of_pairs_in, nils_of_fields_in, SaysIn, SaysInWith, SaysElementsIn};
+ghost use Rattle.gob_plain.specs.Filled.{nils_of_pairs_in, nils_of_fields_in, SaysInWith, SaysElementsIn};
+ghost use Rattle.gob_plain.specs.Filled.{listed_pairs, nils_of_value, IsListed, SaysValue, SaysValueWith};
 ghost use Rattle.gob_plain.specs.Filled.{SaysMapIn};
 ghost use Rattle.gob_plain.specs.Filled.{SaysMembersIn, SaysPairsIn, SaysStructIn, SaysTextsIn};
 ghost use Rattle.gob_plain.specs.WritesPlain.{WritesNilsOf, WritesPlainOf, Shows};
@@ -36,7 +37,7 @@ pub fn write_plain(
     style: Style<'_>,
     out: &mut Writer,
 ) -> Result<(), AllocError>
-    ensures { WritesPlainOf result out.old out.new (Means tape.now) (SaysIn style.entry (types table.now) id) }
+    ensures { WritesPlainOf result out.old out.new (Means tape.now) (SaysValue style.entry (types table.now) id) }
 {
     write_plain_with(alloc, id, tape, table, style, &mut Nulls, out)
 }
@@ -54,10 +55,34 @@ pub fn write_plain_with<N: NilTexts>(
 ) -> Result<(), AllocError>
     requires { N.fit nils.old }
     ensures said { WritesNilsOf result out.old out.new (N.says nils.old) (N.says nils.new) (Means tape.now)
-        (nils_in style.entry (types table.now) id) (SaysInWith (N.says nils.old) style.entry (types table.now) id) }
+        (nils_of_value style.entry (types table.now) id)
+        (SaysValueWith (N.says nils.old) style.entry (types table.now) id) }
     ensures fit { N.fit nils.new }
 {
-    write_part(alloc, tape.root(), id, table, style, nils, out)
+    let value = tape.root();
+    if !is_listed(value, style) {
+        return write_part(alloc, value, id, table, style, nils, out);
+    }
+    write_pairs(
+        alloc,
+        value.children(),
+        entry_types(table, id),
+        table,
+        style,
+        nils,
+        out,
+    )
+}
+
+// Whether the value is a map whose pairs are an array in this style, whatever its keys are.
+fn is_listed(value: View<'_>, style: Style<'_>) -> bool
+    ensures { (v : Tree) → Shows value.entry v
+        → MatchBool result (IsListed style.entry v) (listed_pairs style.entry v ≡ None) }
+{
+    match value.kind() {
+        ValueKind::Pairs => style.pairs,
+        _ => false,
+    }
 }
 
 // The types of a map's entries.

@@ -1,5 +1,8 @@
 //! How values are written.
 
+ghost use Rattle.std.specs.Prelude.{◌≡◌};
+ghost use Rattle.gob_plain.specs.Filled.{within};
+
 use crate::opaque::Content;
 use gob_types::TypeId;
 
@@ -22,4 +25,21 @@ pub struct Style<'a> {
     /// What the values of these types are, over any guess and over `raw`. Of what is said of a type twice the later
     /// counts.
     pub taken: &'a [Taken],
+    /// Whether the pairs of a value that is a map are an array of `[key,element]`, whatever its keys are. Maps within a
+    /// value are written as ever.
+    pub pairs: bool,
+}
+
+impl<'a> Style<'a> {
+    /// The style of what a value holds.
+    pub(crate) fn within(self) -> Style<'a>
+        ensures { result ≡ within self.entry }
+    {
+        Style {
+            zeros: self.zeros,
+            raw: self.raw,
+            taken: self.taken,
+            pairs: false,
+        }
+    }
 }

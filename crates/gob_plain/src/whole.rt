@@ -1,10 +1,11 @@
 //! The text of a value, straight from the bytes that spell it.
 
-ghost use Rattle.std.specs.Prelude.{◌≡◌, [], IfOk, IfSome, string_bytes};
+ghost use Rattle.std.specs.Option.{option_copied};
+ghost use Rattle.std.specs.Prelude.{◌≡◌, [], false, true, IfOk, IfSome, string_bytes};
 ghost use Rattle.json.specs.Lex.{tokens};
 ghost use Rattle.json.specs.Print.{print};
 ghost use Rattle.gob_types.specs.Defined.{types};
-ghost use Rattle.gob_plain.specs.BodyText.{IsBodyText};
+ghost use Rattle.gob_plain.specs.BodyText.{AreNotListed, IsBodyText, IsNoMap};
 ghost use Rattle.gob_plain.specs.declared.visitor.VisitorPlace.TheVariants as places;
 
 use crate::style::Style;
@@ -12,7 +13,7 @@ use crate::text::{ROOM, plain_text, text_of};
 use crate::visitor::{Plain, VisitorPlace};
 use gob_json_writer::tape_of;
 use gob_num::Memory;
-use gob_types::{Shapes, Table, TypeId};
+use gob_types::{Kind, Shape, Shapes, Table, TypeId};
 use gob_value::is_whole;
 use gob_walk::{WalkEnd, walk_whole};
 use json::Writer;
@@ -35,10 +36,9 @@ pub fn plain_text_of(
     ensures { IfOk result (λ found. IfSome found (λ text.
         IsBodyText style.entry (types table.now) id depth body.now (string_bytes text))) }
 {
-    if style.taken.is_empty() {
+    if may_be_told(table, id, style) {
         return Ok(told_text_of(alloc, table, id, body, depth, style)?);
     }
-    // of which type an opaque value is the walk doesn't tell
     if !table.kept(id) {
         return Ok(None);
     }
@@ -49,7 +49,29 @@ pub fn plain_text_of(
     Ok(Some(plain_text(alloc, id, &tape, table, style)?))
 }
 
-// It, as a visitor of the body's parts writes it, where the style says nothing of types.
+// Whether a visitor writes values of this type as they are in this style: it isn't told of which type an opaque value
+// is, nor whether a map is the value or within it.
+fn may_be_told<S: Shapes>(shapes: &S, id: TypeId, style: Style<'_>) -> bool
+    ensures taken { result ≡ true → style.entry.taken.now ≡ [] }
+    ensures listed { result ≡ true → AreNotListed style.entry (S.table shapes.now) id }
+{
+    if !style.taken.is_empty() {
+        return false;
+    }
+    !style.pairs || !is_map(shapes.shape_of(id))
+}
+
+// Whether the shape is that of a map.
+fn is_map(shape: Option<&Shape>) -> bool
+    ensures { result ≡ false → IsNoMap (option_copied shape.entry) }
+{
+    match shape {
+        Some(shape) => matches!(shape.kind, Kind::Map { .. }),
+        None => false,
+    }
+}
+
+// It, as a visitor of the body's parts writes it.
 fn told_text_of<S: Shapes>(
     alloc: Global,
     shapes: &S,
@@ -58,7 +80,8 @@ fn told_text_of<S: Shapes>(
     depth: u64,
     style: Style<'_>,
 ) -> Result<Option<String>, AllocError>
-    requires { style.taken.now ≡ [] }
+    requires taken { style.taken.now ≡ [] }
+    requires listed { AreNotListed style (S.table shapes.now) id }
     ensures { IfOk result (λ found. IfSome found (λ text.
         IsBodyText style.entry (S.table shapes.now) id depth body.now (string_bytes text))) }
 {

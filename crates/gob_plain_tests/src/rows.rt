@@ -108,3 +108,24 @@ an empty map of interfaces | 0e ff 81 04 01 02 ff 82 00 01 10 01 10 00 00 04 ff 
 a map of an interface that holds nothing | 0e ff 81 04 01 02 ff 82 00 01 10 01 10 00 00
 06 ff 82 00 01 00 00 | [[null,null]]
 "#;
+
+/// So of streams whose last value is written in a style that has the pairs of a map as an array.
+pub(crate) const LISTED: &str = r#"
+a text twice | MAP 0a ff 82 00 02 01 61 02 01 61 04 | [["a",1],["a",2]]
+
+texts that are no UTF-8, and the name of one | MAP 10 ff 82 00 03 01 ff 02 04 30 78 66 66 04 01
+fe 06 | [[{"hex":"ff"},1],["0xff",2],[{"hex":"fe"},3]]
+
+a whole number | 0e ff 81 04 01 02 ff 82 00 01 04 01 0c 00 00 07 ff 82 00 01 09 01 78 | [[-5,"x"]]
+
+interfaces that hold nothing | 0e ff 81 04 01 02 ff 82 00 01 10 01 10 00 00 08 ff 82 00 02 00 00 00
+00 | [[null,null],[null,null]]
+
+an empty map | MAP 04 ff 82 00 00 | []
+
+a map in a map | MAP 0f ff 83 04 01 02 ff 84 00 01 0c 01 ff 82 00 00 0a ff 84 00 01 01 78 01 01 61 02 | [["x",{"a":1}]]
+
+maps in a list | MAP 0d ff 83 02 01 02 ff 84 00 01 ff 82 00 00 08 ff 84 00 01 01 01 61 02 | [{"a":1}]
+
+a list of whole numbers | 0c ff 83 02 01 02 ff 84 00 01 04 00 00 06 ff 84 00 02 02 04 | [1,2]
+"#;

@@ -1,7 +1,7 @@
 //! The JSON of values.
 
 use crate::opaque_rows::{OPAQUE, RAW, SAID_BYTES, SAID_FLOAT, SAID_FRACTION};
-use crate::rows::{MAPS, ROWS};
+use crate::rows::{LISTED, MAPS, ROWS};
 use crate::zero_rows::ZEROS;
 use gob_num::Memory;
 use gob_plain::{Content, Style, Taken, plain_text, plain_text_of};
@@ -89,6 +89,7 @@ fn style_of(zeros: bool, raw: bool) -> Style<'static> {
         zeros,
         raw,
         taken: &[],
+        pairs: false,
     }
 }
 
@@ -113,6 +114,18 @@ fn values_have_their_json(rt: HostRuntime) {
         let wrong = wrong(rt.alloc(), rows, style);
         assert!(rt; wrong.is_none(), "{wrong:?}");
     }
+}
+
+#[test]
+fn pairs_of_a_map_are_an_array_where_the_style_has_it_so(rt: HostRuntime) {
+    let style = Style {
+        zeros: false,
+        raw: false,
+        taken: &[],
+        pairs: true,
+    };
+    let wrong = wrong(rt.alloc(), LISTED, style);
+    assert!(rt; wrong.is_none(), "{wrong:?}");
 }
 
 #[test]
@@ -145,6 +158,7 @@ fn values_are_what_is_said(rt: HostRuntime) {
             zeros: false,
             raw: true,
             taken: &taken,
+            pairs: false,
         };
         let wrong = wrong(rt.alloc(), rows, style);
         assert!(rt; wrong.is_none(), "{wrong:?}");

@@ -7,3 +7,8 @@ pub mod VerifyLaws
 pub mod TypeRuns
 pub mod InMemoryLaws
 pub mod RunLaws
+pub mod BareLaws
+pub mod PartStreamLaws
+pub mod EachLaws
+pub mod ReachLaws
+pub mod EachRuns

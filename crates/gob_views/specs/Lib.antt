@@ -6,3 +6,4 @@ pub mod Running
 pub mod Gathering
 pub mod Machine
 pub mod InMemory
+pub mod Each

@@ -2,3 +2,4 @@
 pub mod Lines
 pub mod PartLines
 pub mod Gathered
+pub mod PartStream

@@ -21,6 +21,7 @@ use Rattle.gob_words.specs.Words.{text_of}
 use Rattle.gob_views.specs.declared.types.SourceForm.{SourceForm}
 use Rattle.gob_views.specs.declared.types.SourceForm.TheVariants as form
 use Rattle.gob_views.specs.declared.value_line.ValueLines.{ValueLines}
+use Rattle.gob_views.specs.Each.{EachAnswers}
 use Rattle.gob_views.specs.Sending.{SendsText}
 use Rattle.gob_views.specs.Types.{TypesAnswers}
 use Rattle.gob_views.specs.Values.{ValuesAnswers}
@@ -60,11 +61,18 @@ view_form view = form_by view.main
 abbrev pub version_line : List ℕ
 version_line = codes "gob 0.1.0" ++ 10 ∷ []
 
+-- how the run that prints values ends, where each part of a list or map stands on a line of its own or not
+abbrev pub LinesAnswers : (each : Bool) → ValueLines → Bounds → (bytes : List ℕ) → (now old new : Option (List ℕ))
+    → Result (Unit {0}) ToolFault → Type 0
+LinesAnswers false lines L bytes now old new result = ValuesAnswers lines L bytes now old new result
+LinesAnswers true lines L bytes now old new result = EachAnswers lines L bytes now old new result
+
 -- how the run of this command ends, over an input with these bytes left and an output with the old bytes
 abbrev pub CommandAnswers : ViewCommand → View → (bytes : List ℕ) → (now old new : Option (List ℕ))
     → Result (Unit {0}) ToolFault → Type 0
 CommandAnswers command.Values view bytes now old new result =
-    (lines : ValueLines) × AreLinesOf view lines × ValuesAnswers lines (view_limits view) bytes now old new result
+    (lines : ValueLines) × AreLinesOf view lines
+    × LinesAnswers view.each lines (view_limits view) bytes now old new result
 CommandAnswers command.Types view bytes now old new result =
     TypesAnswers (view_form view) (view_limits view) bytes now old new result
 CommandAnswers command.Why view bytes now old new result = WhyAnswers (view_limits view) bytes now old new result

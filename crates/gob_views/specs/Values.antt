@@ -68,6 +68,7 @@ pub record IsStyleOf (lines : ValueLines) (style : Style) : Type 0 where
   pub zeros : style.zeros ≡ lines.zeros
   pub raw : style.raw ≡ lines.raw
   pub taken : AreTaken lines.kinds.now style.taken.now
+  pub pairs : style.pairs ≡ lines.each
 
 -- this is said in the style of the lines
 abbrev pub SaysStyled : ValueLines → (Style → Json → Type 0) → Json → Type 0

@@ -1,45 +1,48 @@
 //! The lines of a value that stands whole, straight from its bytes.
 
-ghost use Rattle.std.specs.Prelude.{◌≡◌, ◌<◌, ◌≤◌, ◌++◌, ◌∷◌, [], ℕ, List, true, drop, length, IfOk, IfSome, MatchBool};
-ghost use Rattle.std.specs.Str.{is_utf8};
+ghost use Rattle.std.specs.Prelude.{◌≡◌, ◌<◌, ◌≤◌, ◌+◌, ◌++◌, ◌∷◌, [], ℕ, List, true, drop, length};
+ghost use Rattle.std.specs.Prelude.{IfOk, IfSome, MatchBool, None, OnOk, string_bytes};
 ghost use Rattle.gob_num.specs.Unsigned.{IsUnsigned};
+ghost use Rattle.json.specs.Json.{Json};
+ghost use Rattle.json.specs.Lex.{tokens};
+ghost use Rattle.json.specs.Print.{print};
+ghost use Rattle.json.specs.Tree.{json_tokens};
 ghost use Rattle.gob_types.specs.Defined.{types};
-ghost use Rattle.gob_value.specs.Spelling.{Spells};
 ghost use Rattle.gob_value.specs.Top.{SpellsTop};
 ghost use Rattle.gob_value.specs.Tree.{Tree};
-ghost use Rattle.gob_value.specs.WholeParts.{HasElements, HasEntries};
-ghost use Rattle.gob_plain.specs.Plain.{text_bytes};
+ghost use Rattle.gob_plain.specs.Filled.{SaysValue};
 ghost use Rattle.gob_views.specs.Machine.Lines.{AreStyledLines, IsBodyLine};
-ghost use Rattle.gob_views.specs.Machine.PartLines.{ArePartsIn, AreParts, ArePut, HasParts, SaysLines, is_text};
+ghost use Rattle.gob_views.specs.Machine.PartLines.{ArePartsIn, AreParts, ArePut, HasParts, HasWholeParts, PrintsEach};
+ghost use Rattle.gob_views.specs.Machine.PartLines.{SaysLines};
 
 use crate::value_line::{ValueLines, is_chosen, push_lines, style_of, taken_of};
+use gob_json_writer::tape_of;
 use gob_num::{Memory, write_uint};
-use gob_plain::{Style, plain_text_of};
+use gob_plain::{Style, plain_text, plain_text_of};
 use gob_stream::{Limits, Whole};
-use gob_types::{Basic, Kind, Shapes, Table, TypeId};
+use gob_types::{Kind, Shapes, Table, TypeId};
 use gob_value::{WholeParts, is_whole, number_at, whole_elements, whole_entries};
 use std::alloc::Global;
-use std::str;
 
-// Elements go together from so many bytes.
+// Parts go together from so many bytes.
 const GROUP: usize = 4096;
 
 /// How the values of a type are printed.
 #[derive(Clone, Copy)]
-struct TypeLines<'t, 'l, 's> {
+pub(crate) struct TypeLines<'t, 'l, 's> {
     /// The types of the stream so far.
-    table: &'t Table,
+    pub(crate) table: &'t Table,
     /// The type.
-    id: TypeId,
+    pub(crate) id: TypeId,
     /// What is printed of values.
-    lines: ValueLines<'l>,
+    pub(crate) lines: ValueLines<'l>,
     /// How their JSON is written.
-    style: Style<'s>,
+    pub(crate) style: Style<'s>,
 }
 
 /// What the parts of a value are.
 #[derive(Clone, Copy)]
-enum PartTypes {
+pub(crate) enum PartTypes {
     /// Elements of a slice, of this type.
     Element(TypeId),
     /// Entries of a map.
@@ -53,13 +56,13 @@ enum PartTypes {
 
 /// The parts of a value that are still to come.
 #[derive(Clone, Copy)]
-struct PartsAhead {
+pub(crate) struct PartsAhead {
     /// What they are.
-    parts: PartTypes,
+    pub(crate) parts: PartTypes,
     /// How many there are.
-    count: u64,
+    pub(crate) count: u64,
     /// Where they begin in the body.
-    begin: usize,
+    pub(crate) begin: usize,
 }
 
 /// Makes the lines of the value whose whole item this is, in which no interface holds another, if it is one no deeper
@@ -107,14 +110,18 @@ fn push_parts(
     depth: u64,
     text: &mut Vec<u8>,
 ) -> Result<bool, Memory>
-    requires { text.old.items ≡ [] }
+    requires empty { text.old.items ≡ [] }
+    requires pairs { of.now.style.pairs ≡ of.now.lines.each }
     ensures { IfOk result (λ made. MatchBool made (AreStyledLines of.now.lines of.now.style (types of.now.table.now)
         of.now.id depth body.now text.new.items) (text.new.items ≡ [])) }
 {
+    if !of.lines.each {
+        return Ok(false);
+    }
     if depth == 0 {
         return Ok(false);
     }
-    let Some(all) = parts_in(of, body) else {
+    let Some(all) = parts_behind_tag(of.table, of.id, body) else {
         return Ok(false);
     };
     if push_each(alloc, of, all, body, depth, text)? {
@@ -124,18 +131,15 @@ fn push_parts(
     Ok(false)
 }
 
-/// The parts of the value that the body is, where each of them stands on a line of its own. None says nothing of the
+/// The parts of a list or a map of this type with such a body, or with one that begins so. None says nothing of the
 /// body.
-fn parts_in(of: &TypeLines<'_, '_, '_>, body: &[u8]) -> Option<PartsAhead>
-    ensures { IfSome result (ArePartsIn of.now.lines.each (types of.now.table.now) of.now.id body.now) }
+pub(crate) fn parts_behind_tag(table: &Table, id: TypeId, body: &[u8]) -> Option<PartsAhead>
+    ensures { IfSome result (ArePartsIn (types table.now) id body.now) }
 {
-    if !of.lines.each {
-        return None;
-    }
     let Some(0) = body.first() else {
         return None;
     };
-    let shape = of.table.shape_of(of.id)?;
+    let shape = table.shape_of(id)?;
     let (count, begin) = number_at(body, 1)?;
     match &shape.kind {
         Kind::Slice { elem } => Some(PartsAhead {
@@ -143,7 +147,7 @@ fn parts_in(of: &TypeLines<'_, '_, '_>, body: &[u8]) -> Option<PartsAhead>
             count,
             begin,
         }),
-        Kind::Map { key, elem } if key.0 != 8 => Some(PartsAhead {
+        Kind::Map { key, elem } => Some(PartsAhead {
             parts: PartTypes::Entry {
                 key: *key,
                 elem: *elem,
@@ -166,7 +170,8 @@ fn push_each(
 ) -> Result<bool, Memory>
     requires empty { text.old.items ≡ [] }
     requires deep { 0 < depth }
-    requires parts { ArePartsIn of.now.lines.each (types of.now.table.now) of.now.id body.now all }
+    requires each { PrintsEach of.now.lines of.now.style }
+    requires parts { ArePartsIn (types of.now.table.now) of.now.id body.now all }
     ensures { IfOk result (λ made. made ≡ true → AreStyledLines of.now.lines of.now.style (types of.now.table.now)
         of.now.id depth body.now text.new.items) }
 {
@@ -182,8 +187,8 @@ fn push_each(
 }
 
 /// Appends the lines of the next of the parts, as many as go together, none deeper than `depth`, and answers which they
-/// are: one at least. None says nothing of them.
-fn push_group(
+/// are: one at least. None says nothing of them, and appends nothing.
+pub(crate) fn push_group(
     alloc: Global,
     of: &TypeLines<'_, '_, '_>,
     ahead: PartsAhead,
@@ -191,107 +196,63 @@ fn push_group(
     depth: u64,
     text: &mut Vec<u8>,
 ) -> Result<Option<WholeParts>, Memory>
-    requires each { of.now.lines.each ≡ true }
-    requires some { 0 < ahead.count }
-    requires within { ahead.begin ≤ length body.now }
-    requires type_is { HasParts (types of.now.table.now) of.now.id ahead.parts }
+    requires { ahead.begin ≤ length body.now }
     ensures few { IfOk result (λ found. IfSome found (λ group. (0 < group.count) × (group.count ≤ ahead.count))) }
-    ensures put { IfOk result (λ found. IfSome found (λ group.
+    ensures inside { IfOk result (λ found. IfSome found (λ group. ahead.begin + group.end ≤ length body.now)) }
+    ensures none { IfOk result (λ found. found ≡ None → text.new.items ≡ text.old.items) }
+    ensures put { PrintsEach of.now.lines of.now.style → HasParts (types of.now.table.now) of.now.id ahead.parts
+        → IfOk result (λ found. IfSome found (λ group.
         ArePut (AreParts of.now.lines of.now.style (types of.now.table.now) of.now.id depth ahead.parts)
         (drop ahead.begin body.now) group.count group.end text.old.items text.new.items)) }
 {
+    if ahead.count == 0 {
+        return Ok(None);
+    }
     let bytes = &body[ahead.begin..];
-    let group = match ahead.parts {
-        PartTypes::Element(elem) => next_elements(of.table, elem, ahead.count, bytes, depth),
-        PartTypes::Entry { key, elem } => next_entry(of.table, key, elem, bytes, depth),
-    };
+    let group = next_parts(of.table, ahead.parts, ahead.count, bytes, depth);
     if group.count == 0 {
         return Ok(None);
     }
-    if push_parts_alone(alloc, of, group.count, &bytes[..group.end], text)? {
-        return Ok(Some(group));
-    }
-    Ok(None)
+    push_parts_alone(alloc, of, group.count, &bytes[..group.end], text)?;
+    Ok(Some(group))
 }
 
-/// The elements that stand whole at the front of the bytes, none deeper than `depth` and no more than `most`: those in
+/// The parts that stand whole at the front of the bytes, none deeper than `depth` and no more than `most`: those in
 /// their first 4096 bytes, or one that is longer.
-fn next_elements(table: &Table, elem: TypeId, most: u64, bytes: &[u8], depth: u64) -> WholeParts
+fn next_parts(table: &Table, parts: PartTypes, most: u64, bytes: &[u8], depth: u64) -> WholeParts
     ensures few { result.count ≤ most }
-    ensures whole { HasElements (types table.now) elem depth result.count bytes.now result.end }
+    ensures inside { result.end ≤ length bytes.now }
+    ensures whole { HasWholeParts (types table.now) parts depth result.count bytes.now result.end }
 {
     let piece = &bytes[..bytes.len().min(GROUP)];
-    let found = whole_elements(table, elem, most, piece, depth);
+    let found = whole_parts(table, parts, most, piece, depth);
     if found.count > 0 {
         return found;
     }
-    whole_elements(table, elem, most.min(1), bytes, depth)
+    whole_parts(table, parts, most.min(1), bytes, depth)
 }
 
-/// The entry that stands whole at the front of the bytes, no deeper than `depth`, if there is one whose key is UTF-8
-/// where it is a text: by any other an object may be an array.
-fn next_entry(table: &Table, key: TypeId, elem: TypeId, bytes: &[u8], depth: u64) -> WholeParts
-    ensures few { result.count ≤ 1 }
-    ensures whole { HasEntries (types table.now) key elem depth result.count bytes.now result.end }
-    ensures utf8 { 0 < result.count → (x : Tree) (b rest : List ℕ) → Spells (types table.now) key x b
-        → bytes.now ≡ b ++ rest → is_utf8 (text_bytes x) ≡ true }
+/// How many parts stand whole at the front of the bytes, none deeper than `depth` and no more than `most`.
+fn whole_parts(table: &Table, parts: PartTypes, most: u64, bytes: &[u8], depth: u64) -> WholeParts
+    ensures few { result.count ≤ most }
+    ensures inside { result.end ≤ length bytes.now }
+    ensures whole { HasWholeParts (types table.now) parts depth result.count bytes.now result.end }
 {
-    if !has_utf8_key(table, key, bytes) {
-        return whole_entries(table, key, elem, 0, bytes, depth);
+    match parts {
+        PartTypes::Element(elem) => whole_elements(table, elem, most, bytes, depth),
+        PartTypes::Entry { key, elem } => whole_entries(table, key, elem, most, bytes, depth),
     }
-    whole_entries(table, key, elem, 1, bytes, depth)
 }
 
-/// Whether the key of the type at the front of the bytes is UTF-8, where it is a text.
-fn has_utf8_key(table: &Table, key: TypeId, bytes: &[u8]) -> bool
-    ensures { result ≡ true → (x : Tree) (b rest : List ℕ) → Spells (types table.now) key x b → bytes.now ≡ b ++ rest
-        → is_utf8 (text_bytes x) ≡ true }
-{
-    if !is_text(table.basic_of(key)) {
-        return true;
-    }
-    has_utf8(bytes)
-}
-
-/// Whether this is the type of texts.
-fn is_text(basic: Option<Basic>) -> bool
-    ensures { result ≡ is_text basic }
-{
-    matches!(basic, Some(Basic::Str))
-}
-
-/// Whether the text at the front of the bytes, behind its count, is UTF-8.
-fn has_utf8(bytes: &[u8]) -> bool
-    ensures { result ≡ true → (c s rest : List ℕ) → IsUnsigned (length s) c → bytes.now ≡ (c ++ s) ++ rest
-        → is_utf8 s ≡ true }
-{
-    let Some((count, begin)) = number_at(bytes, 0) else {
-        return false;
-    };
-    if count > (bytes.len() - begin) as u64 {
-        return false;
-    }
-    let end = begin + count as usize;
-    is_utf8(&bytes[begin..end])
-}
-
-/// Whether the bytes are UTF-8.
-fn is_utf8(bytes: &[u8]) -> bool
-    ensures { result ≡ is_utf8 bytes.now }
-{
-    str::from_utf8(bytes).is_ok()
-}
-
-/// Appends the lines of the value of the type that has these parts alone, so many of them. False says nothing of them,
-/// and appends nothing.
-fn push_parts_alone(
+/// Appends the lines of the value of the type that has these parts alone, so many of them.
+pub(crate) fn push_parts_alone(
     alloc: Global,
     of: &TypeLines<'_, '_, '_>,
     count: u64,
     parts: &[u8],
     text: &mut Vec<u8>,
-) -> Result<bool, Memory>
-    ensures { IfOk result (λ made. made ≡ true → (v : Tree)
+) -> Result<(), Memory>
+    ensures { OnOk result ((v : Tree)
         → ((c : List ℕ) → IsUnsigned count c → SpellsTop (types of.now.table.now) of.now.id v (0 ∷ (c ++ parts.now)))
         → SaysLines of.now.lines of.now.style (types of.now.table.now) of.now.id v text.old.items text.new.items) }
 {
@@ -299,17 +260,27 @@ fn push_parts_alone(
     body.push(0)?;
     write_uint(alloc, count, &mut body)?;
     body.extend_from_slice(parts)?;
-    let made = plain_text_of(
-        alloc,
-        of.table,
-        of.id,
-        &body,
-        Limits::GREATEST_DEPTH,
-        of.style,
-    )?;
-    let Some(json) = made else {
-        return Ok(false);
-    };
-    push_lines(alloc, json, of.table, of.id, of.lines, text)?;
-    Ok(true)
+    let json = json_of(alloc, of, &body)?;
+    push_lines(alloc, json, of.table, of.id, of.lines, text)
+}
+
+/// The plain JSON of the value of the type that the body is. `Memory` also where it is none.
+fn json_of(alloc: Global, of: &TypeLines<'_, '_, '_>, body: &[u8]) -> Result<String, Memory>
+    ensures said { IfOk result (λ text. (v : Tree) → SpellsTop (types of.now.table.now) of.now.id v body.now
+        → (j : Json) × SaysValue of.now.style (types of.now.table.now) of.now.id v j
+        × (string_bytes text ≡ print (json_tokens j)) × (tokens (string_bytes text) ≡ json_tokens j)) }
+    ensures json { IfOk result (λ text. (j : Json) × (tokens (string_bytes text) ≡ json_tokens j)) }
+{
+    let depth = Limits::GREATEST_DEPTH;
+    let found = plain_text_of(alloc, of.table, of.id, body, depth, of.style)?;
+    if let Some(json) = found {
+        return Ok(json);
+    }
+    if !of.table.kept(of.id) {
+        return Err(Memory);
+    }
+    let tape = tape_of(alloc, of.table, of.id, body)?;
+    // a tape means a value
+    let _depth = tape.depth();
+    Ok(plain_text(alloc, of.id, &tape, of.table, of.style)?)
 }

@@ -17,14 +17,17 @@
 #![tactic(auto)]
 
 mod body_lines;
+mod each;
 mod gathered;
 mod in_memory;
+mod part_stream;
 mod run;
 mod types;
 mod value_line;
 mod values;
 mod verify;
 
+pub use each::run_each;
 pub use gob_plain::Style;
 pub use in_memory::{types_of, values_of};
 pub use run::{limits_of, run_view};

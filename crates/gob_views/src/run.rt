@@ -5,10 +5,13 @@ ghost use Rattle.gob_salvage.specs.Running.{SalvageAnswers};
 ghost use Rattle.gob_stream.specs.Calls.Ends.{failed_reads, failed_writes, reader_of, writer_of};
 ghost use Rattle.gob_tool.specs.Ending.{CountsOnlyWrites};
 ghost use Rattle.gob_tool.specs.Showing.{CountsReadFaults, CountsWriteFaults, IsFlushedSince};
-ghost use Rattle.gob_views.specs.Running.{ViewAnswers, AreLinesOf, CommandAnswers, ShowsBytes, version_line};
-ghost use Rattle.gob_views.specs.Running.{KeptAnswers, in_memory, shows_kept, view_explained, view_form, view_limits};
+ghost use Rattle.gob_views.specs.Running.{AreLinesOf, CommandAnswers, KeptAnswers, LinesAnswers, ShowsBytes};
+ghost use Rattle.gob_views.specs.Running.{ViewAnswers, in_memory, shows_kept, version_line, view_explained, view_form};
+ghost use Rattle.gob_views.specs.Running.{view_limits};
 ghost use Rattle.gob_views.specs.Sending.{SendsText};
+ghost use Rattle.gob_views.specs.declared.value_line.ValueLines.{ValueLines};
 
+use crate::each::run_each;
 use crate::types::{SourceForm, run_types};
 use crate::value_line::ValueLines;
 use crate::values::run_values;
@@ -152,7 +155,7 @@ fn run_command<R: Read, W: Write>(
     ensures unread { view.now.command ≡ ViewCommand.Version → input.new ≡ input.old }
 {
     match view.command {
-        ViewCommand::Values => { run_values(alloc, input, output, limits_of(view), lines_of(view)) }
+        ViewCommand::Values => print_values(alloc, view, input, output),
         ViewCommand::Types => run_types(alloc, input, output, limits_of(view), form_of(view)),
         ViewCommand::Why => run_why(alloc, input, output, limits_of(view), view.input),
         ViewCommand::Explain => {
@@ -170,6 +173,27 @@ fn run_command<R: Read, W: Write>(
             run_rewrite_go(alloc, input, output, limits_of(view), view.hoist)
         }
     }
+}
+
+// Prints the values, and each part of a list or map while its item is read, where it is to stand on a line of its own.
+fn print_values<R: Read, W: Write>(
+    alloc: Global,
+    view: &View<'_>,
+    input: &mut Input<R>,
+    output: &mut Output<W>,
+) -> Result<(), ToolFault>
+    ensures shows { (bytes : List ℕ) → R.remaining (reader_of input.old) ≡ Some bytes
+        → (lines : ValueLines) × AreLinesOf view.now lines
+        × LinesAnswers view.now.each lines (view_limits view.now) bytes (R.remaining (reader_of input.new))
+        (W.contents (writer_of output.old)) (W.contents (writer_of output.new)) result }
+    ensures reads { CountsReadFaults (failed_reads input.old) (failed_reads input.new) result }
+    ensures writes { CountsWriteFaults (failed_writes output.old) (failed_writes output.new) result }
+    ensures flushed { IsFlushedSince (failed_writes output.old) output.new }
+{
+    if view.each {
+        return run_each(alloc, input, output, limits_of(view), lines_of(view));
+    }
+    run_values(alloc, input, output, limits_of(view), lines_of(view))
 }
 
 /// The limits under which a view reads: its depth and item, and else the standard ones.

@@ -41,8 +41,8 @@ pub struct ValueLines<'a> {
     pub typed: bool,
     /// The name or the id of the type whose values alone are printed. None: those of each type are.
     pub only: Option<&'a str>,
-    /// Whether each element of a list, and each pair of a map as `{"key":K,"value":V}`, is printed on a line of its
-    /// own, in place of the whole value.
+    /// Whether each element of a list, and each pair of a map as `{"key":K,"value":V}` by the JSON of both, is printed
+    /// on a line of its own, in place of the whole value.
     pub each: bool,
 }
 
@@ -71,7 +71,7 @@ pub(crate) fn push_filled_line(
 }
 
 /// What is said of types, as values are written by it.
-pub(crate) fn taken_of(alloc: Global, kinds: &[TypeKind]) -> Result<Vec<Taken>, AllocError>
+pub(crate) fn taken_of(alloc: Global, kinds: &[TypeKind]) -> Result<Vec<Taken>, Memory>
     ensures { IfOk result (λ taken. AreTaken kinds.now taken.items) }
 {
     let mut taken = Vec::with_capacity(alloc, kinds.len())?;
@@ -108,6 +108,7 @@ pub(crate) fn style_of<'a>(lines: ValueLines<'_>, taken: &'a [Taken]) -> Style<'
         zeros: lines.zeros,
         raw: lines.raw,
         taken,
+        pairs: lines.each,
     }
 }
 

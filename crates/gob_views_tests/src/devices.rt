@@ -1,13 +1,14 @@
-//! Readers and writers that give and take a byte a call, and fail in one of their calls.
+//! Readers that give some bytes a call, and writers that take one, and fail at a byte.
 
 use std::alloc::Global;
 use std::io;
 use std::io::{ErrorKind, Read, Write};
 
-/// A reader that gives a byte a call, and fails in one of its calls, counted from 0.
+/// A reader that gives so many bytes a call, and fails where one of its bytes is due, counted from 0.
 #[derive(Drop)]
 pub(crate) struct SlowReader {
     pub bytes: Vec<u8>,
+    pub piece: usize,
     pub fails_at: usize,
     pub at: usize,
 }
@@ -17,14 +18,12 @@ impl Read for SlowReader {
         if self.at == self.fails_at {
             return Err(io::Error::from(ErrorKind::Other));
         }
-        match (buf.first_mut(), self.bytes.get(self.at)) {
-            (Some(to), Some(from)) => {
-                *to = *from;
-                self.at = self.at.saturating_add(1);
-                Ok(1)
-            }
-            _ => Ok(0),
-        }
+        let end = self.fails_at.min(self.bytes.len());
+        let left = self.bytes.get(self.at..end).unwrap_or(&[]);
+        let count = left.len().min(self.piece).min(buf.len());
+        buf[..count].copy_from_slice(&left[..count]);
+        self.at = self.at.saturating_add(count);
+        Ok(count)
     }
 }
 

@@ -48,6 +48,7 @@ fn ends(
 fn reader_of(alloc: Global, fails_at: usize) -> Result<SlowReader, AllocError> {
     Ok(SlowReader {
         bytes: bytes_of(alloc, STREAM)?,
+        piece: 1,
         fails_at,
         at: 0,
     })

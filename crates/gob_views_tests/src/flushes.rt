@@ -13,6 +13,7 @@ fn a_line_is_out_before_more_is_read(rt: HostRuntime) -> Result<(), Fail> {
     let alloc = rt.alloc();
     let reader = SlowReader {
         bytes: TWO.to_vec(alloc)?,
+        piece: 1,
         fails_at: usize::MAX,
         at: 0,
     };

@@ -3,12 +3,12 @@ use Rattle.std.proofs.Common.{◌≡◌, ◌∙◌, ℕ, List, [], ◌∷◌, �
 use Rattle.std.proofs.Common.{Result, codes}
 use Rattle.std.specs.Prelude.{OnOk, MatchBool, ⊤}
 use Rattle.std.proofs.lemmas.Result.{on_ok_weaker}
-use Rattle.json.specs.Json.{Json, Items, Members}
+use Rattle.json.specs.Json.{Json, Items}
 use Rattle.json.specs.Json as json
 use Rattle.json.specs.Token.{Token}
 use Rattle.json.specs.Tree.{json_tokens, items_tokens, members_tokens}
 use Rattle.json_parts.specs.Copying.{EndsParts, IsEnd, parts_ended, text_ended}
-use Rattle.json_parts.specs.Parts.{HasLeft, elements, elements_left, entries, entries_left, named, opens, pair_json}
+use Rattle.json_parts.specs.Parts.{HasLeft, elements, elements_left, named, opens, pair_json}
 use Rattle.json_parts.specs.Parts.{pairs, pairs_left, parts_of}
 use Rattle.json_parts.specs.declared.parts.Form.{Form}
 use Rattle.json_parts.specs.declared.parts.Form.TheVariants as form
@@ -55,21 +55,6 @@ no_end {t = t} n i e = subst (λ l. Begins l) e n i
 
 then : (a xs ys : List Token) {b c : List Token} → b ≡ a ++ xs → c ≡ b ++ ys → c ≡ a ++ (xs ++ ys)
 then a xs ys e f = f ∙ ap (λ (l : List Token). l ++ ys) e ∙ append_assoc a xs ys
-
--- a name and JSON, as an object
-pub member_written : (name : List ℕ) (j : Json) (a : List Token) {b c d e f g : List Token}
-    → b ≡ a ++ Token.begin_object ∷ [] → c ≡ b ++ Token.key (codes "key") ∷ [] → d ≡ c ++ Token.string name ∷ []
-    → e ≡ d ++ Token.key (codes "value") ∷ [] → f ≡ e ++ json_tokens j → g ≡ f ++ Token.end_object ∷ []
-    → g ≡ a ++ json_tokens (pair_json (json.array (json.item (json.string name) (json.item j json.no_items))))
-member_written name j a begun keyed named value copied closed =
-    let key = Token.key (codes "key") in
-    let value_key = Token.key (codes "value") in
-    let one = then a (Token.begin_object ∷ []) (key ∷ []) begun keyed in
-    let two = then a (Token.begin_object ∷ key ∷ []) (Token.string name ∷ []) one named in
-    let three = then a (Token.begin_object ∷ key ∷ Token.string name ∷ []) (value_key ∷ []) two value in
-    let four = then a (Token.begin_object ∷ key ∷ Token.string name ∷ value_key ∷ []) (json_tokens j) three copied in
-    then a (Token.begin_object ∷ key ∷ Token.string name ∷ value_key ∷ json_tokens j) (Token.end_object ∷ []) four
-    closed
 
 -- ---- items under names
 
@@ -131,22 +116,14 @@ element_written r out written new begins copied (elements_left (json.item j more
     on_ok_weaker r (λ w. (j, elements more, l, w.0, elements_left more w.1 refl)) (copied j (items_tokens more) e)
 
 pub pair_written : {E : Type 0} (r : Result (Unit {0}) E) {t : Token} {ts : List Token}
-    (out written new : List Token) {left : List Json} → ¬ IsEnd t → ((name : List ℕ) (j : Json) (rest : List Token)
-    → t ∷ ts ≡ Token.key name ∷ (json_tokens j ++ rest) → OnOk r ((written
-    ≡ out ++ json_tokens (pair_json (json.array (json.item (json.string name) (json.item j json.no_items)))))
-    × (new ≡ rest)))
+    (out written new : List Token) {left : List Json} → ¬ IsEnd t
     → ((j : Json) (rest : List Token) → t ∷ ts ≡ json_tokens j ++ rest
     → OnOk r ((written ≡ out ++ json_tokens (pair_json j)) × (new ≡ rest)))
     → HasLeft form.Pairs (t ∷ ts) left → OnOk r (IsPartOf form.Pairs out written new left)
-pair_written r out written new begins member item (pairs_left json.no_items e l) =
+pair_written r out written new begins item (pairs_left json.no_items e l) =
     absurd (no_end {u = Token.end_array} begins tt e)
-pair_written r out written new begins member item (pairs_left (json.item j more) e l) =
+pair_written r out written new begins item (pairs_left (json.item j more) e l) =
     on_ok_weaker r (λ w. (pair_json j, pairs more, l, w.0, pairs_left more w.1 refl)) (item j (items_tokens more) e)
-pair_written r out written new begins member item (entries_left json.no_members e l) =
-    absurd (no_end {u = Token.end_object} begins tt e)
-pair_written r out written new begins member item (entries_left (json.member name j more) e l) =
-    on_ok_weaker r (λ w. (_, entries more, l, w.0, entries_left more w.1 refl))
-    (member name j (members_tokens more) e)
 
 -- where the tokens end no part is left
 pub none_left : {f : Form} {old new : List Token} {left : List Json} → EndsParts old new → HasLeft f old left
@@ -155,18 +132,12 @@ none_left ends (elements_left json.no_items e l) = l
 none_left ends (elements_left (json.item j more) e l) = absurd (no_value j (items_tokens more) ends e)
 none_left ends (pairs_left json.no_items e l) = l
 none_left ends (pairs_left (json.item j more) e l) = absurd (no_value j (items_tokens more) ends e)
-none_left ends (entries_left json.no_members e l) = l
-none_left ends (entries_left (json.member name j more) e l) = absurd (no_member ends e)
-  where
-    no_member : {old new rest : List Token} → EndsParts old new → old ≡ Token.key name ∷ rest → ⊥
-    no_member (text_ended e f) h = subst (λ (l : List Token). Begins l) (sym h ∙ e) (λ x. x)
-    no_member (parts_ended t i e) h = subst (λ (l : List Token). Begins l) (sym h ∙ e) (λ x. x) i
 
 -- ---- where the parts begin
 
 abbrev pub AreOpened : Form → List Token → Json → Type 0
 AreOpened f [] j = ⊥
-AreOpened f (t ∷ ts) j = MatchBool (opens f t) (HasLeft f ts (parts_of f j)) (parts_of f j ≡ j ∷ [])
+AreOpened f (t ∷ ts) j = MatchBool (opens t) (HasLeft f ts (parts_of f j)) (parts_of f j ≡ j ∷ [])
 
 opened : (f : Form) (j : Json) → AreOpened f (json_tokens j) j
 opened form.Elements json.null = refl
@@ -180,8 +151,8 @@ opened form.Pairs (json.boolean b) = refl
 opened form.Pairs (json.number s) = refl
 opened form.Pairs (json.string s) = refl
 opened form.Pairs (json.array js) = pairs_left js refl refl
-opened form.Pairs (json.object ms) = entries_left ms refl refl
+opened form.Pairs (json.object ms) = refl
 
 pub opened_by : (f : Form) (j : Json) {t : Token} {ts : List Token} → json_tokens j ≡ t ∷ ts
-    → MatchBool (opens f t) (HasLeft f ts (parts_of f j)) (parts_of f j ≡ j ∷ [])
+    → MatchBool (opens t) (HasLeft f ts (parts_of f j)) (parts_of f j ≡ j ∷ [])
 opened_by f j e = subst (λ (l : List Token). AreOpened f l j) e (opened f j)

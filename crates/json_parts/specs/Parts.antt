@@ -1,12 +1,12 @@
--- JSON whose parts stand alone: the elements of an array, or the pairs of an object or of an array of pairs. (RFC 8259,
--- sections 4 and 5; docs/FORMAT.md, Plain values: this project's own.)
+-- JSON whose parts stand alone: the elements of an array, or the pairs of an array of pairs. (RFC 8259, section 5;
+-- docs/FORMAT.md, Plain values: this project's own.)
 use Rattle.std.specs.Prelude.{◌≡◌, ℕ, Bool, true, false, List, [], ◌∷◌, codes}
 use Rattle.json.specs.Json.{Json, Items, Members}
 use Rattle.json.specs.Json as json
 use Rattle.json.specs.Lex.{tokens}
 use Rattle.json.specs.Print.{print}
 use Rattle.json.specs.Token.{Token}
-use Rattle.json.specs.Tree.{json_tokens, items_tokens, members_tokens}
+use Rattle.json.specs.Tree.{json_tokens, items_tokens}
 use Rattle.json_parts.specs.declared.parts.Form.{Form}
 use Rattle.json_parts.specs.declared.parts.Form.TheVariants as form
 
@@ -28,16 +28,10 @@ abbrev pub pairs : Items → List Json
 pairs json.no_items = []
 pairs (json.item j js) = pair_json j ∷ pairs js
 
-abbrev pub entries : Members → List Json
-entries json.no_members = []
-entries (json.member name j ms) =
-    pair_json (json.array (json.item (json.string name) (json.item j json.no_items))) ∷ entries ms
-
 -- the parts of this form, in order; JSON that has none of the form is one itself
 abbrev pub parts_of : Form → Json → List Json
 parts_of form.Elements (json.array js) = elements js
 parts_of form.Pairs (json.array js) = pairs js
-parts_of form.Pairs (json.object ms) = entries ms
 parts_of _ j = j ∷ []
 
 -- ---- handed out one behind another
@@ -48,8 +42,6 @@ pub data HasLeft : Form → List Token → List Json → Type 0 where
       → ts ≡ items_tokens js → left ≡ elements js → HasLeft form.Elements ts left
   pairs_left : {ts : List Token} {left : List Json} (js : Items)
       → ts ≡ items_tokens js → left ≡ pairs js → HasLeft form.Pairs ts left
-  entries_left : {ts : List Token} {left : List Json} (ms : Members)
-      → ts ≡ members_tokens ms → left ≡ entries ms → HasLeft form.Pairs ts left
 
 -- the text is the compact text of the JSON, and a reader reads that JSON in it
 pub record IsText (j : Json) (text : List ℕ) : Type 0 where
@@ -66,8 +58,7 @@ pub record IsFirst (f : Form) (ts : List Token) (left : List Json) (text : List 
 
 -- ---- found
 
--- JSON whose first token this is has parts of the form
-abbrev pub opens : Form → Token → Bool
-opens f Token.begin_array = true
-opens form.Pairs Token.begin_object = true
-opens _ _ = false
+-- JSON whose first token this is has parts
+abbrev pub opens : Token → Bool
+opens Token.begin_array = true
+opens _ = false

@@ -2,7 +2,6 @@
 //!
 //! ```text
 //! [{"a":1},[2]]         elements: {"a":1} and [2]
-//! {"a":1,"b":[2]}       pairs: {"key":"a","value":1} and {"key":"b","value":[2]}
 //! [["a",1],[3,[2]]]     pairs: {"key":"a","value":1} and {"key":3,"value":[2]}
 //! ```
 #![tactic(auto)]

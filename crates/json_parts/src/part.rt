@@ -1,7 +1,7 @@
 //! A part of JSON, written.
 
-ghost use Rattle.std.specs.Prelude.{◌≡◌, ◌+◌, ◌<◌, ◌≤◌, ◌^◌, ◌++◌, ◌∷◌, [], ℕ, List, codes, length, OnOk, string_bytes};
-ghost use Rattle.json.specs.Json.{Items, Json, array, item, no_items, object, string as text_json};
+ghost use Rattle.std.specs.Prelude.{◌≡◌, ◌+◌, ◌<◌, ◌≤◌, ◌^◌, ◌++◌, ◌∷◌, [], List, codes, length, OnOk, string_bytes};
+ghost use Rattle.json.specs.Json.{Items, Json, object};
 ghost use Rattle.json.specs.Lex.{tokens};
 ghost use Rattle.json.specs.Print.{IsPrintable, print};
 ghost use Rattle.json.specs.Reads.{token_of};
@@ -37,46 +37,19 @@ pub(crate) fn write_part(
     }
 }
 
-/// Writes the pair whose first token this is: a member of an object, an array of a pair, or what is neither.
+/// Writes the pair whose first token this is: an array of a pair, or what is none.
 fn write_pair(first: Token<'_>, reader: &mut Reader<'_>, out: &mut Writer) -> Result<(), AllocError>
     requires printable { IsPrintable (token_of first) }
     requires few { length reader.old + 1 < 2 ^ 64 }
     ensures before { out.new.before ≡ out.old.before }
-    ensures member { (name : List ℕ) (j : Json) (rest : List SpecToken)
-        → token_of first.entry ∷ reader.old ≡ SpecToken.key name ∷ (json_tokens j ++ rest)
-        → OnOk result ((out.new.tokens
-        ≡ out.old.tokens ++ json_tokens (pair_json (array (item (text_json name) (item j no_items)))))
-        × (reader.new ≡ rest)) }
     ensures item { (j : Json) (rest : List SpecToken) → token_of first.entry ∷ reader.old ≡ json_tokens j ++ rest
         → OnOk result ((out.new.tokens ≡ out.old.tokens ++ json_tokens (pair_json j)) × (reader.new ≡ rest)) }
     ensures no_longer { length reader.new ≤ length reader.old }
 {
     match first {
-        Token::Key(name) => write_member(name, reader, out),
         Token::BeginArray => write_named(reader, out),
         first => copy_value(first, reader, out),
     }
-}
-
-/// Writes the member of this name, whose value comes next, as an object of its name and its value.
-fn write_member(name: &str, reader: &mut Reader<'_>, out: &mut Writer) -> Result<(), AllocError>
-    requires { length reader.old < 2 ^ 64 }
-    ensures before { out.new.before ≡ out.old.before }
-    ensures member { (j : Json) (rest : List SpecToken) → reader.old ≡ json_tokens j ++ rest
-        → OnOk result ((out.new.tokens
-        ≡ out.old.tokens ++ json_tokens (pair_json (array (item (text_json name.now) (item j no_items)))))
-        × (reader.new ≡ rest)) }
-    ensures no_longer { length reader.new ≤ length reader.old }
-{
-    let Some(first) = next_begin(reader) else {
-        return Ok(());
-    };
-    out.begin_object()?;
-    out.key("key")?;
-    out.string(name)?;
-    out.key("value")?;
-    copy_value(first, reader, out)?;
-    out.end_object()
 }
 
 /// Writes the items that come next, up to the end of their array, as members of an object: the first as its key, and

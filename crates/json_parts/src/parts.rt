@@ -17,7 +17,7 @@ use std::alloc::{AllocError, Global};
 pub enum Form {
     /// The elements of an array.
     Elements,
-    /// The members of an object, or the pairs in an array, each as `{"key":K,"value":V}`.
+    /// The pairs in an array, each as `{"key":K,"value":V}`.
     Pairs,
 }
 
@@ -43,7 +43,7 @@ impl<'a> Parts<'a> {
         let Some(first) = reader.next() else {
             return Ok(None);
         };
-        if !opens(form, first) {
+        if !opens(first) {
             return Ok(None);
         }
         Ok(Some(Parts { reader, form }))
@@ -66,13 +66,9 @@ impl<'a> Parts<'a> {
     }
 }
 
-/// Whether JSON whose first token this is has parts of the form.
-fn opens(form: Form, first: Token<'_>) -> bool
-    ensures { result ≡ opens form (token_of first.entry) }
+/// Whether JSON whose first token this is has parts.
+fn opens(first: Token<'_>) -> bool
+    ensures { result ≡ opens (token_of first.entry) }
 {
-    match first {
-        Token::BeginArray => true,
-        Token::BeginObject => matches!(form, Form::Pairs),
-        _ => false,
-    }
+    matches!(first, Token::BeginArray)
 }

@@ -41,4 +41,5 @@ mutual
     nothing_held : {all : List (Option HeldText)} {said : List Json} → HeldSay all said
         → HeldSay (None ∷ all) (json.null ∷ said)
     then_held : {held : HeldText} {i : Json} {all : List (Option HeldText)} {said : List Json}
-        → LevelSays (level_of held) i → HeldSay all said → HeldSay (Some held ∷ all) (named_json (name_of held) i ∷ said)
+        → LevelSays (level_of held) i → HeldSay all said
+        → HeldSay (Some held ∷ all) (named_json (name_of held) i ∷ said)

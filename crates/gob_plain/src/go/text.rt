@@ -70,7 +70,7 @@ fn level_of<'a>(
     if value.fillings.is_empty() {
         return bare_level(alloc, id, value, table, style);
     }
-    let held = all_held(alloc, value, table, style, tagged)?;
+    let held = all_held(alloc, value, table, style.within(), tagged)?;
     let tape = tape_of(alloc, table, id, &value.skeleton)?;
     let gaps = gaps_of(alloc, table, id, &value.skeleton, &value.fillings)?;
     let nils = nils_of(alloc, &tape)?;

@@ -52,6 +52,7 @@ fn style_of(column: usize) -> Style<'static> {
         zeros: column == 4,
         raw: false,
         taken: &[],
+        pairs: false,
     }
 }
 

@@ -4,7 +4,7 @@ use Rattle.json.specs.Json.{Json}
 use Rattle.gob_types.specs.Table.{Table}
 use Rattle.gob_types.specs.declared.id.TypeId.{TypeId}
 use Rattle.gob_value.specs.Whole.{IsWhole}
-use Rattle.gob_plain.specs.Filled.{SaysIn}
+use Rattle.gob_plain.specs.Filled.{SaysValue}
 use Rattle.gob_plain.specs.declared.style.Style.{Style}
 use Rattle.gob_views.specs.Values.{AreLinesBehind, IsLineOf, SaysStyled, line_jsons}
 use Rattle.gob_views.specs.declared.value_line.ValueLines.{ValueLines}
@@ -12,9 +12,9 @@ use Rattle.gob_views.specs.declared.value_line.ValueLines.{ValueLines}
 -- the bytes are a value of the type no deeper than the limit, and this is its line
 abbrev pub IsBodyLine : ValueLines → Table → TypeId → (limit : ℕ) → (bytes line : List ℕ) → Type 0
 IsBodyLine lines T t limit bytes line = (w : IsWhole T t limit bytes)
-    × IsLineOf lines T t (SaysStyled lines (λ style. SaysIn style T t w.value)) line
+    × IsLineOf lines T t (SaysStyled lines (λ style. SaysValue style T t w.value)) line
 
 -- and these are the lines of JSON that says it in this style
 abbrev pub AreStyledLines : ValueLines → Style → Table → TypeId → (limit : ℕ) → (bytes line : List ℕ) → Type 0
 AreStyledLines lines style T t limit bytes line = (w : IsWhole T t limit bytes) × (j : Json)
-    × SaysIn style T t w.value j × AreLinesBehind lines T t (line_jsons lines T t j) [] line
+    × SaysValue style T t w.value j × AreLinesBehind lines T t (line_jsons lines T t j) [] line

@@ -1,22 +1,22 @@
 -- The lines of the parts of a value that stands whole, one part after another. For private clauses.
-use Rattle.std.specs.Prelude.{◌≡◌, ◌≢◌, ℕ, ◌+◌, ◌≤◌, Bool, true, false, List, ◌++◌, All, drop, flat_map, length}
-use Rattle.std.specs.Prelude.{Option, Some}
-use Rattle.json.specs.Json.{Items, Json, Members}
-use Rattle.json_parts.specs.Parts.{elements, entries, pairs}
+use Rattle.std.specs.Prelude.{◌≡◌, ℕ, ◌+◌, ◌≤◌, true, List, ◌∷◌, ◌++◌, All, drop, flat_map, length, take}
+use Rattle.std.specs.Prelude.{Some}
+use Rattle.json.specs.Json.{Items, Json}
+use Rattle.json_parts.specs.Parts.{elements, pairs}
+use Rattle.gob_num.specs.Unsigned.{IsUnsigned}
 use Rattle.gob_types.specs.Table.{Table, shape_of}
-use Rattle.gob_types.specs.declared.basic.Basic.{Basic}
-use Rattle.gob_types.specs.declared.basic.Basic.TheVariants as basic
 use Rattle.gob_types.specs.declared.id.TypeId.{TypeId}
 use Rattle.gob_types.specs.declared.kind.Kind.TheVariants as kind
 use Rattle.gob_types.specs.declared.kind.Shape.{Shape}
 use Rattle.gob_value.specs.Spelling.{SpellsEach, SpellsPairs}
 use Rattle.gob_value.specs.Top.{SpellsTop}
-use Rattle.gob_value.specs.Tree.{Pairs, Tree, Trees, many, no_tree, pair_count, pairs_depth, tree, tree_count}
+use Rattle.gob_value.specs.Tree.{Pairs, Tree, Trees, many, pair_count, pairs_depth, tree_count}
 use Rattle.gob_value.specs.Tree.{trees_depth}
 use Rattle.gob_value.specs.Tree as value
-use Rattle.gob_plain.specs.Filled.{SaysIn, shown_all, shown_pairs}
+use Rattle.gob_value.specs.WholeParts.{HasElements, HasEntries}
+use Rattle.gob_plain.specs.Filled.{SaysValue, shown_all, shown_pairs}
 use Rattle.gob_plain.specs.OpaqueText.{content_in}
-use Rattle.gob_plain.specs.Plain.{SayEachWith, SayMembersWith, SayPairsWith, all_null, are_utf8, gives_names}
+use Rattle.gob_plain.specs.Plain.{SayEachWith, SayPairsWith, all_null}
 use Rattle.gob_plain.specs.declared.style.Style.{Style}
 use Rattle.gob_views.specs.Values.{AreLinesBehind, IsReadBack, json_line, line_jsons}
 use Rattle.gob_views.specs.declared.body_lines.PartTypes.{PartTypes}
@@ -31,12 +31,9 @@ abbrev pub SayElements : Style → Table → TypeId → Trees → List Json → 
 SayElements style T e vs js =
     (items : Items) × SayEachWith all_null (content_in style) T e (shown_all style T e vs) items × (js ≡ elements items)
 
--- these say the entries: those of an object where the keys give names, which are UTF-8 then, else those of an array
-abbrev pub SayEntries : (named : Bool) → Style → Table → (k e : TypeId) → Pairs → List Json → Type 0
-SayEntries true style T k e ps js =
-    (ms : Members) × SayMembersWith all_null (content_in style) T e (shown_pairs style T k e ps) ms × (js ≡ entries ms)
-    × (are_utf8 ps ≡ true)
-SayEntries false style T k e ps js = (items : Items)
+-- these say the entries
+abbrev pub SayEntries : Style → Table → (k e : TypeId) → Pairs → List Json → Type 0
+SayEntries style T k e ps js = (items : Items)
     × SayPairsWith all_null (content_in style) T k e (shown_pairs style T k e ps) items × (js ≡ pairs items)
 
 -- ---- lines of parts
@@ -65,7 +62,7 @@ pub record AreEntries (lines : ValueLines) (style : Style) (T : Table) (t : Type
   pub spelled : SpellsPairs T k e values bytes
   pub within : pairs_depth values ≤ limit
   pub counted : pair_count values ≡ count
-  pub printed : AreLines lines T t (SayEntries (gives_names k) style T k e values) text
+  pub printed : AreLines lines T t (SayEntries style T k e values) text
 
 abbrev pub AreParts : ValueLines → Style → Table → TypeId → (limit : ℕ) → PartTypes → (bytes : List ℕ) → (count : ℕ)
     → (text : List ℕ) → Type 0
@@ -76,18 +73,26 @@ AreParts lines style T t limit (part.Entry k e) bytes count text =
 
 -- ---- one behind another
 
--- so many parts have so many of the bytes, and their lines were appended: with those that follow they are so many more
+-- so many parts have so many of the bytes, and their lines were appended
 pub record ArePut (Are : (bytes : List ℕ) → (count : ℕ) → (text : List ℕ) → Type 0) (bytes : List ℕ) (n size : ℕ)
     (old new : List ℕ) : Type 0 where
-  pub inside : size ≤ length bytes
   pub made : List ℕ
   pub behind : new ≡ old ++ made
-  pub before : (count : ℕ) (more : List ℕ) → Are (drop size bytes) count more → Are bytes (n + count) (made ++ more)
+  pub are : Are (take size bytes) n made
+
+-- each part stands on a line of its own, and JSON is made for that
+abbrev pub PrintsEach : ValueLines → Style → Type 0
+PrintsEach lines style = (lines.each ≡ true) × (style.pairs ≡ true)
 
 -- the lines of JSON that says the value were appended
 abbrev pub SaysLines : ValueLines → Style → Table → TypeId → Tree → (old new : List ℕ) → Type 0
 SaysLines lines style T t v old new =
-    (j : Json) × SaysIn style T t v j × AreLinesBehind lines T t (line_jsons lines T t j) old new
+    (j : Json) × SaysValue style T t v j × AreLinesBehind lines T t (line_jsons lines T t j) old new
+
+-- so many of these parts stand whole at the front of the bytes, up to this end
+abbrev pub HasWholeParts : Table → PartTypes → (limit count : ℕ) → (bytes : List ℕ) → (end : ℕ) → Type 0
+HasWholeParts T (part.Element e) limit count bytes end = HasElements T e limit count bytes end
+HasWholeParts T (part.Entry k e) limit count bytes end = HasEntries T k e limit count bytes end
 
 -- ---- in a value
 
@@ -97,12 +102,11 @@ pub record IsSliceType (T : Table) (t e : TypeId) : Type 0 where
   pub known : shape_of T t ≡ Some shape
   pub is : shape.kind ≡ kind.Slice e
 
--- it is a map of these, whose keys aren't interfaces
+-- it is a map of these
 pub record IsMapType (T : Table) (t k e : TypeId) : Type 0 where
   pub shape : Shape
   pub known : shape_of T t ≡ Some shape
   pub is : shape.kind ≡ kind.Map k e
-  pub held : k.0 ≢ 8
 
 -- its values have these parts
 abbrev pub HasParts : Table → TypeId → PartTypes → Type 0
@@ -116,16 +120,11 @@ EndInParts T t bytes (part.Element e) count begin =
 EndInParts T t bytes (part.Entry k e) count begin = (ps : Pairs) → pair_count ps ≡ count
     → SpellsPairs T k e ps (drop begin bytes) → SpellsTop T t (value.pairs ps) bytes
 
--- each of its parts stands on a line of its own
-pub record ArePartsIn (each : Bool) (T : Table) (t : TypeId) (bytes : List ℕ) (all : PartsAhead) : Type 0 where
-  pub each_is : each ≡ true
+-- the parts of the value that the bytes are
+pub record ArePartsIn (T : Table) (t : TypeId) (bytes : List ℕ) (all : PartsAhead) : Type 0 where
   pub inside : all.begin ≤ length bytes
   pub type_is : HasParts T t all.parts
+  pub counted : List ℕ
+  pub counts : IsUnsigned all.count counted
+  pub whole : bytes ≡ 0 ∷ (counted ++ drop all.begin bytes)
   pub ends : EndInParts T t bytes all.parts all.count all.begin
-
--- ---- keys
-
--- this is the type of texts
-abbrev pub is_text : Option Basic → Bool
-is_text (Some basic.Str) = true
-is_text _ = false

@@ -15,6 +15,7 @@ const KEPT: &[u8] = b"\x03\x04\x00\x06\x03\x04\x00\x08";
 fn reader_of(alloc: Global, fails_at: usize) -> Result<SlowReader, AllocError> {
     Ok(SlowReader {
         bytes: bytes_of(alloc, DAMAGED)?,
+        piece: 1,
         fails_at,
         at: 0,
     })

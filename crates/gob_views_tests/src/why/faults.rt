@@ -45,6 +45,7 @@ fn ends(
 ) -> Result<(Ending, Option<usize>), AllocError> {
     let reader = SlowReader {
         bytes: bytes_of(alloc, row.stream)?,
+        piece: 1,
         fails_at: read_fails_at,
         at: 0,
     };

@@ -1,10 +1,12 @@
 -- Where something is said of types the text is that of a tape.
-use Rattle.std.proofs.Common.{true-eqb, refl}
-use Rattle.std.proofs.lemmas.List.{nil_from_length}
+use Rattle.std.proofs.Common.{refl}
 use Rattle.gob_plain.proofs.whole.plain_text_of.Goals as goal
 
 pub told_text_of-requires : goal.told_text_of-requires
-told_text_of-requires c = nil_from_length c.args.style.taken.now (true-eqb _ 0 c.if-is_empty.ensures)
+told_text_of-requires c = record {
+  taken = c.may_be_told.ensures.taken c.if-may_be_told.true;
+  listed = c.may_be_told.ensures.listed c.if-may_be_told.true;
+}
 
 pub tape_of-requires : goal.tape_of-requires
 tape_of-requires c = c.if-not-kept.ensures.0 refl

@@ -11,6 +11,11 @@ returns-then-not-is_chosen c =
     left_out_body c.args.lines (types c.args.table.now) c.args.item.id c.args.depth c.args.item.body.now _
     c.is_whole.result c.is_whole.ensures c.if-not-is_chosen.ensures c.requires
 
+pub push_parts-requires-clause-pairs : goal.push_parts-requires-clause-pairs
+push_parts-requires-clause-pairs c =
+    (c.style_of-style.ensures (subst (λ (t : List Taken). AreTaken c.args.lines.kinds.now t)
+    (sym c.deref.ensures.value) c.in_ok-taken.ensures)).pairs
+
 pub returns-then-branch : goal.returns-then-branch
 returns-then-branch c =
     let style =

@@ -9,16 +9,14 @@ use Rattle.gob_views.proofs.run.run_command.Goals as goal
 pub returns-in-Values-clause-shows : goal.returns-in-Values-clause-shows
 returns-in-Values-clause-shows g c = λ bytes known.
     let old = g.W.Write.contents (writer_of c.args.output.now) in
-    let new = g.W.Write.contents (writer_of c.run_values.new.output) in
-    let next = g.R.Read.remaining (reader_of c.run_values.new.input) in
-    let view = c.args.view.now in
-    let printed = rw (c.limits_of.ensures, within_view view) at c.run_values.ensures.printed in
-    subst (λ x. CommandAnswers x view bytes next old new c.run_values.result) (sym c.in-Values.is)
-    (c.lines_of.result, c.lines_of.ensures, printed bytes known)
+    let new = g.W.Write.contents (writer_of c.print_values.new.output) in
+    let next = g.R.Read.remaining (reader_of c.print_values.new.input) in
+    subst (λ x. CommandAnswers x c.args.view.now bytes next old new c.print_values.result) (sym c.in-Values.is)
+    (c.print_values.ensures.shows bytes known)
 
 pub returns-in-Types-clause-shows : goal.returns-in-Types-clause-shows
 returns-in-Types-clause-shows g c = λ bytes known.
-    let written = rw (c.limits_of-in-Types.ensures, within_view c.args.view.now, c.form_of.ensures) at
+    let written = rw (c.limits_of.ensures, within_view c.args.view.now, c.form_of.ensures) at
     c.run_types.ensures.written in
     rw c.in-Types.is (written bytes known)
 

@@ -22,5 +22,4 @@ returns-in-Pairs-clause-part c = λ left h.
     let new = c.write_pair.new.reader in
     subst (λ f. HasLeft f (token_of c.args.first ∷ c.args.reader.now) left
     → OnOk c.write_pair.result (IsPartOf f out written new left)) (sym c.in-Pairs.is)
-    (pair_written c.write_pair.result out written new c.requires.begins c.write_pair.ensures.member
-    c.write_pair.ensures.item) h
+    (pair_written c.write_pair.result out written new c.requires.begins c.write_pair.ensures.item) h

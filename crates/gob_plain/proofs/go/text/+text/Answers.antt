@@ -90,7 +90,8 @@ level_of-returns-clause-said t c =
     (subst (λ l. AreIn 0 c.deref-4.result.now l held placed.0) c.deref-5.ensures.value placed.1) in
     level_said {value = c.args.value.now} {texts = texts} c.of.result
     (subst (λ b. (v : Tree) → SpellsTop T id v b → Means tape v) c.deref.ensures.value c.in_ok-tape.ensures)
-    c.in_ok-nils.ensures gaps c.in_ok-held.ensures into
+    c.in_ok-nils.ensures gaps
+    (subst (λ style. AllFit c.args.tagged style T value.fillings.items held) c.within.ensures c.in_ok-held.ensures) into
     (subst (λ l. AreParted placed.0 texts l) (sym c.of.ensures.held)
     (subst (λ l. AreParted placed.0 l c.in_ok-texts.field-0.held.items) (sym c.deref-6.ensures.value) placed.2))
     (subst (TapeText c.args.style T id tape texts) (sym c.of.ensures.text) c.in_ok-text.ensures)
