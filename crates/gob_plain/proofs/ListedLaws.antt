@@ -1,7 +1,8 @@
 -- Values that are written by a style which has the pairs of a map as an array, whatever its keys are.
 use Rattle.std.proofs.Common.{◌≡◌, ◌≢◌, ◌∙◌, ℕ, List, Bool, true, false, Option, Some, None, ap, not, refl, subst, sym}
-use Rattle.std.specs.Prelude.{if◌then◌else◌, MatchBool}
+use Rattle.std.specs.Prelude.{if◌then◌else◌, MatchBool, get_or}
 use Rattle.json.specs.Json.{Json}
+use Rattle.json.specs.Json as json
 use Rattle.gob_types.specs.declared.id.TypeId.{TypeId}
 use Rattle.gob_types.specs.declared.kind.Kind.{Kind}
 use Rattle.gob_types.specs.declared.kind.Kind.TheVariants as kinds
@@ -18,7 +19,9 @@ use Rattle.gob_plain.specs.declared.style.Style.{Style}
 use Rattle.gob_plain.specs.BodyText.{AreNotListed, IsNoMap}
 use Rattle.gob_plain.specs.OpaqueText.{content_in}
 use Rattle.gob_plain.specs.Filled.{IsListed, SaysInWith, SaysListed, SaysValueWith, listed_pairs, pairs_of, shown}
-use Rattle.gob_plain.specs.Filled.{shown_pairs}
+use Rattle.gob_plain.specs.Filled.{shown_pairs, within}
+use Rattle.gob_plain.specs.HeldPlain.{SaysFilled, says_filled}
+use Rattle.gob_filled.specs.Filled.{Filled}
 use Rattle.gob_json.specs.Json.{element_type, key_type}
 use Rattle.gob_plain.proofs.NilLaws.{pairs_as_much, says_as_much}
 
@@ -115,3 +118,10 @@ value_as_much M N style T t v j f = by (listed_pairs style v)
           s.1,
           pairs_as_much M N (content_in style) T k e (shown_pairs style T k e ps) s.0 (λ k l i p. f k i p) s.2,
         )
+
+-- what is said of a value that is no such map, in the style of what a value holds
+pub said_as_held : (tags : Bool) (style : Style) (T : Table) (t : TypeId) {w : Filled} {j : Json}
+    → AreNotListed style T t → SaysFilled tags (within style) T t w j → SaysFilled tags style T t w j
+said_as_held tags style T t none (says_filled {v = v} {b = b} {said = said} {j = j} spells n s) =
+    says_filled spells n
+    (said_as_ever (λ k i. i ≡ get_or said k json.null) style T t v j (none v b spells) s)

@@ -223,7 +223,7 @@ mutual
   filled_nils T t Value.nil = refl
   filled_nils T t (Value.opaque b) = refl
 
-  each_filled_nils : (T : Table) (e : TypeId) (vs : Trees)
+  pub each_filled_nils : (T : Table) (e : TypeId) (vs : Trees)
       → nils_of_each T e (all_filled T e vs) ≡ nils_of_each T e vs
   each_filled_nils T e no_tree = refl
   each_filled_nils T e (tree v vs) = as_many (filled_nils T e v) (each_filled_nils T e vs)

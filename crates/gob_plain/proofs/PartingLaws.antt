@@ -23,7 +23,7 @@ use Rattle.gob_plain.specs.Machine.Parting.{nothing_parted, text_parted, then_pa
 -- ---- texts
 
 -- JSON is known by its tokens
-json_one : (j k : Json) → json_tokens j ≡ json_tokens k → j ≡ k
+pub json_one : (j k : Json) → json_tokens j ≡ json_tokens k → j ≡ k
 json_one j k e =
     ap (λ (p : Json × List Token). p.0)
     (some_injective (sym (value-json_tokens j (depth j + depth k) [] (omega arith))

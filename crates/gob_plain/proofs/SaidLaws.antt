@@ -70,55 +70,57 @@ module _ (style : Style) (T : Table) (unsaid : style.taken.now ≡ []) where
       → LeafSaid (λ j. SaysContent (content_of style.raw s) b j) es ts
   raw_says (said.says_raw j {ts = ts} p q) = record { said = j; says = p; rest = ts; left = q; whole = refl }
 
-  list_says : {es : List Event} {ts : List Token} → Saying (list_begins ∷ es) ts → Left es (Token.begin_array ∷ []) ts
+  pub list_says : {es : List Event} {ts : List Token} → Saying (list_begins ∷ es) ts
+      → Left es (Token.begin_array ∷ []) ts
   list_says (said.says_list {ts = ts} q) = record { rest = ts; left = q; whole = refl }
 
-  element_says : {later : Bool} {es : List Event} {ts : List Token} → Saying (element later ∷ es) ts → Saying es ts
+  pub element_says : {later : Bool} {es : List Event} {ts : List Token} → Saying (element later ∷ es) ts → Saying es ts
   element_says (said.says_element q) = q
 
-  list_end_says : {es : List Event} {ts : List Token} → Saying (list_ends ∷ es) ts → Left es (Token.end_array ∷ []) ts
+  pub list_end_says : {es : List Event} {ts : List Token} → Saying (list_ends ∷ es) ts
+      → Left es (Token.end_array ∷ []) ts
   list_end_says (said.says_list_end {ts = ts} q) = record { rest = ts; left = q; whole = refl }
 
-  map_says : {k : TypeId} {es : List Event} {ts : List Token} → Saying (map_begins k ∷ es) ts
+  pub map_says : {k : TypeId} {es : List Event} {ts : List Token} → Saying (map_begins k ∷ es) ts
       → Left es (map_opens (gives_names k) ∷ []) ts
   map_says (said.says_map {ts = ts} p q) = record { rest = ts; left = q; whole = refl }
 
-  map_apart : {k : TypeId} {es : List Event} {ts : List Token} → Saying (map_begins k ∷ es) ts → (k.0 == 8) ≡ false
+  pub map_apart : {k : TypeId} {es : List Event} {ts : List Token} → Saying (map_begins k ∷ es) ts → (k.0 == 8) ≡ false
   map_apart (said.says_map p q) = p
 
-  map_end_says : {k : TypeId} {es : List Event} {ts : List Token} → Saying (map_ends k ∷ es) ts
+  pub map_end_says : {k : TypeId} {es : List Event} {ts : List Token} → Saying (map_ends k ∷ es) ts
       → Left es (map_closes (gives_names k) ∷ []) ts
   map_end_says (said.says_map_end {ts = ts} q) = record { rest = ts; left = q; whole = refl }
 
-  entry_end_says : {k : TypeId} {es : List Event} {ts : List Token} → Saying (entry_ends k ∷ es) ts
+  pub entry_end_says : {k : TypeId} {es : List Event} {ts : List Token} → Saying (entry_ends k ∷ es) ts
       → Left es (entry_closes (gives_names k)) ts
   entry_end_says (said.says_entry_end {ts = ts} q) = record { rest = ts; left = q; whole = refl }
 
-  entry_says : {k : TypeId} {later : Bool} {es : List Event} {ts : List Token} → gives_names k ≡ false
+  pub entry_says : {k : TypeId} {later : Bool} {es : List Event} {ts : List Token} → gives_names k ≡ false
       → Saying (entry k later ∷ es) ts → Left es (Token.begin_array ∷ []) ts
   entry_says isnt (said.says_entry {ts = ts} p q) = record { rest = ts; left = q; whole = refl }
   entry_says isnt (said.says_due p q) = absurd (let clash : true ≡ false = sym p ∙ isnt in cc)
 
-  between_says : {k : TypeId} {es : List Event} {ts : List Token} → Saying (between k ∷ es) ts → Saying es ts
+  pub between_says : {k : TypeId} {es : List Event} {ts : List Token} → Saying (between k ∷ es) ts → Saying es ts
   between_says (said.says_between q) = q
 
-  struct_says : {es : List Event} {ts : List Token} → Saying (struct_begins ∷ es) ts
+  pub struct_says : {es : List Event} {ts : List Token} → Saying (struct_begins ∷ es) ts
       → Left es (Token.begin_object ∷ []) ts
   struct_says (said.says_struct {ts = ts} q) = record { rest = ts; left = q; whole = refl }
 
-  struct_end_says : {types : List Field} {next : ℕ} {es : List Event} {ts : List Token}
+  pub struct_end_says : {types : List Field} {next : ℕ} {es : List Event} {ts : List Token}
       → Saying (struct_ends types next ∷ es) ts
       → LeftOf (AbsentTokens style T types next (length types)) (Token.end_object ∷ []) es ts
   struct_end_says (said.says_struct_end zs {ts = ts} p q) =
       record { zeros = zs; absent = p; rest = ts; left = q; whole = refl }
 
-  field_says : {types : List Field} {next f : ℕ} {es : List Event} {ts : List Token}
+  pub field_says : {types : List Field} {next f : ℕ} {es : List Event} {ts : List Token}
       → Saying (present types next f ∷ es) ts → LeftOf (AbsentTokens style T types next f)
       (Token.key (name_text (field_name (slice_get types f))) ∷ []) es ts
   field_says (said.says_field zs {ts = ts} p q) =
       record { zeros = zs; absent = p; rest = ts; left = q; whole = refl }
 
-  field_end_says : {es : List Event} {ts : List Token} → Saying (field_ends ∷ es) ts → Saying es ts
+  pub field_end_says : {es : List Event} {ts : List Token} → Saying (field_ends ∷ es) ts → Saying es ts
   field_end_says (said.says_field_end q) = q
 
   -- a key that gives a name is a leaf
@@ -128,7 +130,7 @@ module _ (style : Style) (T : Table) (unsaid : style.taken.now ≡ []) where
     pub left : Saying es rest
     pub whole : ts ≡ Token.key (key_text x) ∷ rest
 
-  due_says : {k : TypeId} {later : Bool} {es : List Event} {ts : List Token} → gives_names k ≡ true
+  pub due_says : {k : TypeId} {later : Bool} {es : List Event} {ts : List Token} → gives_names k ≡ true
       → Saying (entry k later ∷ es) ts → SaysEvents style T place.Name es ts place.Free
   due_says is (said.says_due p q) = q
   due_says is (said.says_entry p q) = absurd (let clash : true ≡ false = sym is ∙ p in cc)
@@ -142,7 +144,7 @@ module _ (style : Style) (T : Table) (unsaid : style.taken.now ≡ []) where
       → SaysEvents style T place.Name (e ∷ es) ts place.Free → A
   not_due none (said.says_name {x = x} u q) = absurd (none x refl)
 
-  name_says : (t : TypeId) (x : Tree) (k : TypeId) (es : List Event) (ts : List Token)
+  pub name_says : (t : TypeId) (x : Tree) (k : TypeId) (es : List Event) (ts : List Token)
       → SaysEvents style T place.Name (value_told T t x ++ between k ∷ es) ts place.Free → NameSays x es ts
   name_says t (Value.bool b) k es ts p = leaf_name p
   name_says t (Value.int i) k es ts p = leaf_name p
@@ -183,7 +185,8 @@ module _ (style : Style) (T : Table) (unsaid : style.taken.now ≡ []) where
       → ((j : Json) → P j → SaysIn style T t v j) → LeafSaid P es ts → ValueSays t v es ts
   of_leaf P f l = record { said = l.said; says = f l.said l.says; rest = l.rest; left = l.left; whole = l.whole }
 
-  joined : (fs bs rest : List Token) {us ts : List Token} → ts ≡ fs ++ us → us ≡ bs ++ rest → ts ≡ (fs ++ bs) ++ rest
+  pub joined : (fs bs rest : List Token) {us ts : List Token} → ts ≡ fs ++ us → us ≡ bs ++ rest
+      → ts ≡ (fs ++ bs) ++ rest
   joined fs bs rest e f = e ∙ ap (λ (l : List Token). fs ++ l) f ∙ sym (append_assoc fs bs rest)
 
   map_so : (t : TypeId) (ps : Pairs) (es : List Event) (ts : List Token) (b : Bool)
@@ -223,12 +226,12 @@ module _ (style : Style) (T : Table) (unsaid : style.taken.now ≡ []) where
         whole = l.whole ∙ ap (λ b. map_opens b ∷ l.rest) isnt ∙ ap (λ (l : List Token). Token.begin_array ∷ l) i.whole;
       }
 
-  regroup : (a b c d : List Token) → a ++ (b ++ Token.end_array ∷ (c ++ d))
+  pub regroup : (a b c d : List Token) → a ++ (b ++ Token.end_array ∷ (c ++ d))
       ≡ ((a ++ (b ++ Token.end_array ∷ [])) ++ c) ++ d
   regroup a b c d = simp append_assoc
 
   -- a member behind zeros, and the other members
-  member_behind : (zs : List Token) (n : Token) (j ms rest : List Token)
+  pub member_behind : (zs : List Token) (n : Token) (j ms rest : List Token)
       → zs ++ (n ∷ (j ++ (ms ++ rest))) ≡ (zs ++ n ∷ (j ++ ms)) ++ rest
   member_behind zs n j ms rest = simp append_assoc
 
@@ -282,7 +285,7 @@ module _ (style : Style) (T : Table) (unsaid : style.taken.now ≡ []) where
           whole = l.whole ∙ ap (λ (l : List Token). Token.begin_object ∷ l) i.whole;
         }
 
-    elements_say : (e : TypeId) (later : Bool) (vs : Trees) (es : List Event) (ts : List Token)
+    pub elements_say : (e : TypeId) (later : Bool) (vs : Trees) (es : List Event) (ts : List Token)
         → Saying (elements_told later T e vs ++ es) ts → ItemsSay (λ js. EachIn all_null style T e vs js) es ts
     elements_say e later no_tree es ts p = let l = list_end_says p in record {
       said = json.no_items;
@@ -415,6 +418,9 @@ module _ (style : Style) (T : Table) (unsaid : style.taken.now ≡ []) where
               ∙ ap (λ (z : List Token). z ++ others.rest) all.2;
         }
 
+  pub nothing_says : {ts : List Token} → Saying [] ts → ts ≡ []
+  nothing_says said.says_nothing = refl
+
   -- the tokens of all events of a value
   pub whole_says : (t : TypeId) (v : Tree) (ts : List Token) → Saying (value_told T t v) ts
       → (j : Json) × SaysIn style T t v j × (ts ≡ json_tokens j)
@@ -426,6 +432,3 @@ module _ (style : Style) (T : Table) (unsaid : style.taken.now ≡ []) where
         one.whole ∙ ap (λ (l : List Token). json_tokens one.said ++ l) (nothing_says one.left)
             ∙ append-nil (json_tokens one.said),
       )
-    where
-      nothing_says : {ts : List Token} → Saying [] ts → ts ≡ []
-      nothing_says said.says_nothing = refl

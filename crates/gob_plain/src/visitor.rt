@@ -30,9 +30,9 @@ pub(crate) enum VisitorPlace {
     Lost,
 }
 
-/// Tells a writer of JSON what it is told of a value.
+/// Tells a writer of JSON what it is told of a value. What interfaces hold is shown by its name where it is `TAGGED`.
 #[derive(Drop)]
-pub(crate) struct Plain<'a, S: Shapes> {
+pub(crate) struct Plain<'a, S: Shapes, const TAGGED: bool> {
     /// Where strings are made.
     pub(crate) alloc: Global,
     /// The types by which absent fields have zeros.
@@ -76,7 +76,7 @@ impl VisitorPlace {
 
     // What comes is no name.
     #[inline(always)]
-    fn leaves_name(&mut self)
+    pub(crate) fn leaves_name(&mut self)
         ensures free { self.old ≡ place.Free → self.new ≡ place.Free }
         ensures lost { self.old ≢ place.Free → self.new ≡ place.Lost }
     {
@@ -94,7 +94,7 @@ impl VisitorPlace {
     }
 }
 
-impl<S: Shapes> Visitor for Plain<'_, S> {
+impl<S: Shapes, const TAGGED: bool> Visitor for Plain<'_, S, TAGGED> {
     ghost use Rattle.std.specs.Prelude.{◌≡◌, ⊤};
     ghost use Rattle.std.proofs.Common.{[], append-nil, refl, subst, sym, ◌∙◌};
     ghost use Rattle.gob_plain.specs.PlainEvents.{SaysEvents, says_both, says_nothing};

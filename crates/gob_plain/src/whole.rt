@@ -49,9 +49,9 @@ pub fn plain_text_of(
     Ok(Some(plain_text(alloc, id, &tape, table, style)?))
 }
 
-// Whether a visitor writes values of this type as they are in this style: it isn't told of which type an opaque value
-// is, nor whether a map is the value or within it.
-fn may_be_told<S: Shapes>(shapes: &S, id: TypeId, style: Style<'_>) -> bool
+/// Whether a visitor writes values of this type as they are in this style: it isn't told of which type an opaque value
+/// is, nor whether a map is the value or within it.
+pub(crate) fn may_be_told<S: Shapes>(shapes: &S, id: TypeId, style: Style<'_>) -> bool
     ensures taken { result ≡ true → style.entry.taken.now ≡ [] }
     ensures listed { result ≡ true → AreNotListed style.entry (S.table shapes.now) id }
 {
@@ -86,14 +86,14 @@ fn told_text_of<S: Shapes>(
         IsBodyText style.entry (S.table shapes.now) id depth body.now (string_bytes text))) }
 {
     let out = Writer::new(Vec::with_capacity(alloc, ROOM)?);
-    let mut plain = Plain {
+    let mut plain = Plain::<'_, S, false> {
         alloc,
         shapes,
         style,
         place: VisitorPlace::Free,
         out,
     };
-    let told = walk_whole::<S, Plain<'_, S>, false>(
+    let told = walk_whole::<S, Plain<'_, S, false>, false>(
         shapes,
         id,
         body,
@@ -114,8 +114,8 @@ fn told_text_of<S: Shapes>(
     }
 }
 
-// The text that the writer holds, where it is that of a value.
-fn text_if_free(place: VisitorPlace, out: Writer) -> Option<String>
+/// The text that the writer holds, where it is that of a value.
+pub(crate) fn text_if_free(place: VisitorPlace, out: Writer) -> Option<String>
     requires { out.before ≡ [] }
     ensures free { IfSome result (λ text. place ≡ places.Free) }
     ensures text { IfSome result (λ text. string_bytes text ≡ print out.tokens) }

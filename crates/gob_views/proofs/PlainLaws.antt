@@ -15,10 +15,11 @@ use Rattle.json_parts.specs.Parts.{HasLeft, IsFirst}
 use Rattle.json_parts.specs.declared.parts.Form.{Form}
 use Rattle.gob_types.specs.Table.{Table}
 use Rattle.gob_types.specs.declared.id.TypeId.{TypeId}
-use Rattle.gob_value.specs.Whole.{IsWhole}
+use Rattle.gob_num.specs.Unsigned.{AreBytes}
 use Rattle.gob_value.specs.declared.value.Value.{Value}
 use Rattle.gob_stream.specs.Bounds.{greatest_depth}
 use Rattle.gob_filled.specs.Stream.{FilledItem}
+use Rattle.gob_go.specs.Whole.{IsFilledWhole}
 use Rattle.gob_go.specs.Calls.Reader.{session_of, waits_in}
 use Rattle.gob_go.specs.Calls.Session.{HasBodyNext, IsBetweenItems, limits_of, types_of}
 use Rattle.gob_go.specs.Meaning.{IsFilled, ItemMeans, means_definition, means_value}
@@ -28,9 +29,8 @@ use Rattle.gob_go.specs.declared.item.GoItem.{GoItem}
 use Rattle.gob_go.specs.declared.item.GoItem.TheVariants as item
 use Rattle.gob_go.specs.Calls.Reader.{GoReader}
 use Rattle.gob_plain.specs.HeldPlain.{SaysFilled}
-use Rattle.gob_plain.proofs.PublicLaws.{says_unfilled}
 use Rattle.gob_tool.specs.TextsGo.{IsWholeText}
-use Rattle.gob_tool.proofs.Profile.TextLaws.{whole_text}
+use Rattle.gob_tool.proofs.Profile.FilledLineLaws.{filled_text}
 use Rattle.gob_views.specs.Machine.Lines.{IsBodyLine}
 use Rattle.gob_words.specs.Words.{text_of}
 use Rattle.gob_views.specs.Values.{AreLinesBehind, IsChosen, IsLineOf, is_shown, is_left_out, IsPlainLine, IsReadBack}
@@ -65,10 +65,11 @@ left_out_line {lines = lines} {T = T} {t = t} {P = P} other none =
 
 -- a body of no type that is chosen
 pub left_out_body : (lines : ValueLines) (T : Table) (t : TypeId) (limit : ℕ) (body line : List ℕ) (whole : Bool)
-    → (IsTrue whole → IsWhole T t limit body) → ¬ IsChosen (text_of lines.only) T t → line ≡ []
+    → AreBytes body → (IsTrue whole → IsFilledWhole T t limit body) → ¬ IsChosen (text_of lines.only) T t → line ≡ []
     → MatchBool whole (IsBodyLine lines T t limit body line) (line ≡ [])
-left_out_body lines T t limit body line true is other none = (is refl, left_out_line other none)
-left_out_body lines T t limit body line false is other none = none
+left_out_body lines T t limit body line true o is other none =
+    record { are_bytes = o; whole = is refl; line = left_out_line other none }
+left_out_body lines T t limit body line false o is other none = none
 
 -- the line of JSON by its text, where that is that of the type's name
 pub line_behind : {lines : ValueLines} {T : Table} {t : TypeId} {text old line : List ℕ} (j : Json)
@@ -149,12 +150,6 @@ pub whole_line : {lines : ValueLines} {T : Table} {r : GoReader} {id : TypeId} {
     → IsBetweenItems (session_of r) → HasBodyNext (session_of r) id body used (waits_in r) → T ≡ types_of (session_of r)
     → limit ≡ min (limits_of (session_of r)).depth greatest_depth → IsBodyLine lines T id limit body line
     → IsWholeText (IsPlainLine lines) r used line
-whole_line {lines = lines} {T = T} {r = r} {id = id} {body = body} {line = line} between next same deep made =
-    let S = types_of (session_of r) in
-    let L = min (limits_of (session_of r)).depth greatest_depth in
-    let by = subst (λ (T : Table). IsBodyLine lines T id L body line) same
-    (subst (λ (limit : ℕ). IsBodyLine lines T id limit body line) deep made) in
-    let w = by.0 in
-    whole_text (IsPlainLine lines) between next w
-    (line_weaker
-    (λ j said. (said.0, said.1, says_unfilled lines.tagged said.0 S id w.value body j w.spelled said.2)) by.1)
+whole_line {lines = lines} {id = id} {body = body} {line = line} {limit = limit} between next same deep made =
+    let made = subst (λ (T : Table). IsBodyLine lines T id limit body line) same made in
+    filled_text (IsPlainLine lines) deep between next made.are_bytes made.whole made.line

@@ -10,18 +10,21 @@ ghost use Rattle.json.specs.Tree.{json_tokens};
 ghost use Rattle.gob_types.specs.Defined.{types};
 ghost use Rattle.gob_value.specs.Top.{SpellsTop};
 ghost use Rattle.gob_value.specs.Tree.{Tree};
+ghost use Rattle.gob_stream.specs.Bounds.{greatest_depth};
 ghost use Rattle.gob_plain.specs.Filled.{SaysValue};
 ghost use Rattle.gob_views.specs.Machine.Lines.{AreStyledLines, IsBodyLine};
+ghost use Rattle.gob_views.specs.Values.{IsStyleOf};
 ghost use Rattle.gob_views.specs.Machine.PartLines.{ArePartsIn, AreParts, ArePut, HasParts, HasWholeParts, PrintsEach};
 ghost use Rattle.gob_views.specs.Machine.PartLines.{SaysLines};
 
-use crate::value_line::{ValueLines, is_chosen, push_lines, style_of, taken_of};
+use crate::value_line::{ValueLines, is_chosen, push_lines};
+use gob_go::is_filled_whole;
 use gob_json_writer::tape_of;
 use gob_num::{Memory, write_uint};
-use gob_plain::{Style, plain_text, plain_text_of};
-use gob_stream::{Limits, Whole};
+use gob_plain::{HeldStyle, Style, filled_text_of, plain_text, plain_text_of};
+use gob_stream::Limits;
 use gob_types::{Kind, Shapes, Table, TypeId};
-use gob_value::{WholeParts, is_whole, number_at, whole_elements, whole_entries};
+use gob_value::{WholeParts, number_at, whole_elements, whole_entries};
 use std::alloc::Global;
 
 // Parts go together from so many bytes.
@@ -65,38 +68,35 @@ pub(crate) struct PartsAhead {
     pub(crate) begin: usize,
 }
 
-/// Makes the lines of the value whose whole item this is, in which no interface holds another, if it is one no deeper
-/// than `depth` and its type is chosen, in `text`, which is empty. False says nothing of the item.
+/// Makes the lines of the value of the type that the body is, whatever its interfaces hold, if it is one no deeper than
+/// `depth` that defines nothing, and its type is chosen, in `text`, which is empty. False says nothing of the body.
 pub(crate) fn push_body_line(
     alloc: Global,
-    item: Whole<'_>,
+    of: &TypeLines<'_, '_, '_>,
+    body: &[u8],
     depth: u64,
-    table: &Table,
-    lines: ValueLines<'_>,
     text: &mut Vec<u8>,
 ) -> Result<bool, Memory>
-    requires { text.old.items ≡ [] }
-    ensures { IfOk result (λ made. MatchBool made (IsBodyLine lines.entry (types table.now) item.entry.id depth
-        item.entry.body.now text.new.items) (text.new.items ≡ [])) }
+    requires depth { depth ≤ greatest_depth }
+    requires style { IsStyleOf of.now.lines of.now.style }
+    requires empty { text.old.items ≡ [] }
+    ensures { IfOk result (λ made. MatchBool made (IsBodyLine of.now.lines (types of.now.table.now) of.now.id depth
+        body.now text.new.items) (text.new.items ≡ [])) }
 {
-    if !is_chosen(lines.only, table, item.id) {
-        return Ok(is_whole(table, item.id, item.body, depth));
+    if !is_chosen(of.lines.only, of.table, of.id) {
+        return Ok(is_filled_whole(of.table, of.id, body, depth));
     }
-    let taken = taken_of(alloc, lines.kinds)?;
-    let style = style_of(lines, &taken);
-    let of = TypeLines {
-        table,
-        id: item.id,
-        lines,
-        style,
-    };
-    if push_parts(alloc, &of, item.body, depth, text)? {
+    if push_parts(alloc, of, body, depth, text)? {
         return Ok(true);
     }
-    let Some(json) = plain_text_of(alloc, table, item.id, item.body, depth, style)? else {
+    let how = HeldStyle {
+        style: of.style,
+        tagged: of.lines.tagged,
+    };
+    let Some(json) = filled_text_of(alloc, of.table, of.id, body, depth, how)? else {
         return Ok(false);
     };
-    push_lines(alloc, json, table, item.id, lines, text)?;
+    push_lines(alloc, json, of.table, of.id, of.lines, text)?;
     Ok(true)
 }
 

@@ -10,8 +10,8 @@ ghost use Rattle.gob_tool.specs.Showing.{CountsReadFaults, CountsWriteFaults, Is
 ghost use Rattle.gob_tool.specs.TextsGo.{of_given, of_value, IsWholeText};
 ghost use Rattle.gob_views.specs.Values.{IsPlainLine, ValuesAnswers};
 
-use crate::body_lines::push_body_line;
-use crate::value_line::{ValueLines, push_filled_line};
+use crate::body_lines::{TypeLines, push_body_line};
+use crate::value_line::{ValueLines, push_filled_line, style_of, taken_of};
 use gob_go::{GoItem, GoReader, GoSession};
 use gob_num::Memory;
 use gob_stream::{Input, Limits, Output};
@@ -114,8 +114,8 @@ fn push_item_line(
     }
 }
 
-/// Makes the lines of the item of a value that waits as a whole, and in which no interface holds another, in `text`,
-/// which is empty, and answers how many bytes the item has. None says nothing of what waits.
+/// Makes the lines of the item of a value that waits as a whole and defines nothing in `text`, which is empty, and
+/// answers how many bytes the item has. None says nothing of what waits.
 fn push_whole_line(
     alloc: Global,
     reader: &GoReader,
@@ -130,7 +130,14 @@ fn push_whole_line(
         return Ok(None);
     };
     let depth = reader.limits().depth().min(Limits::GREATEST_DEPTH);
-    let made = push_body_line(alloc, item, depth, reader.table(), lines, text)?;
+    let taken = taken_of(alloc, lines.kinds)?;
+    let of = TypeLines {
+        table: reader.table(),
+        id: item.id,
+        lines,
+        style: style_of(lines, &taken),
+    };
+    let made = push_body_line(alloc, &of, item.body, depth, text)?;
     if made {
         return Ok(Some(item.used));
     }

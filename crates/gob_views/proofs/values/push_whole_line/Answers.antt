@@ -6,6 +6,12 @@ use Rattle.gob_go.specs.Calls.Session.{limits_of}
 use Rattle.gob_views.proofs.PlainLaws.{whole_line}
 use Rattle.gob_views.proofs.values.push_whole_line.Goals as goal
 
+pub push_body_line-requires-clause-depth : goal.push_body_line-requires-clause-depth
+push_body_line-requires-clause-depth c = omega (arith, c.min-depth.ensures)
+
+pub push_body_line-requires-clause-style : goal.push_body_line-requires-clause-style
+push_body_line-requires-clause-style c = c.style_of.ensures (rw c.deref.ensures.value c.in_ok-taken.ensures)
+
 pub returns-then-made : goal.returns-then-made
 returns-then-made c =
     let limits = rw c.limits.ensures at c.depth.ensures.depth in
