@@ -3,12 +3,12 @@ _gob() {
     local current=${COMP_WORDS[COMP_CWORD]} previous=${COMP_WORDS[COMP_CWORD - 1]} words=
     COMPREPLY=()
     case $previous in
-    --depth | --item | --only | --as | --at | --size | --values | --line) return ;;
+    --depth | --item | --only | --as | --at | --size | --values | --line | --types | --type) return ;;
     esac
     if [ "$COMP_CWORD" -eq 1 ]; then
-        words='values types why explain verify salvage split join show check rewrite take convert write version help --help -h --version -V'
+        words='values types why explain verify salvage split join show check rewrite take convert write make version help --help -h --version -V'
     elif [ "${COMP_WORDS[1]}" = help ]; then
-        words='values types why explain verify salvage split join show check rewrite take convert write version help'
+        words='values types why explain verify salvage split join show check rewrite take convert write make version help'
     elif [[ $current == -* ]]; then
         words='--depth --item -h --help'
         case ${COMP_WORDS[1]} in
@@ -21,6 +21,7 @@ _gob() {
         check) words+=' --go --progress' ;;
         rewrite) words+=' --go --hoist' ;;
         write) words+=' --line' ;;
+        make) words+=' --line --types --type --lenient' ;;
         esac
     else
         mapfile -t COMPREPLY < <(compgen -f -- "$current")

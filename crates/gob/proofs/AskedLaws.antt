@@ -5,7 +5,7 @@ use Rattle.gob_words.specs.Views.{RefusesToView}
 use Rattle.gob_words.specs.declared.view.ViewFault.{ViewFault}
 use Rattle.gob_words.specs.declared.view.ViewFault.TheVariants as fault
 use Rattle.gob_words.specs.declared.words.OrderFault.TheVariants as order_fault
-use Rattle.gob.specs.Asked.{AsksFor, RefusesAll, RefusesParts}
+use Rattle.gob.specs.Asked.{AsksFor, RefusesAll, RefusesMaking, RefusesParts}
 use Rattle.gob.specs.declared.asked.Asked.{Asked}
 
 -- want of memory says nothing of the words
@@ -32,5 +32,15 @@ refuses_parts words (Ok asked) given e h = elim e [ ]
 refuses_parts words (Err x) given e h = subst (RefusesAll words) (sym e) (of_parts given h)
   where
     of_parts : (given : ViewFault) → RefusesParts words given → RefusesAll words given
-    of_parts (fault.Word line) h = inr h
-    of_parts (fault.Order given) h = inr (inr h)
+    of_parts (fault.Word line) h = inr (inl h)
+    of_parts (fault.Order given) h = inr (inr (inl h))
+
+-- the words name no types
+pub refuses_making : (words : List Text) (r : Result Asked ViewFault) (given : ViewFault)
+    → IsErrAnd r (λ x. x ≡ given) → RefusesMaking words given → MatchResult r (AsksFor words) (RefusesAll words)
+refuses_making words (Ok asked) given e h = elim e [ ]
+refuses_making words (Err x) given e h = subst (RefusesAll words) (sym e) (of_making given h)
+  where
+    of_making : (given : ViewFault) → RefusesMaking words given → RefusesAll words given
+    of_making (fault.Word line) h = inr (inr h)
+    of_making (fault.Order given) h = inr (inr (inr h))

@@ -1,6 +1,7 @@
 -- What the words ask the program for. (docs/FORMAT.md, The program: this project's own.)
 use Rattle.std.specs.Prelude.{◌≡◌, ◌≢◌, ◌⊎◌, List, map}
 use Rattle.clap.specs.Words.{Text, subcommand_of}
+use Rattle.gob_words.specs.Making.{AsksToMake, RefusesToMake}
 use Rattle.gob_words.specs.Splitting.{AsksToSplit, RefusesToSplit}
 use Rattle.gob_words.specs.Views.{AsksToView, RefusesToView, files_in}
 use Rattle.gob_words.specs.Words.{Asks, HasNoFault, Refuses, program}
@@ -16,13 +17,16 @@ use Rattle.gob.specs.declared.asked.Asked.TheVariants as asked
 abbrev pub TakesFiles : ViewCommand → Type 0
 TakesFiles given = (given ≡ command.Verify) ⊎ (given ≡ command.Join)
 
--- the words ask for this: of a view that reads some files with their names, and of parts with their size and directory
+-- the words ask for this: of a view that reads some files with their names, of parts with their size and directory,
+-- and of plain JSON with its types
 abbrev pub AsksFor : List Text → Asked → Type 0
 AsksFor words (asked.Order order) = Asks words order
 AsksFor words (asked.View view) = AsksToView words view × (view.command ≢ command.Split)
-    × (TakesFiles view.command → ⊥)
+    × (view.command ≢ command.Make) × (TakesFiles view.command → ⊥)
 AsksFor words (asked.Parts view splitting) = AsksToView words view × (view.command ≡ command.Split)
     × (HasNoFault words → AsksToSplit (subcommand_of program words) splitting)
+AsksFor words (asked.Made view making) = AsksToView words view × (view.command ≡ command.Make)
+    × (HasNoFault words → AsksToMake (subcommand_of program words) making)
 AsksFor words (asked.Files view files) = AsksToView words view × TakesFiles view.command
     × (HasNoFault words → map (λ file. file.now) files.items ≡ files_in (subcommand_of program words))
 
@@ -33,8 +37,15 @@ pub record RefusesParts (words : List Text) (given : ViewFault) : Type 0 where
   pub parts : view.command ≡ command.Split
   pub refuses : HasNoFault words → RefusesToSplit (subcommand_of program words) given
 
--- the words ask for nothing: as a view, or for help, or for parts of no size, or no memory was had
+-- or name no types
+pub record RefusesMaking (words : List Text) (given : ViewFault) : Type 0 where
+  pub view : View
+  pub asks : AsksToView words view
+  pub made : view.command ≡ command.Make
+  pub refuses : HasNoFault words → RefusesToMake (subcommand_of program words) given
+
+-- the words ask for nothing: as a view, or for help, or for parts of no size or under no types, or no memory was had
 abbrev pub RefusesAll : List Text → ViewFault → Type 0
-RefusesAll words (fault.Order given) =
-    Refuses words given ⊎ (RefusesToView words (fault.Order given) ⊎ RefusesParts words (fault.Order given))
-RefusesAll words given = RefusesToView words given ⊎ RefusesParts words given
+RefusesAll words (fault.Order given) = Refuses words given ⊎ (RefusesToView words (fault.Order given)
+    ⊎ (RefusesParts words (fault.Order given) ⊎ RefusesMaking words (fault.Order given)))
+RefusesAll words given = RefusesToView words given ⊎ (RefusesParts words given ⊎ RefusesMaking words given)

@@ -4,18 +4,20 @@ ghost use Rattle.std.specs.Prelude.{◌≡◌, MatchBool, MatchResult, map};
 ghost use Rattle.gob.specs.Asked.{AsksFor, RefusesAll, TakesFiles};
 
 use gob_words::{
-    Order, OrderFault, Splitting, View, ViewCommand, ViewFault, files_of, order_of, splitting_of,
-    view_of,
+    Making, Order, OrderFault, Splitting, View, ViewCommand, ViewFault, files_of, making_of,
+    order_of, splitting_of, view_of,
 };
 use std::alloc::Global;
 
-/// What the words ask for: an exact command, a view of one stream, one of some files, or files of a stream's parts.
+/// What the words ask for: an exact command, a view of one stream, one of some files, files of a stream's parts, or a
+/// stream of plain JSON.
 #[derive(Drop)]
 pub(crate) enum Asked<'a> {
     Order(Order<'a>),
     View(View<'a>),
     Files(View<'a>, Vec<&'a str>),
     Parts(View<'a>, Splitting<'a>),
+    Made(View<'a>, Making<'a>),
 }
 
 /// What the words ask for, the program's name first: the order that they are, and else what they ask to be shown.
@@ -39,6 +41,10 @@ fn shown_by<'a>(alloc: Global, words: &'a [&'a str]) -> Result<Asked<'a>, ViewFa
     if view.command == ViewCommand::Split {
         let splitting = splitting_of(alloc, words)?;
         return Ok(Asked::Parts(view, splitting));
+    }
+    if view.command == ViewCommand::Make {
+        let making = making_of(alloc, words)?;
+        return Ok(Asked::Made(view, making));
     }
     if !takes_files(view.command) {
         return Ok(Asked::View(view));

@@ -8,7 +8,8 @@
 //! each value as plain JSON, `gob types [IN]` the types as Go source, `gob why [IN]` why IN is refused or how much is
 //! in it, `gob explain [IN]` the bytes row by row, and `gob version` the version. `gob verify FILE..` prints a line for
 //! each file that says whether it is a whole stream.
-//! `gob write [LINES]` writes the stream that lines of `gob show` say.
+//! `gob write [LINES]` writes the stream that lines of `gob show` say, and `gob make --types TYPES [JSON]` that of the
+//! values that plain JSON says.
 //! `gob split IN DIR` writes IN as files of the directory DIR, each a whole stream, and `gob join FILE..` the values of
 //! the files as one stream.
 //! `gob salvage [IN]` writes what isn't damaged of IN, and says on standard error what is left out, as `--salvage` of
@@ -36,6 +37,7 @@ mod part_files;
 mod pipe;
 mod progress;
 mod split;
+mod types;
 mod verdict;
 mod verify;
 mod way_on;
@@ -47,15 +49,16 @@ use crate::opening::open;
 use crate::pipe::Pipe;
 use crate::progress::{size_of, watched};
 use crate::split::split;
+use crate::types::{TypesFile, wanted_of};
 use crate::verdict::Verdict;
 use crate::verify::verify;
 use crate::way_on::with_way_on;
-use crate::write::write;
+use crate::write::{make, write};
 use gob_salvage::{Salvaged, report};
 use gob_stream::{Input, Output};
 use gob_tool::{ToolFault, run_order, status};
 use gob_views::run_view;
-use gob_words::{Order, OrderFault, View, ViewCommand, ViewFault, escaped};
+use gob_words::{Chosen, Order, OrderFault, View, ViewCommand, ViewFault, escaped};
 use std::alloc::{AllocError, Global};
 use std::fs::File;
 use std::io::{BufWriter, ErrorKind, Read, Write};
@@ -174,6 +177,7 @@ fn run(rt: &HostRuntime) -> Result<(), Exit> {
         Ok(Asked::Order(order)) => run_for(rt, &order),
         Ok(Asked::View(view)) if view.command == ViewCommand::Write => write(rt, &view),
         Ok(Asked::View(view)) => run_view_on(rt, &view),
+        Ok(Asked::Made(view, making)) => make(rt, &view, &making),
         Ok(Asked::Parts(view, splitting)) => split(rt, &view, &splitting),
         Ok(Asked::Files(view, files)) if view.command == ViewCommand::Join => {
             join(rt, &view, &files)
@@ -208,7 +212,21 @@ fn run_for(rt: &HostRuntime, order: &Order) -> Result<(), Exit> {
         None => run_on(rt, order, b"".as_slice()),
         Some(path) => {
             let wanted = opened(File::open(rt, path))?;
-            run_on(rt, order, wanted)
+            run_wanting(rt, order, wanted)
+        }
+    }
+}
+
+// Runs with the file that has the wanted type, which of `convert` may be Go source.
+fn run_wanting(rt: &HostRuntime, order: &Order, wanted: File) -> Result<(), Exit> {
+    if order.command != Chosen::Convert {
+        return run_on(rt, order, wanted);
+    }
+    match TypesFile::begun(rt.alloc(), wanted)? {
+        TypesFile::Stream(first, rest) => run_on(rt, order, first.as_slice().chain(rest)),
+        TypesFile::Source(text) => {
+            let stream = wanted_of(rt.alloc(), &text)?;
+            run_on(rt, order, stream.as_slice())
         }
     }
 }

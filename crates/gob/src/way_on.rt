@@ -55,6 +55,7 @@ fn is_told(command: ViewCommand) -> bool
         | ViewCommand::Salvage
         | ViewCommand::Join
         | ViewCommand::Write
+        | ViewCommand::Make
         | ViewCommand::Version => false,
     }
 }

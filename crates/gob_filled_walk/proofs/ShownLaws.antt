@@ -51,9 +51,9 @@ use Rattle.gob_filled_walk.specs.Reads.{reads_slice, reads_array, reads_map, rea
 use Rattle.gob_filled_walk.specs.Reads.{reads_tagged, no_more, and_element, unfilled_elements, no_entry_more}
 use Rattle.gob_filled_walk.specs.Reads.{and_entry, fields_stop, and_field, BeginsHeld}
 use Rattle.gob_filled_walk.proofs.LeadLaws.{LeadsToPart, LeadsToElements, LeadsToEntries, LeadsToFields, LeadsTo}
-use Rattle.gob_filled_walk.proofs.LeadLaws.{LeadsBehindKey, LeadsBehindDelta, at_struct, at_tagged, begun, first_element}
-use Rattle.gob_filled_walk.proofs.LeadLaws.{other_elements, slice_elements, array_elements, first_key, behind_key}
-use Rattle.gob_filled_walk.proofs.LeadLaws.{map_entries, behind_delta, struct_parts}
+use Rattle.gob_filled_walk.proofs.LeadLaws.{LeadsBehindKey, LeadsBehindDelta, at_struct, at_tagged, begun}
+use Rattle.gob_filled_walk.proofs.LeadLaws.{first_element, other_elements, slice_elements, array_elements, first_key}
+use Rattle.gob_filled_walk.proofs.LeadLaws.{behind_key, map_entries, behind_delta, struct_parts}
 use Rattle.gob_filled_walk.proofs.ShiftLaws.{spliced, before_seam, behind_seam, first_spliced, rest_spliced}
 use Rattle.gob_filled_walk.proofs.ShiftLaws.{first_alike, rest_alike, trans_alike, value_shifts, elements_shift}
 use Rattle.gob_filled_walk.proofs.ShiftLaws.{pairs_shift, fields_shift}

@@ -56,6 +56,32 @@ pub enum Due {
     Shallower,
     /// A shape that a description can give.
     Definable,
+    /// A string of base64 with padding.
+    Base64,
+    /// A number that a float holds, or the name of one that isn't finite.
+    Float,
+    /// A time in RFC 3339.
+    Time,
+    /// A whole number of any size.
+    WholeNumber,
+    /// A string of the text of an opaque value.
+    OpaqueText,
+    /// An object of the fields of a struct.
+    Object,
+    /// The pairs of a map.
+    Pairs,
+    /// The name of a field of the struct.
+    Member,
+    /// The name of a field that no member before has.
+    NewMember,
+    /// An array of so many elements at most.
+    AtMost(u64),
+    /// All elements of an array, where too many zeros would stand for the missing ones.
+    AllElements,
+    /// A value, where `null` stands for no zero.
+    NoNull,
+    /// What goes on the JSON.
+    Json,
 }
 
 impl fmt::Display for Due {
@@ -64,6 +90,7 @@ impl fmt::Display for Due {
             Due::Key(key) => write!(f, "the key \"{key}\""),
             Due::Elements(1) => f.write_str("an array of 1 element"),
             Due::Elements(count) => write!(f, "an array of {count} elements"),
+            Due::AtMost(most) => write!(f, "an array of {most} elements at most"),
             other => f.write_str(other.words()),
         }
     }
@@ -93,6 +120,18 @@ impl Due {
             Due::FieldName => "the name of this field",
             Due::Type => "a type that the lines before define, with what it leads to",
             Due::Shallower => "a value that is less deep",
+            Due::Base64 => "a string of base64 with padding",
+            Due::Float => "a number that a float holds, \"NaN\", \"Infinity\" or \"-Infinity\"",
+            Due::Time => "a time as \"2006-01-02T15:04:05Z\", of the years 1 to 9999",
+            Due::WholeNumber => "a whole number",
+            Due::OpaqueText => "a string of the type's own text",
+            Due::Object => "an object",
+            Due::Pairs => "an object, or an array of [key,element]",
+            Due::Member => "a field of the struct",
+            Due::NewMember => "a field that no member before has",
+            Due::AtMost(_) | Due::AllElements => "an array of all its elements",
+            Due::Json => "the rest of a JSON value",
+            Due::NoNull => "a value that isn't null",
             Due::Definable =>
                 "a definition that names ids from 1 to 2147483647 and a length of 63 bits at most",
         }
@@ -111,8 +150,8 @@ pub struct Wrong {
 }
 
 impl Wrong {
-    // What is wrong, at the token itself, in place of the end of the one before.
-    pub(crate) fn placed(self, line: &str) -> Wrong {
+    /// What is wrong, at the token itself, in place of the end of the one before.
+    pub fn placed(self, line: &str) -> Wrong {
         let Wrong { at, due, path } = self;
         let rest = line.as_bytes().get(at..).unwrap_or(&[]);
         let between = rest.iter().position(|byte| !is_between(*byte));
@@ -144,8 +183,8 @@ impl LineFault {
         LineFault::due(alloc, at, Due::Text)
     }
 
-    // That of a line in which this is due at the offset.
-    pub(crate) fn due(alloc: Global, at: usize, due: Due) -> LineFault {
+    /// That of a line in which this is due at the offset.
+    pub fn due(alloc: Global, at: usize, due: Due) -> LineFault {
         LineFault::Wrong(Wrong {
             at,
             due,
@@ -153,8 +192,8 @@ impl LineFault {
         })
     }
 
-    // The fault of a value that a step leads to, as one of the value around it.
-    pub(crate) fn within(self, step: PathStep) -> LineFault
+    /// The fault of a value that a step leads to, as one of the value around it.
+    pub fn within(self, step: PathStep) -> LineFault
         ensures { IsWrong result → IsWrong self }
     {
         match self {
@@ -168,8 +207,8 @@ impl LineFault {
         }
     }
 
-    // The fault of the value of this field, as one of the struct.
-    pub(crate) fn within_field(self, alloc: Global, name: &Name) -> LineFault
+    /// The fault of the value of this field, as one of the struct.
+    pub fn within_field(self, alloc: Global, name: &Name) -> LineFault
         ensures { IsWrong result → IsWrong self }
     {
         match Vec::from_slice(alloc, name.as_bytes()) {

@@ -30,11 +30,7 @@ use std::alloc::Global;
 use std::str;
 
 /// Takes the key of a member.
-pub(crate) fn take_key(
-    alloc: Global,
-    tokens: &mut Reader<'_>,
-    key: &'static str,
-) -> Result<(), LineFault>
+pub fn take_key(alloc: Global, tokens: &mut Reader<'_>, key: &'static str) -> Result<(), LineFault>
     ensures ok { OnOk result (tokens.old ≡ token.key key.now ∷ tokens.new) }
     ensures none { IfErr result (λ f. IsWrong f → (rest : List token.Token) → tokens.old ≢ token.key key.now ∷ rest) }
 {
@@ -46,7 +42,7 @@ pub(crate) fn take_key(
 }
 
 /// Takes the bracket that opens an array.
-pub(crate) fn take_array(alloc: Global, tokens: &mut Reader<'_>) -> Result<(), LineFault>
+pub fn take_array(alloc: Global, tokens: &mut Reader<'_>) -> Result<(), LineFault>
     ensures ok { OnOk result (tokens.old ≡ token.begin_array ∷ tokens.new) }
     ensures none { IfErr result (λ f. IsWrong f → (rest : List token.Token) → tokens.old ≢ token.begin_array ∷ rest) }
 {
@@ -58,7 +54,7 @@ pub(crate) fn take_array(alloc: Global, tokens: &mut Reader<'_>) -> Result<(), L
 }
 
 /// Takes the bracket that closes an array.
-pub(crate) fn take_array_end(alloc: Global, tokens: &mut Reader<'_>) -> Result<(), LineFault>
+pub fn take_array_end(alloc: Global, tokens: &mut Reader<'_>) -> Result<(), LineFault>
     ensures ok { OnOk result (tokens.old ≡ token.end_array ∷ tokens.new) }
     ensures none { IfErr result (λ f. IsWrong f → (rest : List token.Token) → tokens.old ≢ token.end_array ∷ rest) }
 {
@@ -70,7 +66,7 @@ pub(crate) fn take_array_end(alloc: Global, tokens: &mut Reader<'_>) -> Result<(
 }
 
 /// Takes the brace that closes an object.
-pub(crate) fn take_object_end(alloc: Global, tokens: &mut Reader<'_>) -> Result<(), LineFault>
+pub fn take_object_end(alloc: Global, tokens: &mut Reader<'_>) -> Result<(), LineFault>
     ensures ok { OnOk result (tokens.old ≡ token.end_object ∷ tokens.new) }
     ensures none { IfErr result (λ f. IsWrong f → (rest : List token.Token) → tokens.old ≢ token.end_object ∷ rest) }
 {
@@ -95,14 +91,14 @@ pub(crate) fn read_bool(alloc: Global, tokens: &mut Reader<'_>) -> Result<bool, 
 }
 
 /// Whether the texts are one.
-fn is_same(text: &str, other: &str) -> bool
+pub fn is_same(text: &str, other: &str) -> bool
     ensures { IsTrue result ↔ (text.now ≡ other.now) }
 {
     text == other
 }
 
 /// The number whose one text in decimal this is.
-fn int_of(text: &str) -> Option<i64>
+pub fn int_of(text: &str) -> Option<i64>
     ensures ok { IfSome result (λ i. signed_decimal i ≡ text.now) }
     ensures none { result ≡ None → (i : ℤ) → FitsSigned w64 i → signed_decimal i ≢ text.now }
 {
@@ -115,7 +111,7 @@ fn int_of(text: &str) -> Option<i64>
 }
 
 /// The number whose one text in decimal this is.
-fn uint_of(text: &str) -> Option<u64>
+pub fn uint_of(text: &str) -> Option<u64>
     ensures ok { IfSome result (λ n. decimal n ≡ text.now) }
     ensures none { result ≡ None → (n : ℕ) → n < 2 ^ 64 → decimal n ≢ text.now }
 {
@@ -190,7 +186,7 @@ fn undecoded(error: FromHexError) -> Result<Option<Vec<u8>>, LineFault>
 }
 
 /// Reads bytes from a string of lower case hexadecimal.
-pub(crate) fn read_hex(alloc: Global, tokens: &mut Reader<'_>) -> Result<Vec<u8>, LineFault>
+pub fn read_hex(alloc: Global, tokens: &mut Reader<'_>) -> Result<Vec<u8>, LineFault>
     ensures ok { IfOk result (λ bytes. Reads (hex_json bytes.items) tokens.old tokens.new) }
     ensures none { IfErr result (λ f. IsWrong f → (b : List ℕ) (rest : List token.Token)
         → IsBytes b → Reads (hex_json b) tokens.old rest → ⊥) }

@@ -15,5 +15,8 @@ mod path;
 mod value;
 
 pub use fault::{Due, LineFault, Wrong};
+pub use leaf::{
+    int_of, is_same, read_hex, take_array, take_array_end, take_key, take_object_end, uint_of,
+};
 pub use line::{Line, read_line};
 pub use path::{PathStep, path_text};

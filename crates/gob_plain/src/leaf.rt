@@ -95,8 +95,8 @@ pub(crate) fn write_name(alloc: Global, name: &[u8], out: &mut Writer) -> Result
     }
 }
 
-// The text that stands for a name that isn't UTF-8.
-fn hex_name(alloc: Global, name: &[u8]) -> Result<String, AllocError>
+/// The text that stands for a name that isn't UTF-8.
+pub fn hex_name(alloc: Global, name: &[u8]) -> Result<String, AllocError>
     ensures { IfOk result (λ text. string_bytes text ≡ codes "0x" ++ encode_lower name.now) }
 {
     let mut text = String::from_str(alloc, "0x")?;

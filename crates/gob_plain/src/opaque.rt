@@ -1,6 +1,10 @@
 //! Opaque values: what is known of their bytes by the type, and else base64.
 
-ghost use Rattle.std.specs.Prelude.{◌≡◌, if◌then◌else◌};
+ghost use Rattle.std.specs.Prelude.{◌≡◌, ◌∷◌, [], if◌then◌else◌, IfOk, IfSome, IsTrue, string_bytes};
+ghost use Rattle.json.specs.Json.{Json};
+ghost use Rattle.json.specs.Lex.{tokens};
+ghost use Rattle.json.specs.Reads.{token_of};
+ghost use Rattle.json.specs.Tree.{json_tokens};
 ghost use Rattle.std.specs.Option.{option_copied};
 ghost use Rattle.gob_plain.specs.BigInt.{SaysInt};
 ghost use Rattle.gob_plain.specs.OpaqueText.{SaysOpaque, SaysBytes, SaysText, content_of, content_by, content_as};
@@ -14,9 +18,10 @@ use crate::known::{address_port_text, address_text, prefix_text, uuid_text, writ
 use crate::leaf::write_bytes;
 use crate::rat::write_rat;
 use crate::style::{Style, Taken};
+use crate::text::text_of;
 use crate::time::{time_of, write_moment};
 use gob_types::{Kind, Marshal, Shape, TypeId};
-use json::Writer;
+use json::{Token, Writer, is_number};
 use std::alloc::{AllocError, Global};
 use std::str;
 
@@ -73,6 +78,38 @@ pub(crate) fn write_guessed(
     ensures { WritesPlain result out.old out.new (SaysContent (content_of raw (Some shape.now)) bytes.now) }
 {
     write_content(alloc, content_of(Some(shape), raw), bytes, out)
+}
+
+/// Whether this string or number is the JSON of bytes that are taken for this.
+pub fn is_said(
+    alloc: Global,
+    content: Content,
+    bytes: &[u8],
+    token: Token<'_>,
+) -> Result<bool, AllocError>
+    ensures { IfOk result (λ said. IsTrue said → (j : Json) × SaysContent content bytes.now j
+        × (json_tokens j ≡ token_of token.entry ∷ [])) }
+{
+    let Some(given) = token_text(alloc, token)? else {
+        return Ok(false);
+    };
+    let mut shown = Writer::new(Vec::new(alloc));
+    write_content(alloc, content, bytes, &mut shown)?;
+    Ok(text_of(shown).as_str() == given.as_str())
+}
+
+// The text of a string or a number.
+fn token_text(alloc: Global, token: Token<'_>) -> Result<Option<String>, AllocError>
+    ensures { IfOk result (λ found. IfSome found
+        (λ text. tokens (string_bytes text) ≡ token_of token.entry ∷ [])) }
+{
+    let mut out = Writer::new(Vec::new(alloc));
+    match token {
+        Token::Number(text) if is_number(text) => out.number(text)?,
+        Token::String(text) => out.string(text)?,
+        _ => return Ok(None),
+    }
+    Ok(Some(text_of(out)))
 }
 
 // Writes an opaque value as what its bytes are taken for.
@@ -132,8 +169,8 @@ fn content_of(shape: Option<&Shape>, raw: bool) -> Content
     }
 }
 
-// What the values of a type of this kind and name are taken for.
-fn content_by(kind: &Kind, name: &[u8]) -> Content
+/// What the values of a type of this kind and name are taken for.
+pub fn content_by(kind: &Kind, name: &[u8]) -> Content
     ensures { result ≡ content_by kind.now name.now }
 {
     match kind {

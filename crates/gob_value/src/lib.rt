@@ -47,7 +47,7 @@ pub use fault::{Misfit, ShapeFault, SpellFault};
 pub use fitting::fits;
 pub use number::{field_number, number_at, number_end};
 pub use spelling::spell;
-pub use tidying::tidy;
+pub use tidying::{is_dropped, tidy};
 pub use top::has_structs;
 pub use value::Value;
 pub use whole::{is_tidy_whole, is_whole, whole_end};

@@ -145,8 +145,8 @@ fn tidy_fields<S: Shapes>(
     Ok(tidied)
 }
 
-// Whether a struct drops the value from a field of this kind.
-fn is_dropped(kind: &Kind, value: &Value) -> bool
+/// Whether a struct drops the value from a field of this kind.
+pub fn is_dropped(kind: &Kind, value: &Value) -> bool
     ensures { IsTrue result ↔ IsDropped kind.now (view value.now) }
 {
     match kind {

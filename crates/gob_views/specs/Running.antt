@@ -83,6 +83,7 @@ CommandAnswers command.Salvage view bytes now old new result =
 CommandAnswers command.Split view bytes now old new result = SendsText old new [] result
 CommandAnswers command.Join view bytes now old new result = SendsText old new [] result
 CommandAnswers command.Write view bytes now old new result = SendsText old new [] result
+CommandAnswers command.Make view bytes now old new result = SendsText old new [] result
 CommandAnswers command.Version view bytes now old new result = SendsText old new version_line result
 CommandAnswers command.ShowGo view bytes now old new result = ShowGoAnswers (view_limits view) bytes now old new result
 CommandAnswers command.CheckGo view bytes now old new result =

@@ -25,7 +25,7 @@ use std::io::{Read, Write};
 
 /// Shows of the input what the view asks for, under its limits; the run of each command says what that is, and what
 /// each fault means. For [`ViewCommand::Version`] nothing is read, and nothing is read or written for
-/// [`ViewCommand::Write`], `Split` and `Join`, whose runs are gob_write's, gob_split's and gob_join's. For
+/// [`ViewCommand::Write`], `Make`, `Split` and `Join`, whose runs are gob_write's, gob_split's and gob_join's. For
 /// [`ViewCommand::Verify`] the input is checked as by [`ViewCommand::CheckGo`]; of several files [`crate::tell_file`]
 /// says this. `told` is, for [`ViewCommand::Salvage`] alone, where that is Ok, what was kept and what was left out.
 ///
@@ -76,6 +76,7 @@ fn shows_kept(command: ViewCommand, is_asked: bool) -> bool
         | ViewCommand::Split
         | ViewCommand::Join
         | ViewCommand::Write
+        | ViewCommand::Make
         | ViewCommand::Version
         | ViewCommand::CheckGo
         | ViewCommand::RewriteGo => false,
@@ -165,6 +166,7 @@ fn run_command<R: Read, W: Write>(
         ViewCommand::Split => end_run(Ok(()), output),
         ViewCommand::Join => end_run(Ok(()), output),
         ViewCommand::Write => end_run(Ok(()), output),
+        ViewCommand::Make => end_run(Ok(()), output),
         ViewCommand::Version => end_run(write_version(output), output),
         ViewCommand::ShowGo => run_show_go(alloc, input, output, limits_of(view)),
         ViewCommand::CheckGo => run_check_go(alloc, input, output, limits_of(view)),

@@ -11,7 +11,7 @@ use Rattle.gob_words.specs.declared.words.OrderFault.TheVariants as fault
 use Rattle.gob_words.specs.declared.view.View.{View}
 use Rattle.gob_words.specs.declared.view.ViewCommand.{ViewCommand}
 use Rattle.gob_words.specs.declared.view.ViewCommand.TheVariants.{Values, Types, Why, Explain, Verify, Salvage, Version}
-use Rattle.gob_words.specs.declared.view.ViewCommand.TheVariants.{Write, Split, Join, ShowGo, CheckGo, RewriteGo}
+use Rattle.gob_words.specs.declared.view.ViewCommand.TheVariants.{Write, Make, Split, Join, ShowGo, CheckGo, RewriteGo}
 use Rattle.gob_words.specs.declared.view.ViewFault.{ViewFault}
 use Rattle.gob_words.specs.declared.view.ViewFault.TheVariants as view_fault
 use Rattle.gob_words.specs.Words.{HasNoFault, IsNumber, IsFaultOf, IsSet, program}
@@ -26,12 +26,12 @@ use Rattle.gob_words.proofs.WordLaws.{name_met, rows_met, some_fault, the_one, t
 -- the command of this name, by its first letter, its second one or its fourth
 abbrev having : (first second fourth : ℕ) → ViewCommand
 having first c fourth =
-    if first == 99 then CheckGo else (if first == 106 then Join
+    if first == 109 then Make else (if first == 99 then CheckGo else (if first == 106 then Join
     else (if first == 115 then (if c == 97 then Salvage else (if c == 112 then Split else ShowGo))
     else (if first == 114 then RewriteGo else (if first == 119 then (if c == 114 then Write else Why)
     else (if c == 97 then Values
     else (if c == 121 then Types else (if c == 120 then Explain
-    else (if fourth == 105 then Verify else Version))))))))
+    else (if fourth == 105 then Verify else Version)))))))))
 
 abbrev having_name : Text → ViewCommand
 having_name name = having (slice_index name 0) (slice_index name 1) (slice_index name 3)
@@ -46,6 +46,7 @@ has Salvage = refl
 has Split = refl
 has Join = refl
 has Write = refl
+has Make = refl
 has Version = refl
 has ShowGo = refl
 has CheckGo = refl

@@ -7,3 +7,4 @@ pub mod Escaped
 pub mod Shell
 pub mod Paths
 pub mod Splitting
+pub mod Making

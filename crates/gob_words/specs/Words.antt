@@ -131,6 +131,14 @@ join = with_rule (with_options (codes "join")) files_rule
 abbrev pub write : App
 write = with_input (with_rule (with_options (codes "write")) (option_rule (codes "line")))
 
+-- the command that writes the stream of plain JSON, with the options for its types and lines
+abbrev pub with_made : App → App
+with_made app = with_rule (with_rule (with_rule app (option_rule (codes "types"))) (option_rule (codes "type")))
+    (flag_rule (codes "lenient"))
+
+abbrev pub make : App
+make = with_input (with_made (with_rule (with_options (codes "make")) (option_rule (codes "line"))))
+
 -- the commands for people
 abbrev pub people_program : App
 people_program =
@@ -144,9 +152,10 @@ people_program =
 -- and those that write exactly what a stream has
 abbrev pub program : App
 program =
-    with_subcommand (with_subcommand (with_subcommand (with_subcommand (with_subcommand (with_subcommand
+    with_subcommand (with_subcommand
+    (with_subcommand (with_subcommand (with_subcommand (with_subcommand (with_subcommand
     (with_subcommand people_program show.top) check.top) rewrite.top) (two_streams (codes "take")).top)
-    (two_streams (codes "convert")).top) write.top) (new_app (codes "version")).top
+    (two_streams (codes "convert")).top) write.top) make.top) (new_app (codes "version")).top
 
 -- ---- what they say
 

@@ -7,7 +7,7 @@ ghost use Rattle.gob_words.specs.Words.{flag_rule, option_rule, with_flags, with
 ghost use Rattle.gob_words.specs.Words.{check, explain, people_program, program, rewrite, show, two_streams, values};
 ghost use Rattle.gob_words.specs.Words.{kinds_rule, types, verify, with_elements, with_go_flags, with_parts};
 ghost use Rattle.gob_words.specs.Words.{files_rule, join, needed_rule, split, with_go, with_progress, with_salvage};
-ghost use Rattle.gob_words.specs.Words.{with_sizes, with_types, write};
+ghost use Rattle.gob_words.specs.Words.{make, with_made, with_sizes, with_types, write};
 
 use crate::help;
 use clap::{Arg, ArgAction, Command};
@@ -29,7 +29,8 @@ pub(crate) fn program<'a>(alloc: Global) -> Result<Command<'a>, AllocError>
     let convert = two_streams(alloc, "convert", help::CONVERT, help::DEPTH);
     let converting = with_command(taking, convert)?;
     let writing = with_command(converting, write(alloc))?;
-    writing.subcommand(Command::new(alloc, "version").about(help::NAME_AND_VERSION))
+    let making = with_command(writing, make(alloc))?;
+    making.subcommand(Command::new(alloc, "version").about(help::NAME_AND_VERSION))
 }
 
 // The program with the commands for people.
@@ -139,6 +140,28 @@ fn write<'a>(alloc: Global) -> Result<Command<'a>, AllocError>
     let options = with_options(alloc, "write", help::WRITE, help::DEPTH)?;
     let measured = options.arg(option(alloc, "line", NUMBER, help::LINE))?;
     with_input(alloc, measured, help::LINES)
+}
+
+// The command that writes the stream of plain JSON, with the options for its types and lines.
+fn make<'a>(alloc: Global) -> Result<Command<'a>, AllocError>
+    ensures app { IfOk result (λ command. app_of command ≡ make) }
+    ensures local { IfOk result (λ command. (out-Command command).has_globals ≡ false) }
+{
+    let options = with_options(alloc, "make", help::MAKE, help::DEPTH)?;
+    let measured = options.arg(option(alloc, "line", NUMBER, help::LINE))?;
+    with_input(alloc, with_made(alloc, measured)?, help::PLAIN)
+}
+
+// The command with the options that say of which type the values are, and whether members may have no field.
+fn with_made<'a>(alloc: Global, command: Command<'a>) -> Result<Command<'a>, AllocError>
+    requires { (out-Command command).has_globals ≡ false }
+    ensures app { IfOk result (λ more. app_of more ≡ with_made (app_of command.entry)) }
+    ensures local { IfOk result (λ more. (out-Command more).has_globals ≡ false) }
+{
+    command
+        .arg(option(alloc, "types", "TYPES", help::MADE_TYPES))?
+        .arg(option(alloc, "type", "NAME", help::MADE_TYPE))?
+        .arg(flag(alloc, "lenient", help::LENIENT))
 }
 
 // The command that explains bytes, with a flag and an option behind those that other commands have too.

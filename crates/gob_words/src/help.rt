@@ -40,6 +40,8 @@ pub(crate) const CONVERT: &str =
 
 pub(crate) const WRITE: &str = "Write the stream that lines of JSON say, as show prints them";
 
+pub(crate) const MAKE: &str = "Write the stream of the values that plain JSON says, a line each";
+
 pub(crate) const NAME_AND_VERSION: &str = "Print the program's name and version";
 
 /// Their options and files.
@@ -95,6 +97,17 @@ pub(crate) const INPUT: &str = "The stream; without it, standard input is read";
 pub(crate) const FILE: &str = "The stream; without it, or where it is -, standard input is read";
 
 pub(crate) const LINES: &str = "The lines; without it, or where it is -, standard input is read";
+
+pub(crate) const PLAIN: &str = "The JSON; without it, or where it is -, standard input is read";
+
+pub(crate) const MADE_TYPES: &str = "The file that has the types: a stream, or Go source";
+
+pub(crate) const MADE_TYPE: &str =
+    "The type of the values, by its name or id in TYPES, and else that of the first value \
+    or the first one declared; without --types the types themselves, as Go source";
+
+pub(crate) const LENIENT: &str =
+    "Leave out members that no field has, and say how many on standard error";
 
 pub(crate) const FILES: &str = "The streams";
 

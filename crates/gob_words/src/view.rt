@@ -34,6 +34,8 @@ pub enum ViewCommand {
     Join,
     /// The stream that lines of JSON say, as [`ViewCommand::ShowGo`] and `show` alone write them, without `--go`.
     Write,
+    /// The stream of the values that plain JSON says.
+    Make,
     /// The program's name and version.
     Version,
     /// Each item of a stream of Go's encoder as a line of JSON, with what interfaces hold.
@@ -46,7 +48,8 @@ pub enum ViewCommand {
 
 /// What the words ask to be shown. [`ViewCommand::Version`] reads no file, and its other fields are the usual ones. The
 /// files of [`ViewCommand::Verify`] and [`ViewCommand::Join`] are those of [`crate::files_of`], and `input` is none of
-/// them. The directory of [`ViewCommand::Split`] is that of [`crate::splitting_of`].
+/// them. The directory of [`ViewCommand::Split`] is that of [`crate::splitting_of`], and the
+/// types of [`ViewCommand::Make`] are those of [`crate::making_of`].
 #[derive(Debug, Drop)]
 pub struct View<'a> {
     /// What to show.
@@ -88,7 +91,7 @@ pub struct View<'a> {
     /// The offset in the stream of a byte of the item that is shown alone: for [`ViewCommand::Explain`] alone, where
     /// `fault` isn't asked for.
     pub at: Option<u64>,
-    /// The most bytes of a line, with its line feed: for [`ViewCommand::Write`] alone.
+    /// The most bytes of a line, with its line feed: for [`ViewCommand::Write`] and `Make` alone.
     pub line: u64,
     pub ghost least: { 1 ≤ depth },
     pub ghost most: { depth ≤ greatest_view_depth },

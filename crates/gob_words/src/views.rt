@@ -160,6 +160,7 @@ fn command_of(name: &str) -> Option<ViewCommand>
         "split" => Some(ViewCommand::Split),
         "join" => Some(ViewCommand::Join),
         "write" => Some(ViewCommand::Write),
+        "make" => Some(ViewCommand::Make),
         "version" => Some(ViewCommand::Version),
         "show" => Some(ViewCommand::ShowGo),
         "check" => Some(ViewCommand::CheckGo),
@@ -193,6 +194,7 @@ fn is_asked(
         | ViewCommand::Split
         | ViewCommand::Join
         | ViewCommand::Write
+        | ViewCommand::Make
         | ViewCommand::Version => true,
     }
 }
@@ -211,6 +213,7 @@ fn is_fault_asked(command: ViewCommand, value: Option<&str>) -> bool
         | ViewCommand::Split
         | ViewCommand::Join
         | ViewCommand::Write
+        | ViewCommand::Make
         | ViewCommand::Version
         | ViewCommand::ShowGo
         | ViewCommand::CheckGo
@@ -233,6 +236,7 @@ fn is_hoist_asked(command: ViewCommand, value: Option<&str>) -> bool
         | ViewCommand::Split
         | ViewCommand::Join
         | ViewCommand::Write
+        | ViewCommand::Make
         | ViewCommand::Version
         | ViewCommand::ShowGo
         | ViewCommand::CheckGo => false,
@@ -254,6 +258,7 @@ fn place_of(command: ViewCommand, word: Option<&str>) -> Option<Option<u64>>
         | ViewCommand::Split
         | ViewCommand::Join
         | ViewCommand::Write
+        | ViewCommand::Make
         | ViewCommand::Version
         | ViewCommand::ShowGo
         | ViewCommand::CheckGo
@@ -289,6 +294,7 @@ fn is_given(command: ViewCommand, value: Option<&str>) -> bool
         | ViewCommand::Split
         | ViewCommand::Join
         | ViewCommand::Write
+        | ViewCommand::Make
         | ViewCommand::Version
         | ViewCommand::ShowGo
         | ViewCommand::CheckGo
@@ -310,6 +316,7 @@ fn only_of<'a>(command: ViewCommand, word: Option<&'a str>) -> Option<&'a str>
         | ViewCommand::Split
         | ViewCommand::Join
         | ViewCommand::Write
+        | ViewCommand::Make
         | ViewCommand::Version
         | ViewCommand::ShowGo
         | ViewCommand::CheckGo

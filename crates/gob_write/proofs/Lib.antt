@@ -1,3 +1,5 @@
 pub mod LineLaws
 pub mod SaidLaws
 pub mod RunLaws
+pub mod MakeLaws
+pub mod TypesLaws

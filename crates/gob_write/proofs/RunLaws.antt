@@ -15,6 +15,7 @@ use Rattle.gob_stream.specs.declared.waiting.Waiting.{Waiting}
 use Rattle.gob_write.specs.Faults.{CountsReads, IsNoRead}
 use Rattle.gob_write.specs.Lines.{AreLines, no_line, one_more, first_line, behind_line, IsLeft, NextLine, Waits}
 use Rattle.gob_write.specs.Says.{HasWrittenLines, WroteLine, wrote_nothing, wrote_said, LineAnswers, RefusesLine}
+use Rattle.gob_write.specs.Says.{Saying, as_shown}
 use Rattle.gob_write.specs.Says.{SaysNoItem, WroteSome}
 use Rattle.gob_write.specs.Running.{SayStream, say_nothing, say_no_more, say_one_more, WroteLines, IsAll}
 use Rattle.gob_write.specs.Running.{IsSome, IsLongNext, IsWrongNext, RefusesNext, CutsNext, WriteLinesAnswers}
@@ -24,7 +25,7 @@ use Rattle.gob_write.specs.declared.writer.LineWriter.{LineWriter}
 use Rattle.gob_write.proofs.LineLaws.{left_behind, some_left, line_length}
 
 -- so many lines were read of the bytes, and the writer has written what they say
-pub record HasReadLines (L : Bounds) (most : ℕ) (w : LineWriter) (waits : Waiting) (bytes : List ℕ)
+pub record HasReadLines (S : Saying) (most : ℕ) (w : LineWriter) (waits : Waiting) (bytes : List ℕ)
     (left old now : Option (List ℕ)) (n : ℕ) : Type 0 where
   pub lines : List (List ℕ)
   pub rest : List ℕ
@@ -32,32 +33,48 @@ pub record HasReadLines (L : Bounds) (most : ℕ) (w : LineWriter) (waits : Wait
   pub out : List ℕ
   pub table : Table
   pub cut : AreLines most bytes lines rest
-  pub say : SayStream L lines items out table
-  pub written : HasWrittenLines L w items out table
+  pub say : SayStream S lines items out table
+  pub written : HasWrittenLines S w items out table
   pub sent : Appends old now out
   pub count : length lines ≡ n
   pub rest_left : IsLeft waits left rest
 
-pub begun : (L : Bounds) (most : ℕ) (w : LineWriter) (waits : Waiting) (bytes : List ℕ) (left old : Option (List ℕ))
-    → HasWrittenLines L w [] [] base_table → waiting waits ≡ [] → left ≡ Some bytes
-    → HasReadLines L most w waits bytes left old old 0
-begun L most w waits bytes left old new none e = record {
+pub begun : (S : Saying) (most : ℕ) (w : LineWriter) (waits : Waiting) (bytes : List ℕ) (left old now : Option (List ℕ))
+    → HasWrittenLines S w S.items S.bytes S.table → Appends old now S.bytes → waiting waits ≡ [] → left ≡ Some bytes
+    → HasReadLines S most w waits bytes left old now 0
+begun S most w waits bytes left old now new sent none e = record {
   lines = [];
   rest = bytes;
-  items = [];
-  out = [];
-  table = base_table;
+  items = S.items;
+  out = S.bytes;
+  table = S.table;
   cut = no_line;
   say = say_nothing;
   written = new;
-  sent = Appends-nil old;
+  sent = sent;
   count = refl;
   rest_left = record { unread = bytes; known = e; whole = ap (λ (l : List ℕ). l ++ bytes) (sym none) };
 }
 
-pub nothing_written : (L : Bounds) (most : ℕ) (bytes : List ℕ) (old : Option (List ℕ))
-    → WroteLines L most bytes old old IsSome
-nothing_written L most bytes old = record {
+pub nothing_written : (S : Saying) (most : ℕ) (w : LineWriter) (bytes : List ℕ) (old now : Option (List ℕ))
+    → HasWrittenLines S w S.items S.bytes S.table → Appends old now S.bytes → WroteLines S most bytes old now IsSome
+nothing_written S most w bytes old now new sent = record {
+  lines = [];
+  rest = bytes;
+  items = S.items;
+  out = S.bytes;
+  table = S.table;
+  cut = no_line;
+  say = say_nothing;
+  stream = subst (λ (M : Bounds). Stream base_table M S.items S.bytes S.table) new.limits new.written.stream;
+  sent = sent;
+  holds = tt;
+}
+
+-- of lines that are shown, before a writer is had
+pub none_written : (L : Bounds) (most : ℕ) (bytes : List ℕ) (old : Option (List ℕ))
+    → WroteLines (as_shown L) most bytes old old IsSome
+none_written L most bytes old = record {
   lines = [];
   rest = bytes;
   items = [];
@@ -71,11 +88,11 @@ nothing_written L most bytes old = record {
 }
 
 -- what was written so far, and what else holds
-pub so_far : {L : Bounds} {most : ℕ} {w : LineWriter} {waits : Waiting} {bytes : List ℕ}
+pub so_far : {S : Saying} {most : ℕ} {w : LineWriter} {waits : Waiting} {bytes : List ℕ}
     {left old now : Option (List ℕ)} {n : ℕ} (P : ℕ → Table → List ℕ → List ℕ → Type 0)
-    (h : HasReadLines L most w waits bytes left old now n)
-    → P (length h.lines) h.table h.out h.rest → WroteLines L most bytes old now P
-so_far {L = L} P h holds = record {
+    (h : HasReadLines S most w waits bytes left old now n)
+    → P (length h.lines) h.table h.out h.rest → WroteLines S most bytes old now P
+so_far {S = S} P h holds = record {
   lines = h.lines;
   rest = h.rest;
   items = h.items;
@@ -89,9 +106,9 @@ so_far {L = L} P h holds = record {
 }
 
 -- the output has these bytes still
-abbrev pub kept_sent : {L : Bounds} {most : ℕ} {w : LineWriter} {waits : Waiting} {bytes : List ℕ}
+abbrev pub kept_sent : {S : Saying} {most : ℕ} {w : LineWriter} {waits : Waiting} {bytes : List ℕ}
     {left old now : Option (List ℕ)} {n : ℕ} (now' : Option (List ℕ)) → Keeps now now'
-    → HasReadLines L most w waits bytes left old now n → HasReadLines L most w waits bytes left old now' n
+    → HasReadLines S most w waits bytes left old now n → HasReadLines S most w waits bytes left old now' n
 kept_sent {old = old} {now = now} now' k h = record {
   lines = h.lines;
   rest = h.rest;
@@ -114,28 +131,28 @@ err_result P (Err g) f e p = subst (λ (h : LinesFault). P (Err h)) (sym e) p
 
 -- ---- where the lines end
 
-pub ended : {L : Bounds} {most : ℕ} {w : LineWriter} {waits : Waiting} {bytes : List ℕ}
+pub ended : {S : Saying} {most : ℕ} {w : LineWriter} {waits : Waiting} {bytes : List ℕ}
     {left old now : Option (List ℕ)} {n : ℕ} (count : ℕ) (waits' : Waiting) (left' now' : Option (List ℕ))
     → Keeps now now'
-    → HasReadLines L most w waits bytes left old now n
+    → HasReadLines S most w waits bytes left old now n
     → ((b : List ℕ) → IsLeft waits left b → NextLine most (n + 1) b waits' left' (Ok count)) → count ≡ 0
-    → WroteLines L most bytes old now' IsAll
+    → WroteLines S most bytes old now' IsAll
 ended count waits' left' now' k h next zero = so_far IsAll (kept_sent now' k h) ((next h.rest h.rest_left).none zero)
 
 -- or no line is had
-pub unread_line : {L : Bounds} {most : ℕ} {w : LineWriter} {waits : Waiting} {bytes : List ℕ}
+pub unread_line : {S : Saying} {most : ℕ} {w : LineWriter} {waits : Waiting} {bytes : List ℕ}
     {left old now : Option (List ℕ)} {n : ℕ} (f : LinesFault) (waits' : Waiting) (left' now' : Option (List ℕ))
     → Keeps now now'
-    → HasReadLines L most w waits bytes left old now n
+    → HasReadLines S most w waits bytes left old now n
     → ((b : List ℕ) → IsLeft waits left b → NextLine most (n + 1) b waits' left' (Err f))
-    → WriteLinesAnswers L most bytes old now' (Err f)
+    → WriteLinesAnswers S most bytes old now' (Err f)
 unread_line (fault.TooLong m most) waits' left' now' k h next =
     let long = next h.rest h.rest_left in
     (long.1, so_far (IsLongNext _ m) (kept_sent now' k h) (long.0 ∙ ap (λ k. k + 1) (sym h.count), long.2))
 unread_line fault.Read waits' left' now' k h next = so_far IsSome (kept_sent now' k h) tt
 unread_line fault.Memory waits' left' now' k h next = so_far IsSome (kept_sent now' k h) tt
-unread_line {L = L} fault.Write waits' left' now' k h next =
-    (now', so_far (CutsNext L now' now') (kept_sent now' k h) (inl (Keeps-refl now')))
+unread_line {S = S} fault.Write waits' left' now' k h next =
+    (now', so_far (CutsNext S now' now') (kept_sent now' k h) (inl (Keeps-refl now')))
 unread_line (fault.Wrong m column path due) waits' left' now' k h next = absurd (next h.rest h.rest_left)
 unread_line (fault.Refused m r) waits' left' now' k h next = absurd (next h.rest h.rest_left)
 
@@ -165,10 +182,10 @@ line_read line waits some is passed = record {
   left = left_behind waits passed;
 }
 
-with_line : {L : Bounds} {most : ℕ} {w w' : LineWriter} {waits waits' : Waiting} {bytes line : List ℕ}
-    {left left' old now mid now' : Option (List ℕ)} {n : ℕ} (h : HasReadLines L most w waits bytes left old now n)
+with_line : {S : Saying} {most : ℕ} {w w' : LineWriter} {waits waits' : Waiting} {bytes line : List ℕ}
+    {left left' old now mid now' : Option (List ℕ)} {n : ℕ} (h : HasReadLines S most w waits bytes left old now n)
     → Keeps now mid → IsLineRead most h.rest line waits' left'
-    → WroteLine L w' h.items h.out h.table line mid now' → HasReadLines L most w' waits' bytes left' old now' (n + 1)
+    → WroteLine S w' h.items h.out h.table line mid now' → HasReadLines S most w' waits' bytes left' old now' (n + 1)
 with_line {line = line} {old = old} {now = now} {mid = mid} {now' = now'} h k read (wrote_nothing none written keeps) =
     record {
       lines = h.lines ++ line ∷ [];
@@ -197,53 +214,53 @@ with_line {line = line} {old = old} {now = now} {mid = mid} {now' = now'} h k re
   rest_left = read.left;
 }
 
-pub one_line : {L : Bounds} {most : ℕ} {w w' : LineWriter} {waits waits' waits'' : Waiting} {bytes line : List ℕ}
+pub one_line : {S : Saying} {most : ℕ} {w w' : LineWriter} {waits waits' waits'' : Waiting} {bytes line : List ℕ}
     {left left' old now mid now' : Option (List ℕ)} {n : ℕ} (count : ℕ)
-    (h : HasReadLines L most w waits bytes left old now n) → Keeps now mid
+    (h : HasReadLines S most w waits bytes left old now n) → Keeps now mid
     → ((b : List ℕ) → IsLeft waits left b → NextLine most (n + 1) b waits' left' (Ok count)) → count ≢ 0
     → line ≡ take count (waiting waits') → waiting waits'' ≡ drop count (waiting waits')
-    → ((items : List StreamItem) (out : List ℕ) (T : Table) → HasWrittenLines L w items out T
-    → WroteLine L w' items out T line mid now') → HasReadLines L most w' waits'' bytes left' old now' (n + 1)
+    → ((items : List StreamItem) (out : List ℕ) (T : Table) → HasWrittenLines S w items out T
+    → WroteLine S w' items out T line mid now') → HasReadLines S most w' waits'' bytes left' old now' (n + 1)
 one_line {n = n} count h k next some is passed wrote =
     with_line h k (line_read _ (next h.rest h.rest_left) some is passed) (wrote h.items h.out h.table h.written)
 
 -- ---- where a line stops the run
 
-stops_there : {L : Bounds} {most : ℕ} {w : LineWriter} (w' : LineWriter) {waits : Waiting} {bytes line : List ℕ}
+stops_there : {S : Saying} {most : ℕ} {w : LineWriter} (w' : LineWriter) {waits : Waiting} {bytes line : List ℕ}
     {left old mid : Option (List ℕ)} (now' : Option (List ℕ)) {n : ℕ} (f : LinesFault)
-    (h : HasReadLines L most w waits bytes left old mid n)
+    (h : HasReadLines S most w waits bytes left old mid n)
     → h.rest ≢ [] → line ≡ first_line h.rest
-    → LineAnswers L w' h.items h.out h.table line (n + 1) mid now' (Err f)
-    → WriteLinesAnswers L most bytes old now' (Err f)
-stops_there {L = L} w' now' (fault.Wrong m column path due) h some is answers =
-    so_far (IsWrongNext L m) (kept_sent now' answers.2 h) (
+    → LineAnswers S w' h.items h.out h.table line (n + 1) mid now' (Err f)
+    → WriteLinesAnswers S most bytes old now' (Err f)
+stops_there {S = S} w' now' (fault.Wrong m column path due) h some is answers =
+    so_far (IsWrongNext S m) (kept_sent now' answers.2 h) (
       some,
       answers.0 ∙ ap (λ k. k + 1) (sym h.count),
-      subst (λ (l : List ℕ). IsUtf8 l → SaysNoItem L h.table (length h.out) l) is answers.1,
+      subst (λ (l : List ℕ). IsUtf8 l → SaysNoItem S h.table (length h.out) l) is answers.1,
     )
-stops_there {L = L} w' now' (fault.Refused m r) h some is answers =
-    so_far (RefusesNext L m r) (kept_sent now' answers.2 h) (
+stops_there {S = S} w' now' (fault.Refused m r) h some is answers =
+    so_far (RefusesNext S m r) (kept_sent now' answers.2 h) (
       some,
       answers.0 ∙ ap (λ k. k + 1) (sym h.count),
-      subst (λ (l : List ℕ). RefusesLine L h.table (length h.out) l r) is answers.1,
+      subst (λ (l : List ℕ). RefusesLine S h.table (length h.out) l r) is answers.1,
     )
 stops_there w' now' (fault.TooLong m most) h some is answers = absurd answers
 stops_there w' now' fault.Read h some is answers = absurd answers
 stops_there w' now' fault.Memory h some is answers = so_far IsSome (kept_sent now' answers h) tt
-stops_there {L = L} w' {mid = mid} now' fault.Write h some is answers = (
+stops_there {S = S} w' {mid = mid} now' fault.Write h some is answers = (
   mid,
-  so_far (CutsNext L mid now') h
-      (inr (subst (λ (l : List ℕ). WroteSome L h.table (length h.out) l mid now') is answers)),
+  so_far (CutsNext S mid now') h
+      (inr (subst (λ (l : List ℕ). WroteSome S h.table (length h.out) l mid now') is answers)),
 )
 
-pub line_stops : {L : Bounds} {most : ℕ} {w : LineWriter} (w' : LineWriter) {waits waits' : Waiting}
+pub line_stops : {S : Saying} {most : ℕ} {w : LineWriter} (w' : LineWriter) {waits waits' : Waiting}
     {bytes line : List ℕ} {left left' old now : Option (List ℕ)} (mid now' : Option (List ℕ)) {n : ℕ} (count : ℕ)
     (f : LinesFault)
-    (h : HasReadLines L most w waits bytes left old now n) → Keeps now mid
+    (h : HasReadLines S most w waits bytes left old now n) → Keeps now mid
     → ((b : List ℕ) → IsLeft waits left b → NextLine most (n + 1) b waits' left' (Ok count)) → count ≢ 0
     → line ≡ take count (waiting waits')
-    → ((items : List StreamItem) (out : List ℕ) (T : Table) → HasWrittenLines L w items out T
-    → LineAnswers L w' items out T line (n + 1) mid now' (Err f)) → WriteLinesAnswers L most bytes old now' (Err f)
+    → ((items : List StreamItem) (out : List ℕ) (T : Table) → HasWrittenLines S w items out T
+    → LineAnswers S w' items out T line (n + 1) mid now' (Err f)) → WriteLinesAnswers S most bytes old now' (Err f)
 line_stops w' mid now' count f h k next some is answers =
     let waits = next h.rest h.rest_left in
     stops_there w' now' f (kept_sent mid k h) (some_left waits some) (is ∙ waits.line)
@@ -251,9 +268,9 @@ line_stops w' mid now' count f h k next some is answers =
 
 -- ---- behind a flush
 
-kept_lines : {L : Bounds} {most : ℕ} {bytes : List ℕ} {old now : Option (List ℕ)}
+kept_lines : {S : Saying} {most : ℕ} {bytes : List ℕ} {old now : Option (List ℕ)}
     {P : ℕ → Table → List ℕ → List ℕ → Type 0}
-    (now' : Option (List ℕ)) → Keeps now now' → WroteLines L most bytes old now P → WroteLines L most bytes old now' P
+    (now' : Option (List ℕ)) → Keeps now now' → WroteLines S most bytes old now P → WroteLines S most bytes old now' P
 kept_lines {old = old} {now = now} now' k h = record {
   lines = h.lines;
   rest = h.rest;
@@ -268,10 +285,10 @@ kept_lines {old = old} {now = now} now' k h = record {
 }
 
 -- what holds of the lines, weakened
-weaker : {L : Bounds} {most : ℕ} {bytes : List ℕ} {old now : Option (List ℕ)}
+weaker : {S : Saying} {most : ℕ} {bytes : List ℕ} {old now : Option (List ℕ)}
     {P Q : ℕ → Table → List ℕ → List ℕ → Type 0}
-    → ((n : ℕ) (T : Table) (out rest : List ℕ) → P n T out rest → Q n T out rest) → WroteLines L most bytes old now P
-    → WroteLines L most bytes old now Q
+    → ((n : ℕ) (T : Table) (out rest : List ℕ) → P n T out rest → Q n T out rest) → WroteLines S most bytes old now P
+    → WroteLines S most bytes old now Q
 weaker f h = record {
   lines = h.lines;
   rest = h.rest;
@@ -285,10 +302,10 @@ weaker f h = record {
   holds = f _ _ _ _ h.holds;
 }
 
-cut_kept : (L : Bounds) (mid now now' : Option (List ℕ)) → Keeps now now' → (n : ℕ) (T : Table) (out rest : List ℕ)
-    → CutsNext L mid now n T out rest → CutsNext L mid now' n T out rest
-cut_kept L mid now now' k n T out rest (inl keeps) = inl (Keeps-trans mid now now' keeps k)
-cut_kept L mid now now' k n T out rest (inr some) = inr (record {
+cut_kept : (S : Saying) (mid now now' : Option (List ℕ)) → Keeps now now' → (n : ℕ) (T : Table) (out rest : List ℕ)
+    → CutsNext S mid now n T out rest → CutsNext S mid now' n T out rest
+cut_kept S mid now now' k n T out rest (inl keeps) = inl (Keeps-trans mid now now' keeps k)
+cut_kept S mid now now' k n T out rest (inr some) = inr (record {
   item = some.item;
   says = some.says;
   wrote = record {
@@ -301,21 +318,21 @@ cut_kept L mid now now' k n T out rest (inr some) = inr (record {
 })
 
 -- a flush keeps what was written
-pub flushed_answers : (L : Bounds) (most : ℕ) (bytes : List ℕ) (old now now' : Option (List ℕ))
-    (r : Result (Unit {0}) LinesFault) → Keeps now now' → WriteLinesAnswers L most bytes old now r
-    → WriteLinesAnswers L most bytes old now' r
-flushed_answers L most bytes old now now' (Ok u) k h = kept_lines now' k h
-flushed_answers L most bytes old now now' (Err (fault.Wrong m column path due)) k h = kept_lines now' k h
-flushed_answers L most bytes old now now' (Err (fault.Refused m r)) k h = kept_lines now' k h
-flushed_answers L most bytes old now now' (Err (fault.TooLong m limit)) k h = (h.0, kept_lines now' k h.1)
-flushed_answers L most bytes old now now' (Err fault.Read) k h = kept_lines now' k h
-flushed_answers L most bytes old now now' (Err fault.Memory) k h = kept_lines now' k h
-flushed_answers L most bytes old now now' (Err fault.Write) k h = (h.0, weaker (cut_kept L h.0 now now' k) h.1)
+pub flushed_answers : (S : Saying) (most : ℕ) (bytes : List ℕ) (old now now' : Option (List ℕ))
+    (r : Result (Unit {0}) LinesFault) → Keeps now now' → WriteLinesAnswers S most bytes old now r
+    → WriteLinesAnswers S most bytes old now' r
+flushed_answers S most bytes old now now' (Ok u) k h = kept_lines now' k h
+flushed_answers S most bytes old now now' (Err (fault.Wrong m column path due)) k h = kept_lines now' k h
+flushed_answers S most bytes old now now' (Err (fault.Refused m r)) k h = kept_lines now' k h
+flushed_answers S most bytes old now now' (Err (fault.TooLong m limit)) k h = (h.0, kept_lines now' k h.1)
+flushed_answers S most bytes old now now' (Err fault.Read) k h = kept_lines now' k h
+flushed_answers S most bytes old now now' (Err fault.Memory) k h = kept_lines now' k h
+flushed_answers S most bytes old now now' (Err fault.Write) k h = (h.0, weaker (cut_kept S h.0 now now' k) h.1)
 
 -- and one that fails behind all lines is a failed write
-pub unflushed_answers : (L : Bounds) (most : ℕ) (bytes : List ℕ) (old now now' : Option (List ℕ)) → Keeps now now'
-    → WroteLines L most bytes old now IsAll → WriteLinesAnswers L most bytes old now' (Err fault.Write)
-unflushed_answers L most bytes old now now' k h = (now, weaker (λ n T out rest all. inl k) h)
+pub unflushed_answers : (S : Saying) (most : ℕ) (bytes : List ℕ) (old now now' : Option (List ℕ)) → Keeps now now'
+    → WroteLines S most bytes old now IsAll → WriteLinesAnswers S most bytes old now' (Err fault.Write)
+unflushed_answers S most bytes old now now' k h = (now, weaker (λ n T out rest all. inl k) h)
 
 -- ---- what is counted
 

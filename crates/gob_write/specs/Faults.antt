@@ -3,6 +3,8 @@ use Rattle.std.specs.Prelude.{◌≡◌, ◌⊎◌, ℕ, Result, Ok, Err}
 use Rattle.gob_stream.specs.Devices.{counts_up}
 use Rattle.gob_stream.specs.declared.fault.Fault.{Fault}
 use Rattle.gob_stream.specs.declared.fault.Fault.TheVariants as reading
+use Rattle.gob_stream.specs.declared.fault.WriteFault.{WriteFault}
+use Rattle.gob_stream.specs.declared.fault.WriteFault.TheVariants as writing
 use Rattle.gob_write.specs.declared.fault.LinesFault.{LinesFault}
 use Rattle.gob_write.specs.declared.fault.LinesFault.TheVariants as fault
 
@@ -19,6 +21,18 @@ fault_status fault.Memory = 2
 abbrev pub reading_fault : Fault → LinesFault
 reading_fault reading.Read = fault.Read
 reading_fault _ = fault.Memory
+
+-- the fault of a run whose writer answered so at the line of this number, counted from 1; an item in front of all lines
+-- is of line 0
+abbrev pub writing_fault : ℕ → WriteFault → LinesFault
+writing_fault number (writing.Refused r) = fault.Refused number r
+writing_fault number writing.Write = fault.Write
+writing_fault number writing.Memory = fault.Memory
+writing_fault number writing.Failed = fault.Memory
+
+abbrev pub writing_result : ℕ → Result (Unit {0}) WriteFault → Result (Unit {0}) LinesFault
+writing_result number (Ok u) = Ok u
+writing_result number (Err f) = Err (writing_fault number f)
 
 -- something is wrong with the line of this number, or there was no memory to say so
 abbrev pub IsWrongAt : ℕ → LinesFault → Type 0
@@ -42,7 +56,7 @@ CountsWrites failures failures' (Err fault.Write) = failures' ≡ counts_up fail
 CountsWrites failures failures' _ = failures' ≡ failures
 
 -- and at its end the flush behind another fault may have failed
-abbrev pub CountsAllWrites : (failures failures' : ℕ) → Result (Unit {0}) LinesFault → Type 0
+abbrev pub CountsAllWrites : {A : Type 0} → (failures failures' : ℕ) → Result A LinesFault → Type 0
 CountsAllWrites failures failures' (Ok _) = failures' ≡ failures
 CountsAllWrites failures failures' (Err fault.Write) = failures' ≡ counts_up failures 1
 CountsAllWrites failures failures' (Err _) = (failures' ≡ failures) ⊎ (failures' ≡ counts_up failures 1)

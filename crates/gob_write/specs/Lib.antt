@@ -2,3 +2,6 @@ pub mod Faults
 pub mod Lines
 pub mod Says
 pub mod Running
+pub mod Making
+pub mod Types
+pub mod Source

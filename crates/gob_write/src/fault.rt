@@ -27,7 +27,7 @@ pub enum LinesFault {
     },
     /// The item of this line continues no stream.
     Refused {
-        /// The line, from 1.
+        /// The line, from 1, or 0 for a definition in front of the values of plain JSON.
         line: u64,
         /// Why it doesn't.
         reason: Reason,
@@ -93,6 +93,9 @@ impl fmt::Display for LinesFault {
             }
             LinesFault::Refused { line, reason } => {
                 let number = reason.number();
+                if *line == 0 {
+                    return write!(f, "gob: types: refused {number} {reason}");
+                }
                 write!(f, "gob: line {line}: refused {number} {reason}")
             }
             LinesFault::TooLong { line, most } => {

@@ -9,7 +9,11 @@
 mod fault;
 mod lines;
 mod run;
+mod source;
+mod types;
 mod writer;
 
 pub use fault::LinesFault;
-pub use run::run_write;
+pub use run::{run_make, run_write};
+pub use source::{SourceTypesFault, types_of_source};
+pub use types::{Definition, Types, TypesFault, read_types};

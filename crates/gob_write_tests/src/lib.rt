@@ -9,6 +9,10 @@ mod failures;
 #[cfg(test)]
 mod lines;
 #[cfg(test)]
+mod made;
+#[cfg(test)]
 mod memory;
 #[cfg(test)]
 mod runs;
+#[cfg(test)]
+mod sourced;

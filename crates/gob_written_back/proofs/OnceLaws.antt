@@ -23,7 +23,8 @@ use Rattle.gob_lines.specs.Laws.{HaveFewFields}
 use Rattle.gob_lines.proofs.PutLaws.{put_front}
 use Rattle.gob_lines.proofs.UniqueLaws.{behind, first, one_value}
 use Rattle.gob_write.specs.Running.{SayStream, say_no_more, say_nothing, say_one_more}
-use Rattle.gob_write.specs.Says.{SaysItem, says_definition, says_value}
+use Rattle.gob_write.specs.Says.{as_shown, SaysItem, says_definition, says_value}
+use Rattle.gob_write.specs.declared.writer.LineForm.TheVariants as form
 use Rattle.gob_write.proofs.SaidLaws.{defines_readable, item_readable}
 use Rattle.gob_written_back.proofs.OneShapeLaws.{definition_said}
 use Rattle.gob_written_back.proofs.SayLaws.{few_before, item_keeps}
@@ -52,7 +53,7 @@ made_once {id = id} {other = other} {s = s} {w = w} same is are =
     ap (λ (x : Tree). defines id x) one ∙ ap (λ (t : TypeId). defines t w) same.0
 
 item_once : {L : Bounds} {T U V : Table} {offset : ℕ} {i j : StreamItem} {b c : List ℕ} (line : List ℕ)
-    → HaveFewFields T → AreBytes b → AreBytes c → SaysItem T line i → SaysItem T line j
+    → HaveFewFields T → AreBytes b → AreBytes c → SaysItem T line form.Shown i → SaysItem T line form.Shown j
     → IsItem base_table L T offset i b U → IsItem base_table L T offset j c V → i ≡ j
 item_once line few p q (says_value ready said) (says_value ready' said') one two =
     put_said few (item_readable (tokens line) p ready said one) (item_readable (tokens line) q ready' said' two)
@@ -125,12 +126,13 @@ pub record SaidOnce (items others : List StreamItem) (b c : List ℕ) (T U : Tab
   pub same_table : T ≡ U
 
 one_more_once : {L : Bounds} {items others : List StreamItem} {i j : StreamItem} {b c d e : List ℕ} {T U V W : Table}
-    (line : List ℕ) → SaidOnce items others b c T U → HaveFewFields T → AreBytes d → AreBytes e → SaysItem T line i
-    → SaysItem U line j → IsItem base_table L T (length b) i d V → IsItem base_table L U (length c) j e W
+    (line : List ℕ) → SaidOnce items others b c T U → HaveFewFields T → AreBytes d → AreBytes e
+    → SaysItem T line form.Shown i → SaysItem U line form.Shown j → IsItem base_table L T (length b) i d V
+    → IsItem base_table L U (length c) j e W
     → SaidOnce (items ++ i ∷ []) (others ++ j ∷ []) (b ++ d) (c ++ e) V W
 one_more_once {L = L} {others = others} {i = i} {j = j} {b = b} {e = e} {T = T} {U = U}
     {W = W} line r few p q says said one two =
-    let here = subst (λ (K : Table). SaysItem K line j) (sym r.same_table) said in
+    let here = subst (λ (K : Table). SaysItem K line form.Shown j) (sym r.same_table) said in
     let there = subst (λ (K : Table). IsItem base_table L K (length b) j e W) (sym r.same_table)
     (subst (λ (l : List ℕ). IsItem base_table L U (length l) j e W) (sym r.same_bytes) two) in
     let same = item_once line few p q says here one there in
@@ -143,13 +145,13 @@ one_more_once {L = L} {others = others} {i = i} {j = j} {b = b} {e = e} {T = T} 
       same_table = spelled.table;
     }
 
-says_something : {T : Table} {i : StreamItem} (line : List ℕ) → SaysItem T line i → tokens line ≡ [] → ⊥
+says_something : {T : Table} {i : StreamItem} (line : List ℕ) → SaysItem T line form.Shown i → tokens line ≡ [] → ⊥
 says_something line (says_value ready said) none = let f = sym none ∙ said in grind (arith, f)
 says_something line (says_definition s d is said) none = let f = sym none ∙ said in grind (arith, f)
 
 pub stream_once : {L : Bounds} {lines texts : List (List ℕ)} {items others : List StreamItem} {b c : List ℕ}
-    {T U : Table} → lines ≡ texts → HaveFewFields T → AreBytes b → AreBytes c → SayStream L lines items b T
-    → SayStream L texts others c U → SaidOnce items others b c T U
+    {T U : Table} → lines ≡ texts → HaveFewFields T → AreBytes b → AreBytes c → SayStream (as_shown L) lines items b T
+    → SayStream (as_shown L) texts others c U → SaidOnce items others b c T U
 stream_once e few p q say_nothing say_nothing = record { same_items = refl; same_bytes = refl; same_table = refl }
 stream_once e few p q say_nothing (say_no_more {lines = texts} line s none) = absurd (snoc_none texts line e)
 stream_once e few p q say_nothing (say_one_more {lines = texts} line s says item) = absurd (snoc_none texts line e)
@@ -168,4 +170,4 @@ stream_once e few p q (say_one_more {lines = lines} line {b = b} {c = c} s says 
     let few_then = few_before (item_keeps item) few in
     let before = stream_once same.0 few_then (bytes_prefix b c p) (bytes_prefix d f q) s t in
     one_more_once line before few_then (bytes_rest b c p) (bytes_rest d f q) says
-    (subst (λ (l : List ℕ). SaysItem T l k) (sym same.1) said) item other
+    (subst (λ (l : List ℕ). SaysItem T l form.Shown k) (sym same.1) said) item other

@@ -14,6 +14,7 @@ use Rattle.gob_lines.specs.Laws.{HaveFewFields}
 use Rattle.gob_tool.specs.Line.{line, lines}
 use Rattle.gob_write.specs.Lines.{AreLines}
 use Rattle.gob_write.specs.Running.{SayStream}
+use Rattle.gob_write.specs.Says.{as_shown}
 
 -- the second item is the first, with the description that a writer makes of its shape
 pub data IsMadeOf (T : Table) : StreamItem → StreamItem → Type 0 where
@@ -41,9 +42,9 @@ AreShort most (l ∷ rest) = (length l ≤ most) × AreShort most rest
 pub record SaysStream (L : Bounds) (most : ℕ) (text : List ℕ) (lines : List (List ℕ)) (items : List StreamItem)
     (bytes : List ℕ) (T : Table) : Type 0 where
   pub cut : AreLines most text lines []
-  pub say : SayStream L lines items bytes T
+  pub say : SayStream (as_shown L) lines items bytes T
   pub only : (others : List StreamItem) (c : List ℕ) (U : Table) → AreBytes bytes → AreBytes c
-      → SayStream L lines others c U → (others ≡ items) × (c ≡ bytes)
+      → SayStream (as_shown L) lines others c U → (others ≡ items) × (c ≡ bytes)
 
 -- the text that `show` prints of a stream says the stream of its items, each description as a writer makes it
 abbrev pub ShownStreamsAreWrittenBack : Type 0

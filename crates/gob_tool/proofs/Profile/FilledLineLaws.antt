@@ -1,5 +1,6 @@
 -- The line of a value that waits as a whole, whatever its interfaces hold.
-use Rattle.std.proofs.Common.{◌≡◌, ◌∙◌, ℕ, List, ◌++◌, [], arith, length, take, refl, sym, ap, subst, min, length-append}
+use Rattle.std.proofs.Common.{◌≡◌, ◌∙◌, ℕ, List, ◌++◌, [], arith, length, take, refl, sym, ap, subst, min}
+use Rattle.std.proofs.Common.{length-append}
 use Rattle.std.proofs.lemmas.List.{length-take-le}
 use Rattle.serde_json.specs.Data.{Data}
 use Rattle.gob_num.specs.Unsigned.{AreBytes}

@@ -1,6 +1,6 @@
 -- Without memory for the names nothing is known of the words.
 use Rattle.std.proofs.Common.{map, rules}
-use Rattle.gob.proofs.AskedLaws.{asks_nothing_without_memory, refuses_parts, refuses_view}
+use Rattle.gob.proofs.AskedLaws.{asks_nothing_without_memory, refuses_making, refuses_parts, refuses_view}
 use Rattle.gob.proofs.asked.shown_by.Goals as goal
 
 pub returns-in_err-files : goal.returns-in_err-files
@@ -21,4 +21,14 @@ returns-in_err-splitting c =
       asks = c.in_ok-view.ensures.view;
       parts = search rules;
       refuses = c.in_err-splitting.ensures;
+    })
+
+pub returns-in_err-making : goal.returns-in_err-making
+returns-in_err-making c =
+    refuses_making (map (λ word. word.now) c.args.words.now) c.from_residual-in_err-making.result _
+    c.from_residual-in_err-making.ensures.1 (record {
+      view = c.in_ok-view.view;
+      asks = c.in_ok-view.ensures.view;
+      made = search rules;
+      refuses = c.in_err-making.ensures;
     })

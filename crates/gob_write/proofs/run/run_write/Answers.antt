@@ -1,10 +1,26 @@
+use Rattle.std.proofs.Common.{refl}
+use Rattle.std.proofs.KnownBytes.{Appends-nil}
 use Rattle.gob_stream.specs.Bounds.{within_trees}
+use Rattle.gob_stream.specs.Calls.Ends.{writer_of}
+use Rattle.gob_write.specs.Running.{WriteLinesAnswers}
+use Rattle.gob_write.specs.Says.{as_shown}
+use Rattle.gob_write.specs.declared.fault.LinesFault.TheVariants as fault
+use Rattle.gob_write.proofs.RunLaws.{err_result, none_written}
 use Rattle.gob_write.proofs.run.run_write.Goals as goal
+
+pub returns-in_err-writer-clause-written : goal.returns-in_err-writer-clause-written
+returns-in_err-writer-clause-written g c = λ bytes e.
+    let L = within_trees c.args.limits in
+    let old = g.W.Write.contents (writer_of c.args.output.now) in
+    err_result (WriteLinesAnswers (as_shown L) c.args.most bytes old old) c.from_residual.result fault.Memory
+    c.from_residual.ensures.1 (none_written L c.args.most bytes old)
 
 pub returns-clause-written : goal.returns-clause-written
 returns-clause-written g c = λ bytes e.
-    c.end_lines.ensures.written (within_trees c.args.limits) c.args.most bytes _
-    (c.write_lines-answer.ensures.written bytes e)
+    let L = within_trees c.args.limits in
+    c.end_lines.ensures.written (as_shown L) c.args.most bytes _
+    (c.write_lines-answer.ensures.written (as_shown L) _ bytes (c.args.limits, refl) c.in_ok-writer.ensures
+    (Appends-nil _) e)
 
 pub returns-clause-reads : goal.returns-clause-reads
 returns-clause-reads g c = c.end_lines.ensures.reads _ _ c.write_lines-answer.ensures.reads

@@ -1,5 +1,4 @@
 use Rattle.std.proofs.Common.{◌∙◌, ap, refl, take}
-use Rattle.gob_stream.specs.Bounds.{within_trees}
 use Rattle.gob_stream.specs.Calls.Ends.{reader_of, writer_of}
 use Rattle.gob_write.specs.Running.{IsSome, WriteLinesAnswers}
 use Rattle.gob_write.specs.declared.fault.LinesFault.TheVariants as fault
@@ -7,59 +6,52 @@ use Rattle.gob_write.proofs.RunLaws.{nothing_written, begun, ended, unread_line,
 use Rattle.gob_write.proofs.RunLaws.{err_result, no_read_counted}
 use Rattle.gob_write.proofs.run.write_lines.Goals as goal
 
-pub returns-in_err-writer-clause-written : goal.returns-in_err-writer-clause-written
-returns-in_err-writer-clause-written g c = λ bytes e.
-    let L = within_trees c.args.limits in
-    let old = g.W.Write.contents (writer_of c.args.output.now) in
-    err_result (WriteLinesAnswers L c.args.most bytes old old) c.from_residual.result fault.Memory
-    c.from_residual.ensures.1 (nothing_written L c.args.most bytes old)
-
 pub returns-in_err-waiting-clause-written : goal.returns-in_err-waiting-clause-written
-returns-in_err-waiting-clause-written g c = λ bytes e.
-    let L = within_trees c.args.limits in
-    let old = g.W.Write.contents (writer_of c.args.output.now) in
-    err_result (WriteLinesAnswers L c.args.most bytes old old) c.from_residual-in_err-waiting.result fault.Memory
-    c.from_residual-in_err-waiting.ensures.1 (nothing_written L c.args.most bytes old)
+returns-in_err-waiting-clause-written g c = λ S start bytes within h sent e.
+    let now = g.W.Write.contents (writer_of c.args.output.now) in
+    err_result (WriteLinesAnswers S c.args.most bytes start now) c.from_residual.result fault.Memory
+    c.from_residual.ensures.1 (nothing_written S c.args.most c.args.writer.now bytes start now h sent)
 
 pub loop-number-init : goal.loop-number-init
 loop-number-init g c = record {
-  read = λ bytes e. begun (within_trees c.args.limits) c.args.most c.in_ok-writer.writer c.in_ok-waiting.waiting bytes _
-      _ c.in_ok-writer.ensures c.in_ok-waiting.ensures.none e;
+  read = λ S start bytes within h sent e. begun S c.args.most c.args.writer.now c.in_ok-waiting.waiting bytes
+      _ start _ h sent c.in_ok-waiting.ensures.none e;
   reads = refl;
   writes = refl;
 }
 
 pub returns-in_err-count-clause-written : goal.returns-in_err-count-clause-written
-returns-in_err-count-clause-written g c = λ bytes e.
-    let old = g.W.Write.contents (writer_of c.args.output.now) in
+returns-in_err-count-clause-written g c = λ S start bytes within h sent e.
     let now = g.W.Write.contents (writer_of c.next_line.new.output) in
-    err_result (WriteLinesAnswers (within_trees c.args.limits) c.args.most bytes old now)
+    err_result (WriteLinesAnswers S c.args.most bytes start now)
     c.from_residual-in_err-count.result c.in_err-count.field-0.0 c.from_residual-in_err-count.ensures.1
     (unread_line c.in_err-count.field-0.0 c.next_line.new.buffered
     (g.R.Read.remaining (reader_of c.next_line.new.input)) now c.in_err-count.ensures.sent
-    (c.loop-number.invariant.read bytes e) c.in_err-count.ensures.line)
+    (c.loop-number.invariant.read S start bytes within h sent e) c.in_err-count.ensures.line)
 
 pub returns-then-count-eq0-clause-written : goal.returns-then-count-eq0-clause-written
-returns-then-count-eq0-clause-written g c = λ bytes e.
+returns-then-count-eq0-clause-written g c = λ S start bytes within h sent e.
     ended c.in_ok-count.count c.next_line.new.buffered _ _ c.in_ok-count.ensures.sent
-    (c.loop-number.invariant.read bytes e) c.in_ok-count.ensures.line c.if-count-eq0.true
+    (c.loop-number.invariant.read S start bytes within h sent e) c.in_ok-count.ensures.line c.if-count-eq0.true
 
 pub returns-in_err-write-clause-written : goal.returns-in_err-write-clause-written
-returns-in_err-write-clause-written g c = λ bytes e.
-    let old = g.W.Write.contents (writer_of c.args.output.now) in
+returns-in_err-write-clause-written g c = λ S start bytes within h sent e.
     let now = g.W.Write.contents (writer_of c.write.new.output) in
-    err_result (WriteLinesAnswers (within_trees c.args.limits) c.args.most bytes old now)
+    err_result (WriteLinesAnswers S c.args.most bytes start now)
     c.from_residual-in_err-write.result c.in_err-write.field-0.0 c.from_residual-in_err-write.ensures.1
     (line_stops c.write.new.self _ now c.in_ok-count.count c.in_err-write.field-0.0
-    (c.loop-number.invariant.read bytes e)
+    (c.loop-number.invariant.read S start bytes within h sent e)
     c.in_ok-count.ensures.sent c.in_ok-count.ensures.line c.if-count-eq0.false
-    (ap (take c.in_ok-count.count) c.bytes.ensures) (c.in_err-write.ensures.says c.args.limits))
+    (ap (take c.in_ok-count.count) c.bytes.ensures)
+    (λ items out T written. c.in_err-write.ensures.says S items out T within written))
 
 pub loop-number-preserved : goal.loop-number-preserved
 loop-number-preserved g c = record {
-  read = λ bytes e. one_line c.in_ok-count.count (c.loop-number.invariant.read bytes e) c.in_ok-count.ensures.sent
-      c.in_ok-count.ensures.line c.if-count-eq0.false (ap (take c.in_ok-count.count) c.bytes.ensures)
-      c.pass.ensures.bytes (c.in_ok-write.ensures.says c.args.limits);
+  read = λ S start bytes within h sent e.
+      one_line c.in_ok-count.count (c.loop-number.invariant.read S start bytes within h sent e)
+      c.in_ok-count.ensures.sent c.in_ok-count.ensures.line c.if-count-eq0.false
+      (ap (take c.in_ok-count.count) c.bytes.ensures) c.pass.ensures.bytes
+      (λ items out T written. c.in_ok-write.ensures.says S items out T within written);
   reads = c.in_ok-count.ensures.reads ∙ c.loop-number.invariant.reads;
   writes = c.in_ok-write.ensures.counted ∙ c.in_ok-count.ensures.writes ∙ c.loop-number.invariant.writes;
 }
@@ -71,4 +63,5 @@ returns-in_err-write-clause-reads g c =
     (c.in_ok-count.ensures.reads ∙ c.loop-number.invariant.reads)
 
 pub returns-clause-written : goal.returns-clause-written
-returns-clause-written g c = λ bytes e. so_far IsSome (c.loop-number.invariant.read bytes e) tt
+returns-clause-written g c = λ S start bytes within h sent e.
+    so_far IsSome (c.loop-number.invariant.read S start bytes within h sent e) tt

@@ -1,16 +1,19 @@
 -- So many lines were read, and what they say is written.
-use Rattle.std.proofs.Common.{◌≡◌, ℕ, List, Some}
-use Rattle.gob_stream.specs.Bounds.{within_trees}
+use Rattle.std.proofs.Common.{◌≡◌, ℕ, List, Option, Some}
+use Rattle.std.specs.Io.KnownBytes.{Appends}
 use Rattle.gob_stream.specs.Calls.Ends.{failed_reads, failed_writes, reader_of, writer_of}
 use Rattle.gob_write.proofs.RunLaws.{HasReadLines}
+use Rattle.gob_write.specs.Says.{HasWrittenLines, IsWithinTrees, Saying}
 use Rattle.gob_write.proofs.run.write_lines.Given as goal
 
 abbrev pub invariant-loop-number : goal.invariant-loop-number
 invariant-loop-number g l = record {
-  read : (bytes : List ℕ) → g.R.Read.remaining (reader_of l.fn.input) ≡ Some bytes
-      → HasReadLines (within_trees l.fn.limits) l.fn.most l.writer l.waiting bytes
-      (g.R.Read.remaining (reader_of l.input))
-      (g.W.Write.contents (writer_of l.fn.output)) (g.W.Write.contents (writer_of l.output)) l.number;
+  read : (S : Saying) (start : Option (List ℕ)) (bytes : List ℕ) → IsWithinTrees S
+      → HasWrittenLines S l.fn.writer S.items S.bytes S.table
+      → Appends start (g.W.Write.contents (writer_of l.fn.output)) S.bytes
+      → g.R.Read.remaining (reader_of l.fn.input) ≡ Some bytes
+      → HasReadLines S l.fn.most l.writer l.waiting bytes (g.R.Read.remaining (reader_of l.input)) start
+      (g.W.Write.contents (writer_of l.output)) l.number;
   reads : failed_reads l.input ≡ failed_reads l.fn.input;
   writes : failed_writes l.output ≡ failed_writes l.fn.output;
 }

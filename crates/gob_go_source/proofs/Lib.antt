@@ -1,0 +1,5 @@
+pub mod BracketLaws
+pub mod DeclarationLaws
+pub mod GrammarLaws
+pub mod LexingLaws
+pub mod ScanLaws

@@ -1,0 +1,13 @@
+use Rattle.std.proofs.Common.{◌≡◌, ◌≤◌, length}
+use Rattle.gob_go_source.specs.Brackets.{behind_close}
+use Rattle.gob_go_source.specs.Left.{left}
+use Rattle.gob_go_source.proofs.tokens.Tokens.pass_brackets.Given as goal
+
+abbrev pub invariant-tokens : goal.invariant-tokens
+invariant-tokens l = record {
+  few : l.depth ≤ l.self.at;
+  same : behind_close l.depth (left l.self) ≡ behind_close 0 (left l.fn.self);
+}
+
+abbrev pub decreases-tokens : goal.decreases-tokens
+decreases-tokens l = length (left l.self)

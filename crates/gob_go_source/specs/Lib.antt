@@ -1,0 +1,11 @@
+pub mod Beginning
+pub mod Brackets
+pub mod Declarations
+pub mod Grammar
+pub mod Grown
+pub mod Left
+pub mod Lexing
+pub mod Notes
+pub mod Numbers
+pub mod Scanning
+pub mod Source

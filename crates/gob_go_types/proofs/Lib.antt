@@ -1,0 +1,5 @@
+pub mod CodeLaws
+pub mod KeptLaws
+pub mod KindLaws
+pub mod SightLaws
+pub mod SlotLaws

@@ -1,0 +1,9 @@
+mod ReadLaws
+mod FieldLaws
+mod ZeroLaws
+mod SkipLaws
+mod SaidLaws
+mod TakenLaws
+mod ViewLaws
+mod OpaqueLaws
+mod TimeLaws

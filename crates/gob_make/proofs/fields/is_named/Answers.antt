@@ -1,0 +1,33 @@
+use Rattle.std.proofs.Common.{◌≡◌, ◌∙◌, ◌++◌, List, ℕ, Bool, true, false, IsTrue, codes, refl, rules, sym}
+use Rattle.std.specs.Prelude.{◌↔◌, if◌then◌else◌}
+use Rattle.std.specs.Str.{IsUtf8, is_utf8}
+use Rattle.std.proofs.lemmas.Str.{IsUtf8-from_is_utf8, is_utf8-from_IsUtf8}
+use Rattle.hex.specs.Hex.{encode_lower}
+use Rattle.gob_plain.specs.Plain.{name_text}
+use Rattle.gob_make.proofs.fields.is_named.Goals as goal
+
+utf8_name : (b : List ℕ) → IsUtf8 b → name_text b ≡ b
+utf8_name b h = rw (is_utf8-from_IsUtf8 b h) refl
+
+chosen_by : (test : Bool) (d e : List ℕ) → (test ≡ true → ⊥) → (if test then d else e) ≡ e
+chosen_by true d e h = absurd (h refl)
+chosen_by false d e h = refl
+
+bytes_name : (b : List ℕ) → (IsUtf8 b → ⊥) → name_text b ≡ codes "0x" ++ encode_lower b
+bytes_name b h = chosen_by (is_utf8 b) b (codes "0x" ++ encode_lower b) (λ e. h (IsUtf8-from_is_utf8 b e))
+
+named : (b name text found : List ℕ) (r : Bool) → name_text b ≡ found → text ≡ found → IsTrue r ↔ (text ≡ name)
+    → IsTrue r ↔ (name_text b ≡ name)
+named b name text found r is same iff = (λ t. is ∙ sym same ∙ iff.0 t, λ e. iff.1 (same ∙ sym is ∙ e))
+
+pub returns-in-Ok : goal.returns-in-Ok
+returns-in-Ok c =
+    let utf8 = rw c.as_bytes-bytes.ensures at c.in-Ok.ensures.cases.1 in
+    let same : c.in-Ok.text.now ≡ c.args.field.now.name = search rules in
+    named c.args.field.now.name c.args.name.now _ _ c.is_same.result (utf8_name _ utf8) same c.is_same.ensures
+
+pub returns-in_ok-hex_name-in-Err : goal.returns-in_ok-hex_name-in-Err
+returns-in_ok-hex_name-in-Err c =
+    let other = rw c.as_bytes-bytes.ensures at c.in-Err.ensures.cases.0 in
+    named c.args.field.now.name c.args.name.now _ _ c.is_same-in-Err.result (bytes_name _ other) (search rules)
+    c.is_same-in-Err.ensures

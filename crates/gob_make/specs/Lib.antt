@@ -1,0 +1,4 @@
+pub mod Leaf
+pub mod Zero
+pub mod Plain
+pub mod Tells
