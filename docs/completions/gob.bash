@@ -20,7 +20,7 @@ _gob() {
         show) words+=' --go --progress --salvage' ;;
         check) words+=' --go --progress' ;;
         rewrite) words+=' --go --hoist' ;;
-        write) words+=' --line' ;;
+        write) words+=' --go --line' ;;
         make) words+=' --line --types --type --lenient' ;;
         esac
     else

@@ -22,7 +22,7 @@ use json::{Reader, Token};
 use std::alloc::Global;
 
 /// Reads the members behind the id, up to the end of the object: a shape that a description can give.
-pub(crate) fn read_shape(alloc: Global, tokens: &mut Reader<'_>) -> Result<Shape, LineFault>
+pub fn read_shape(alloc: Global, tokens: &mut Reader<'_>) -> Result<Shape, LineFault>
     ensures read { IfOk result (λ s. ReadsMembers (shape_members s.kind s.name) tokens.old tokens.new) }
     ensures definable { IfOk result IsDefinable }
     ensures whole { (s : ShapeSpec) (rest : List token.Token) → IsDefinable s → IsKindReadable s.kind → AreBytes s.name

@@ -82,6 +82,10 @@ pub enum Due {
     NoNull,
     /// What goes on the JSON.
     Json,
+    /// `null`, or what an interface holds.
+    Held,
+    /// The name of the type of what an interface holds.
+    HeldName,
 }
 
 impl fmt::Display for Due {
@@ -132,6 +136,8 @@ impl Due {
             Due::AtMost(_) | Due::AllElements => "an array of all its elements",
             Due::Json => "the rest of a JSON value",
             Due::NoNull => "a value that isn't null",
+            Due::Held => "null or {\"interface\":{\"name\":..,\"type\":..,\"value\":..}}",
+            Due::HeldName => "the name of a type, of one character at least",
             Due::Definable =>
                 "a definition that names ids from 1 to 2147483647 and a length of 63 bits at most",
         }

@@ -140,7 +140,7 @@ pub(crate) fn read_int(alloc: Global, tokens: &mut Reader<'_>) -> Result<i64, Li
 }
 
 /// Reads an unsigned number.
-pub(crate) fn read_uint(alloc: Global, tokens: &mut Reader<'_>) -> Result<u64, LineFault>
+pub fn read_uint(alloc: Global, tokens: &mut Reader<'_>) -> Result<u64, LineFault>
     ensures ok { IfOk result (λ n. Reads (natural_json n) tokens.old tokens.new) }
     ensures none { IfErr result (λ f. IsWrong f → (n : ℕ) (rest : List token.Token)
         → n < 2 ^ 64 → Reads (natural_json n) tokens.old rest → ⊥) }
@@ -252,7 +252,7 @@ pub(crate) fn read_complex(alloc: Global, tokens: &mut Reader<'_>) -> Result<(u6
 }
 
 /// Reads text: a string, or an object that has bytes that are no UTF-8.
-pub(crate) fn read_text(alloc: Global, tokens: &mut Reader<'_>) -> Result<Vec<u8>, LineFault>
+pub fn read_text(alloc: Global, tokens: &mut Reader<'_>) -> Result<Vec<u8>, LineFault>
     ensures read { IfOk result (λ bytes. Reads (text_json bytes.items) tokens.old tokens.new) }
     ensures whole { (b : List ℕ) (rest : List token.Token) → IsBytes b → Reads (text_json b) tokens.old rest
         → ReadsIt (λ bytes. bytes.items) result tokens.new b rest }
@@ -274,7 +274,7 @@ pub(crate) fn read_text(alloc: Global, tokens: &mut Reader<'_>) -> Result<Vec<u8
 }
 
 /// Reads the bytes of an opaque value.
-pub(crate) fn read_opaque(alloc: Global, tokens: &mut Reader<'_>) -> Result<Vec<u8>, LineFault>
+pub fn read_opaque(alloc: Global, tokens: &mut Reader<'_>) -> Result<Vec<u8>, LineFault>
     ensures read { IfOk result (λ bytes. Reads (opaque_json bytes.items) tokens.old tokens.new) }
     ensures whole { (b : List ℕ) (rest : List token.Token) → IsBytes b → Reads (opaque_json b) tokens.old rest
         → ReadsIt (λ bytes. bytes.items) result tokens.new b rest }
@@ -304,7 +304,7 @@ pub(crate) fn read_nil(alloc: Global, tokens: &mut Reader<'_>) -> Result<(), Lin
 }
 
 /// Reads a value without parts of a basic type.
-pub(crate) fn read_basic(
+pub fn read_basic(
     alloc: Global,
     basic: gob_types::Basic,
     tokens: &mut Reader<'_>,

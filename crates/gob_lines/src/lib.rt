@@ -14,9 +14,12 @@ mod line;
 mod path;
 mod value;
 
+pub use definition::read_shape;
 pub use fault::{Due, LineFault, Wrong};
 pub use leaf::{
-    int_of, is_same, read_hex, take_array, take_array_end, take_key, take_object_end, uint_of,
+    int_of, is_same, read_basic, read_hex, read_opaque, read_text, read_uint, take_array,
+    take_array_end, take_key, take_object_end, uint_of,
 };
 pub use line::{Line, read_line};
 pub use path::{PathStep, path_text};
+pub use value::{field_from, take_name};

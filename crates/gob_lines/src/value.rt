@@ -169,9 +169,10 @@ fn read_fields<S: Shapes>(
 }
 
 /// The field of this number, where it comes no earlier than the next one.
-fn field_from(types: &[Field], next: u64, number: u64) -> Option<&Field>
+pub fn field_from(types: &[Field], next: u64, number: u64) -> Option<&Field>
     ensures found { IfSome result (λ field. slice_get types.now number ≡ Some field.now) }
     ensures small { IfSome result (λ _. number + 1 < 2 ^ 64) }
+    ensures order { IfSome result (λ _. next ≤ number) }
     ensures lost { result ≡ None → next ≤ number → slice_get types.now number ≡ None }
 {
     if number < next {
@@ -181,7 +182,7 @@ fn field_from(types: &[Field], next: u64, number: u64) -> Option<&Field>
 }
 
 /// Takes the name of a field.
-fn take_name(alloc: Global, name: &[u8], tokens: &mut Reader<'_>) -> Result<(), LineFault>
+pub fn take_name(alloc: Global, name: &[u8], tokens: &mut Reader<'_>) -> Result<(), LineFault>
     ensures read { OnOk result (Reads (text_json name.now) tokens.old tokens.new) }
     ensures whole { (rest : List Token) → Reads (text_json name.now) tokens.old rest
         → PassesIt result tokens.new rest }

@@ -116,6 +116,7 @@ pub(crate) fn usual(alloc: Global, command: ViewCommand) -> View<'static> {
         fault: false,
         at: None,
         line: 268435456,
+        go: false,
     }
 }
 

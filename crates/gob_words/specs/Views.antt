@@ -70,6 +70,11 @@ abbrev pub IsHoistFlagOf : ViewCommand → Option Text → Bool → Type 0
 IsHoistFlagOf view.RewriteGo value flag = IsGiven value flag
 IsHoistFlagOf _ value flag = flag ≡ false
 
+-- whether the flag of write for lines of `show --go` is given, by clap's value of it, which no other view has
+abbrev pub IsGoFlagOf : ViewCommand → Option Text → Bool → Type 0
+IsGoFlagOf view.Write value flag = IsGiven value flag
+IsGoFlagOf _ value flag = flag ≡ false
+
 -- the offset that a word of explain gives, if one is there
 abbrev pub IsPlaceIn : Option Text → Option ℕ → Type 0
 IsPlaceIn None at = at ≡ None
@@ -112,6 +117,7 @@ pub record IsViewOf (met : Option (Text × List Row)) (view : View) : Type 0 whe
   pub fault : IsFaultFlagOf view.command (first_of (codes "fault") rows) view.fault
   pub at : IsPlaceOf view.command (first_of (codes "at") rows) view.at
   pub line : IsNumber (first_of (codes "line") rows) 268435456 view.line
+  pub go : IsGoFlagOf view.command (first_of (codes "go") rows) view.go
   pub least : 1 ≤ view.depth
   pub most : view.depth ≤ greatest_view_depth
 
@@ -121,7 +127,7 @@ IsVersionView given = (given.command ≡ view.Version) × (given.input ≡ None)
     × (given.item ≡ 67108864) × (given.zeros ≡ false) × (given.raw ≡ false) × (given.tagged ≡ false)
     × (given.typed ≡ false) × (given.only ≡ None) × (given.hoist ≡ false) × (given.fault ≡ false) × (given.at ≡ None)
     × (given.each ≡ false) × (given.kinds.items ≡ []) × (given.main ≡ false) × (given.progress ≡ false)
-    × (given.salvage ≡ false) × (given.line ≡ 268435456)
+    × (given.salvage ≡ false) × (given.line ≡ 268435456) × (given.go ≡ false)
 
 -- the files that a command's words name, in order, where it takes some
 abbrev pub files_in : Option (Text × List Row) → List Text

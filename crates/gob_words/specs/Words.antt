@@ -127,9 +127,10 @@ split = with_rule (with_rule (with_sizes (with_options (codes "split"))) (needed
 abbrev pub join : App
 join = with_rule (with_options (codes "join")) files_rule
 
--- the command that writes the stream of lines, with the option for their greatest length
+-- the command that writes the stream of lines, with the flag for those of `show --go` and the option for long ones
 abbrev pub write : App
-write = with_input (with_rule (with_options (codes "write")) (option_rule (codes "line")))
+write = with_input (with_rule (with_rule (with_options (codes "write")) (flag_rule (codes "go")))
+    (option_rule (codes "line")))
 
 -- the command that writes the stream of plain JSON, with the options for its types and lines
 abbrev pub with_made : App → App
@@ -139,14 +140,18 @@ with_made app = with_rule (with_rule (with_rule app (option_rule (codes "types")
 abbrev pub make : App
 make = with_input (with_made (with_rule (with_options (codes "make")) (option_rule (codes "line"))))
 
+-- the program without a command
+abbrev pub bare_program : App
+bare_program =
+    let top = (new_app (codes "gob")).top in
+    record { top = record top { has_version = true; subcommand_required = true }; subs = [] }
+
 -- the commands for people
 abbrev pub people_program : App
 people_program =
-    let top = (new_app (codes "gob")).top in
-    let bare : App = record { top = record top { has_version = true; subcommand_required = true }; subs = [] } in
     with_subcommand (with_subcommand
     (with_subcommand (with_subcommand (with_subcommand (with_subcommand (with_subcommand
-    (with_subcommand bare values.top) types.top) (one_stream (codes "why")).top) explain.top) verify.top)
+    (with_subcommand bare_program values.top) types.top) (one_stream (codes "why")).top) explain.top) verify.top)
     (one_stream (codes "salvage")).top) split.top) join.top
 
 -- and those that write exactly what a stream has

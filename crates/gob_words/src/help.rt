@@ -55,6 +55,8 @@ pub(crate) const ITEM: &str =
 
 pub(crate) const GO: &str = "Take all that Go's encoder writes, as values in interfaces";
 
+pub(crate) const GO_LINES: &str = "Take the lines of show --go, with values in interfaces";
+
 pub(crate) const HOIST: &str =
     "As --go, and put each definition in a value into an item of its own before it";
 
@@ -91,6 +93,9 @@ pub(crate) const FAULT: &str = "Show the item that is refused alone";
 pub(crate) const AT: &str = "Show the item around the byte at this offset alone";
 
 pub(crate) const WANTED: &str = "The stream that has the wanted type";
+
+pub(crate) const WANTED_OR_SOURCE: &str =
+    "The file that has the wanted type: a stream, or Go source";
 
 pub(crate) const INPUT: &str = "The stream; without it, standard input is read";
 

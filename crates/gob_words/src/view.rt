@@ -32,7 +32,7 @@ pub enum ViewCommand {
     Split,
     /// The values of some streams, in order, as one stream.
     Join,
-    /// The stream that lines of JSON say, as [`ViewCommand::ShowGo`] and `show` alone write them, without `--go`.
+    /// The stream that lines of JSON say, as `show` prints them.
     Write,
     /// The stream of the values that plain JSON says.
     Make,
@@ -93,6 +93,8 @@ pub struct View<'a> {
     pub at: Option<u64>,
     /// The most bytes of a line, with its line feed: for [`ViewCommand::Write`] and `Make` alone.
     pub line: u64,
+    /// Whether the lines are those that [`ViewCommand::ShowGo`] prints: for [`ViewCommand::Write`] alone.
+    pub go: bool,
     pub ghost least: { 1 ≤ depth },
     pub ghost most: { depth ≤ greatest_view_depth },
 }

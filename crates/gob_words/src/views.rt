@@ -7,8 +7,8 @@ ghost use Rattle.gob_words.specs.declared.view.View.{View};
 ghost use Rattle.gob_words.specs.declared.view.ViewCommand.{ViewCommand};
 ghost use Rattle.gob_words.specs.Escaped.{IsUnobeyed};
 ghost use Rattle.gob_words.specs.Views.{AsksToView, IsFileOf, IsViewFaultOf, IsViewOf, RefusesToView, view_name};
-ghost use Rattle.gob_words.specs.Views.{IsAskedFor, IsFaultFlagOf, IsFlagOf, IsHoistFlagOf, IsOnlyOf, IsPlaceIn};
-ghost use Rattle.gob_words.specs.Views.{IsNoView, IsPlaceOf, IsVersionView, IsWordAtFault, SaysNoKinds};
+ghost use Rattle.gob_words.specs.Views.{IsAskedFor, IsFaultFlagOf, IsFlagOf, IsGoFlagOf, IsHoistFlagOf, IsOnlyOf};
+ghost use Rattle.gob_words.specs.Views.{IsNoView, IsPlaceIn, IsPlaceOf, IsVersionView, IsWordAtFault, SaysNoKinds};
 ghost use Rattle.gob_words.specs.Views.{kind_words_in};
 ghost use Rattle.gob_words.specs.Kinds.{SayKinds};
 ghost use Rattle.gob_words.specs.Words.{HasNoFault, text_of};
@@ -69,6 +69,7 @@ fn version_view<'a>(alloc: Global) -> View<'a>
         fault: false,
         at: None,
         line: USUAL_LINE,
+        go: false,
     }
 }
 
@@ -142,6 +143,7 @@ fn view_in<'a>(matches: &ArgMatches<'a>, kinds: Vec<TypeKind>) -> Option<View<'a
         fault: is_fault_asked(command, matches.get_str("fault")),
         at,
         line,
+        go: is_go_asked(command, matches.get_str("go")),
     })
 }
 
@@ -240,6 +242,28 @@ fn is_hoist_asked(command: ViewCommand, value: Option<&str>) -> bool
         | ViewCommand::Version
         | ViewCommand::ShowGo
         | ViewCommand::CheckGo => false,
+    }
+}
+
+// Whether lines are those of `show --go`, by clap's value of the flag of write.
+fn is_go_asked(command: ViewCommand, value: Option<&str>) -> bool
+    ensures { IsGoFlagOf command (text_of value.entry) result }
+{
+    match command {
+        ViewCommand::Write => matches!(value, Some("true")),
+        ViewCommand::Values
+        | ViewCommand::Types
+        | ViewCommand::Why
+        | ViewCommand::Explain
+        | ViewCommand::Verify
+        | ViewCommand::Salvage
+        | ViewCommand::Split
+        | ViewCommand::Join
+        | ViewCommand::Make
+        | ViewCommand::Version
+        | ViewCommand::ShowGo
+        | ViewCommand::CheckGo
+        | ViewCommand::RewriteGo => false,
     }
 }
 

@@ -119,8 +119,15 @@ where it is -,
 --at <N>
 1 to 1000,";
 
+const WRITE: &str = "\
+Usage: gob write [OPTIONS] [IN]
+where it is -,
+--go 
+--line <N>
+1 to 1000,";
+
 // Words behind the program's name, and the texts of their help.
-const HELPS: [(&str, &str); 13] = [
+const HELPS: [(&str, &str); 15] = [
     ("help", PROGRAM),
     ("--help", PROGRAM),
     ("-h", PROGRAM),
@@ -134,6 +141,8 @@ const HELPS: [(&str, &str); 13] = [
     ("types --help", "--main \n--progress \n1 to 1000,"),
     ("why --help", "1 to 1000,"),
     ("help explain", EXPLAIN),
+    ("help write", WRITE),
+    ("help convert", "<WANTED> [IN]\na stream, or Go source"),
 ];
 
 // Whether the help has the one text, and the other behind it.

@@ -84,6 +84,8 @@ write f
 Write Some("f") 1000 67108864 None
 write --line 7
 Write None 1000 67108864 None line 7
+write --go f
+Write Some("f") 1000 67108864 None go
 verify --progress a.gob
 Verify None 1000 67108864 None progress
 values --salvage f
@@ -138,6 +140,7 @@ fn shown(alloc: Global, view: &View<'_>) -> Result<String, AllocError> {
         (view.salvage, " salvage"),
         (view.hoist, " hoist"),
         (view.fault, " fault"),
+        (view.go, " go"),
     ] {
         if is_set {
             text.push_str(flag)?;

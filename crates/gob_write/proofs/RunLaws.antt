@@ -158,7 +158,7 @@ unread_line (fault.Refused m r) waits' left' now' k h next = absurd (next h.rest
 
 -- ---- behind one more line
 
-cut_more : {most : ℕ} {bytes : List ℕ} {lines : List (List ℕ)} {rest : List ℕ} (line : List ℕ)
+pub cut_more : {most : ℕ} {bytes : List ℕ} {lines : List (List ℕ)} {rest : List ℕ} (line : List ℕ)
     → AreLines most bytes lines rest → rest ≢ [] → line ≡ first_line rest → length line ≤ most
     → AreLines most bytes (lines ++ line ∷ []) (behind_line rest)
 cut_more {most = most} {bytes = bytes} {lines = lines} {rest = rest} line cut some is short =

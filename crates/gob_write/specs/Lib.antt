@@ -5,3 +5,4 @@ pub mod Running
 pub mod Making
 pub mod Types
 pub mod Source
+pub mod Go

@@ -1,5 +1,5 @@
 -- Which types Go source gives under which plain JSON is read. (docs/FORMAT.md, Types from source.)
-use Rattle.std.specs.Prelude.{◌≡◌, ◌<◌, ◌^◌, ℕ, List, [], ◌∷◌, Bool, Option, Some, None, map, slice_get}
+use Rattle.std.specs.Prelude.{◌≡◌, ◌<◌, ◌^◌, ℕ, List, Bool, Option, Some, None, map, slice_get}
 use Rattle.gob_types.specs.Definable.{IsDefinable}
 use Rattle.gob_value.specs.Described.{described}
 use Rattle.gob_go_source.specs.Source.{SaysText}

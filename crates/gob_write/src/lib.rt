@@ -1,4 +1,4 @@
-//! The run of the command `write`: JSON lines in, as `show` writes them, and their stream out.
+//! The run of the command `write`: JSON lines in, as `show` or `show --go` writes them, and their stream out.
 //!
 //! ```text
 //! {"type":2,"value":3}                    a line
@@ -7,6 +7,7 @@
 #![tactic(auto)]
 
 mod fault;
+mod go;
 mod lines;
 mod run;
 mod source;
@@ -14,6 +15,7 @@ mod types;
 mod writer;
 
 pub use fault::LinesFault;
+pub use go::run_write_go;
 pub use run::{run_make, run_write};
 pub use source::{SourceTypesFault, types_of_source};
 pub use types::{Definition, Types, TypesFault, read_types};

@@ -6,6 +6,7 @@ ghost use Rattle.gob_types.specs.Base.{base_table};
 ghost use Rattle.gob_stream.specs.Bounds.{Bounds, within_trees};
 ghost use Rattle.gob_stream.specs.Calls.Ends.{failed_reads, failed_writes, is_unflushed, reader_of, writer_of};
 ghost use Rattle.gob_write.specs.Faults.{CountsAllWrites, CountsReads, CountsWrites, IsNoRead};
+ghost use Rattle.gob_write.specs.Go.{WriteFilledAnswers};
 ghost use Rattle.gob_write.specs.Making.{FrontAnswers, MakeAnswers, ending, of_plain};
 ghost use Rattle.gob_write.specs.Running.{WriteLinesAnswers};
 ghost use Rattle.gob_write.specs.Says.{HasWrittenLines, IsWithinTrees, Saying, as_shown};
@@ -76,8 +77,8 @@ pub fn run_make<R: Read, W: Write>(
     Ok(writer.left_out())
 }
 
-// Flushes behind what was written, unless a write failed. The first fault is answered.
-fn end_lines<W: Write>(
+/// Flushes behind what was written, unless a write failed. The first fault is answered.
+pub(crate) fn end_lines<W: Write>(
     answer: Result<(), LinesFault>,
     output: &mut Output<W>,
 ) -> Result<(), LinesFault>
@@ -87,6 +88,9 @@ fn end_lines<W: Write>(
     ensures made { (L : Bounds) (types : Made) (most : ℕ) (bytes : List ℕ) (old : Option (List ℕ))
         → MakeAnswers L types most bytes old (W.contents (writer_of output.old)) answer
         → MakeAnswers L types most bytes old (W.contents (writer_of output.new)) result }
+    ensures filled { (L : Bounds) (most : ℕ) (bytes : List ℕ) (old : Option (List ℕ))
+        → WriteFilledAnswers L most bytes old (W.contents (writer_of output.old)) answer
+        → WriteFilledAnswers L most bytes old (W.contents (writer_of output.new)) result }
     ensures reads { (failures failures' : ℕ) → CountsReads failures failures' answer
         → CountsReads failures failures' result }
     ensures writes { (failures : ℕ) → CountsWrites failures (failed_writes output.old) answer

@@ -7,6 +7,8 @@ mod devices;
 #[cfg(test)]
 mod failures;
 #[cfg(test)]
+mod go;
+#[cfg(test)]
 mod lines;
 #[cfg(test)]
 mod made;

@@ -1,23 +1,5 @@
--- The flags stand behind the options, and the input behind them.
-use Rattle.std.proofs.Common.{◌≡◌, ◌∙◌, ap, subst}
-use Rattle.std.specs.Result.{IfOk}
-use Rattle.std.proofs.lemmas.Result.{IfOk-from_err}
-use Rattle.clap.specs.Words.{App, app_of}
-use Rattle.gob_words.specs.Words.{explain, with_parts, with_input}
+-- The flag and the option stand behind the others, and the input behind them.
 use Rattle.gob_words.proofs.command_line.explain.Goals as goal
 
-pub returns-in_err-options-clause-app : goal.returns-in_err-options-clause-app
-returns-in_err-options-clause-app c =
-    IfOk-from_err c.from_residual.result (λ command. app_of command ≡ explain) c.from_residual.ensures.0
-
-pub returns-in_err-with_parts-clause-app : goal.returns-in_err-with_parts-clause-app
-returns-in_err-with_parts-clause-app c =
-    IfOk-from_err c.from_residual-in_err-with_parts.result (λ command. app_of command ≡ explain)
-    c.from_residual-in_err-with_parts.ensures.0
-
 pub returns-clause-app : goal.returns-clause-app
-returns-clause-app c = subst (λ (a : App). IfOk c.with_input.result (λ more. app_of more ≡ with_input a))
-    (c.in_ok-with_parts.ensures.app ∙ ap with_parts c.in_ok-options.ensures.app) c.with_input.ensures.app
-
-pub returns-clause-local : goal.returns-clause-local
-returns-clause-local c = c.with_input.ensures.local
+returns-clause-app c = c.with_input.ensures.app _ (c.with_parts.ensures.app _ c.with_options-options.ensures.app)

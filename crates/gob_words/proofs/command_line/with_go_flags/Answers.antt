@@ -1,11 +1,5 @@
--- The flags stand behind the options.
-use Rattle.std.proofs.Common.{◌∙◌, ap₂, refl}
-use Rattle.std.proofs.lemmas.Result.{IfOk-weaker}
-use Rattle.clap.specs.Words.{with_rule}
+-- A flag stands behind the other.
 use Rattle.gob_words.proofs.command_line.with_go_flags.Goals as goal
 
 pub returns-clause-app : goal.returns-clause-app
-returns-clause-app c =
-    let go = c.in_ok-arg.ensures.shape c.flag.ensures.local ∙ ap₂ with_rule refl c.flag.ensures.rule in
-    IfOk-weaker c.arg-2.result _ _
-    (λ r added. added.shape c.flag-2.ensures.local ∙ ap₂ with_rule go c.flag-2.ensures.rule) c.arg-2.ensures
+returns-clause-app c app is = c.with_flag.ensures.app _ (c.with_flag-flagged.ensures.app app is)

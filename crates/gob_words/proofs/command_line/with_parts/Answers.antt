@@ -1,11 +1,5 @@
--- The flags stand behind the options.
-use Rattle.std.proofs.Common.{◌∙◌, ap₂, refl}
-use Rattle.std.proofs.lemmas.Result.{IfOk-weaker}
-use Rattle.clap.specs.Words.{with_rule}
+-- The option stands behind the flag.
 use Rattle.gob_words.proofs.command_line.with_parts.Goals as goal
 
 pub returns-clause-app : goal.returns-clause-app
-returns-clause-app c =
-    let zeros = c.in_ok-arg.ensures.shape c.flag.ensures.local ∙ ap₂ with_rule refl c.flag.ensures.rule in
-    IfOk-weaker c.arg-2.result _ _
-    (λ r added. added.shape c.option.ensures.local ∙ ap₂ with_rule zeros c.option.ensures.rule) c.arg-2.ensures
+returns-clause-app c app is = c.with_arg.ensures.app _ _ (c.with_flag-flagged.ensures.app app is) c.option.ensures.rule

@@ -1,25 +1,6 @@
--- The option stands behind the others, and the input behind it.
-use Rattle.std.proofs.Common.{◌≡◌, ◌∙◌, ap₂, subst}
-use Rattle.std.specs.Result.{IfOk}
-use Rattle.std.proofs.lemmas.Result.{IfOk-from_err}
-use Rattle.clap.specs.Words.{App, app_of, with_rule}
-use Rattle.gob_words.specs.Words.{with_input, write}
+-- The flag and the option stand behind the others, and the input behind them.
 use Rattle.gob_words.proofs.command_line.write.Goals as goal
 
-pub returns-in_err-options-clause-app : goal.returns-in_err-options-clause-app
-returns-in_err-options-clause-app c =
-    IfOk-from_err c.from_residual.result (λ command. app_of command ≡ write) c.from_residual.ensures.0
-
-pub returns-in_err-measured-clause-app : goal.returns-in_err-measured-clause-app
-returns-in_err-measured-clause-app c =
-    IfOk-from_err c.from_residual-in_err-measured.result (λ command. app_of command ≡ write)
-    c.from_residual-in_err-measured.ensures.0
-
 pub returns-clause-app : goal.returns-clause-app
-returns-clause-app c =
-    let measured = c.in_ok-measured.ensures.shape c.option.ensures.local
-    ∙ ap₂ with_rule c.in_ok-options.ensures.app c.option.ensures.rule in
-    subst (λ (a : App). IfOk c.with_input.result (λ more. app_of more ≡ with_input a)) measured c.with_input.ensures.app
-
-pub returns-clause-local : goal.returns-clause-local
-returns-clause-local c = c.with_input.ensures.local
+returns-clause-app c = c.with_input.ensures.app _ (c.with_line.ensures.app _
+    (c.with_flag-flagged.ensures.app _ c.with_options-options.ensures.app))

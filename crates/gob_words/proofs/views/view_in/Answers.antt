@@ -101,6 +101,7 @@ returns c =
       fault = rw (← c.get_str-19.ensures ∙ first_value-rows f (codes "fault")) c.is_fault_asked.ensures;
       at = rw (← c.get_str-6.ensures ∙ first_value-rows f (codes "at")) c.in_ok-at.ensures;
       line = writes_alike _ _ _ _ (c.get_str-7.ensures ∙ first_value-rows f (codes "line")) c.in_ok-line.ensures;
+      go = rw (← c.get_str-20.ensures ∙ first_value-rows f (codes "go")) c.is_go_asked.ensures;
       least = omega (arith, c.if-depth-lt1.false);
       most = omega (arith, c.if-depth-gt-GREATEST_DEPTH.false);
     }

@@ -1,0 +1,9 @@
+pub mod ShowLaws
+pub mod SaidLaws
+pub mod KindLaws
+pub mod PartLaws
+pub mod HeldLaws
+pub mod LeafLaws
+pub mod LineLaws
+pub mod UnfilledLaws
+pub mod BytesLaws

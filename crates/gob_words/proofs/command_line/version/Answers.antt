@@ -1,0 +1,10 @@
+-- What help says of a command is no part of what clap reads of it.
+use Rattle.std.proofs.Common.{◌∙◌, ap}
+use Rattle.clap.specs.Simple.{app_of_fields}
+use Rattle.gob_words.proofs.command_line.version.Goals as goal
+
+pub returns-clause-app : goal.returns-clause-app
+returns-clause-app c = ap app_of_fields c.about.ensures ∙ c.new.ensures.app
+
+pub returns-clause-local : goal.returns-clause-local
+returns-clause-local c = ap (λ f. f.has_globals) c.about.ensures ∙ c.new.ensures.local
