@@ -17,7 +17,7 @@ _gob() {
         explain) words+=' --fault --at' ;;
         verify) words+=' --progress' ;;
         split) words+=' --size --values' ;;
-        show) words+=' --go --progress --salvage' ;;
+        show) words+=' --go --progress --salvage --numbers-as-text' ;;
         check) words+=' --go --progress' ;;
         rewrite) words+=' --go --hoist' ;;
         write) words+=' --go --line' ;;

@@ -58,7 +58,10 @@ use gob_salvage::{Salvaged, report};
 use gob_stream::{Input, Output};
 use gob_tool::{ToolFault, run_order, status};
 use gob_views::run_view;
-use gob_words::{Chosen, Order, OrderFault, View, ViewCommand, ViewFault, escaped};
+use gob_words::{
+    Chosen, Order, OrderFault, View, ViewCommand, ViewFault, escaped, numbers_are_texts,
+};
+use json_number_texts::LinesOut;
 use std::alloc::{AllocError, Global};
 use std::fs::File;
 use std::io::{BufWriter, ErrorKind, Read, Write};
@@ -174,9 +177,10 @@ fn run(rt: &HostRuntime) -> Result<(), Exit> {
         .map(|word| word.as_str())
         .collect::<Vec<&str>>(rt.alloc())?;
     match asked_by(rt.alloc(), &names) {
+        Ok(Asked::Order(order)) if order.command == Chosen::Show => show(rt, &order, &names),
         Ok(Asked::Order(order)) => run_for(rt, &order),
         Ok(Asked::View(view)) if view.command == ViewCommand::Write => write(rt, &view),
-        Ok(Asked::View(view)) => run_view_on(rt, &view),
+        Ok(Asked::View(view)) => run_view_on(rt, &view, &names),
         Ok(Asked::Made(view, making)) => make(rt, &view, &making),
         Ok(Asked::Parts(view, splitting)) => split(rt, &view, &splitting),
         Ok(Asked::Files(view, files)) if view.command == ViewCommand::Join => {
@@ -206,10 +210,21 @@ fn printed(written: io::Result<()>) -> Result<(), Exit>
     written.map_err(|_| Exit::Run(ToolFault::Write))
 }
 
+// Shows a stream, with texts in place of the numbers of its lines where the words ask for that.
+fn show<'a>(rt: &HostRuntime, order: &Order, names: &'a [&'a str]) -> Result<(), Exit> {
+    let texts = numbers_as_text(rt.alloc(), names)?;
+    run_on(rt, order, b"".as_slice(), texts)
+}
+
+// Whether the words ask for texts in place of numbers.
+fn numbers_as_text<'a>(alloc: Global, names: &'a [&'a str]) -> Result<bool, Exit> {
+    numbers_are_texts(alloc, names).map_err(|fault| Exit::Words(fault))
+}
+
 // Opens the file that has the wanted type, if the command wants one.
 fn run_for(rt: &HostRuntime, order: &Order) -> Result<(), Exit> {
     match order.wanted {
-        None => run_on(rt, order, b"".as_slice()),
+        None => run_on(rt, order, b"".as_slice(), false),
         Some(path) => {
             let wanted = opened(File::open(rt, path))?;
             run_wanting(rt, order, wanted)
@@ -220,20 +235,25 @@ fn run_for(rt: &HostRuntime, order: &Order) -> Result<(), Exit> {
 // Runs with the file that has the wanted type, which of `convert` may be Go source.
 fn run_wanting(rt: &HostRuntime, order: &Order, wanted: File) -> Result<(), Exit> {
     if order.command != Chosen::Convert {
-        return run_on(rt, order, wanted);
+        return run_on(rt, order, wanted, false);
     }
     match TypesFile::begun(rt.alloc(), wanted)? {
-        TypesFile::Stream(first, rest) => run_on(rt, order, first.as_slice().chain(rest)),
+        TypesFile::Stream(first, rest) => run_on(rt, order, first.as_slice().chain(rest), false),
         TypesFile::Source(text) => {
             let stream = wanted_of(rt.alloc(), &text)?;
-            run_on(rt, order, stream.as_slice())
+            run_on(rt, order, stream.as_slice(), false)
         }
     }
 }
 
-// Opens the input, then runs.
-fn run_on<Q: Read + Drop>(rt: &HostRuntime, order: &Order, wanted: Q) -> Result<(), Exit> {
-    let writer = buffered(rt.alloc(), rt.stdout())?;
+// Opens the input, then runs, with texts in place of the numbers of its lines or without.
+fn run_on<Q: Read + Drop>(
+    rt: &HostRuntime,
+    order: &Order,
+    wanted: Q,
+    texts: bool,
+) -> Result<(), Exit> {
+    let writer = buffered(rt.alloc(), LinesOut::new(rt.alloc(), rt.stdout(), texts)?)?;
     let mut wanted = Input::new(wanted);
     match order.input {
         None => {
@@ -247,9 +267,10 @@ fn run_on<Q: Read + Drop>(rt: &HostRuntime, order: &Order, wanted: Q) -> Result<
     }
 }
 
-// Opens the input of a view, then shows it.
-fn run_view_on(rt: &HostRuntime, view: &View) -> Result<(), Exit> {
-    let writer = buffered(rt.alloc(), rt.stdout())?;
+// Opens the input of a view, then shows it, as these words ask.
+fn run_view_on<'a>(rt: &HostRuntime, view: &View, names: &'a [&'a str]) -> Result<(), Exit> {
+    let texts = view.command == ViewCommand::ShowGo && numbers_as_text(rt.alloc(), names)?;
+    let writer = buffered(rt.alloc(), LinesOut::new(rt.alloc(), rt.stdout(), texts)?)?;
     let mut told = None;
     let ending = match view.input {
         None => show_watched(rt, view, rt.stdin(), None, writer, &mut told),

@@ -8,7 +8,7 @@ use gob_stream::{Input, Output};
 use gob_tool::ToolFault;
 use gob_views::limits_of;
 use gob_words::{Making, View};
-use gob_write::{LinesFault, Types, run_make, run_write, run_write_go};
+use gob_write::{LinesFault, ShownLines, Types, run_make, run_write};
 use std::alloc::Global;
 use std::io::{BufWriter, Read, Write};
 
@@ -74,12 +74,11 @@ fn write_out<R: Read, W: Write + Drop>(
     writer: BufWriter<Pipe<W>>,
 ) -> Result<(), Exit> {
     let mut output = Output::new(writer);
-    let written = if view.go {
-        run_write_go(alloc, input, &mut output, limits_of(view), view.line)
-    } else {
-        run_write(alloc, input, &mut output, limits_of(view), view.line)
+    let lines = ShownLines {
+        most: view.line,
+        holds: view.go,
     };
-    match written {
+    match run_write(alloc, input, &mut output, limits_of(view), lines) {
         Ok(()) => settled(Ok(()), output).ending,
         Err(fault) => ended_by(alloc, fault, output),
     }

@@ -63,10 +63,10 @@ value_item {L = L} {T = T} {id = id} {w = w} {offset = offset} {rest = rest} may
 
 -- the limits don't admit it
 pub value_refused : {L : Bounds} {T : Table} {id : TypeId} {w : Filled} {offset : ℕ} {number : ℤ} {rest : List ℕ}
-    {r : Reason} → SpellsFilled base_table L T id L.depth w rest T → number ≡ pos id.0
+    {r : Reason} → MayPut T id → SpellsFilled base_table L T id L.depth w rest T → number ≡ pos id.0
     → RefusesBytes L offset number rest r → RefusesFilledItem L T offset (putting id w) r
-value_refused {L = L} {offset = offset} {rest = rest} {r = r} spelled same h =
-    refused_bytes spelled (subst (λ i. RefusesBytes L offset i rest r) same h)
+value_refused {L = L} {offset = offset} {rest = rest} {r = r} may spelled same h =
+    refused_bytes may spelled (subst (λ i. RefusesBytes L offset i rest r) same h)
 
 -- the number of a defined type is above 0
 own_number : {L : Bounds} {T : Table} {id : TypeId} {s : Shape} {rest : List ℕ} → IsDescribedAs L T id s rest

@@ -8,6 +8,7 @@ use Rattle.gob_types.specs.Table.{Table}
 use Rattle.gob_types.specs.declared.id.TypeId.{TypeId}
 use Rattle.gob_types.specs.declared.reason.Reason.{Reason}
 use Rattle.gob_value.specs.Tree.{Tree}
+use Rattle.gob_stream.specs.Body.{MayPut}
 use Rattle.gob_stream.specs.Bounds.{Bounds, within_trees}
 use Rattle.gob_stream.specs.Item.{defines}
 use Rattle.gob_stream.specs.WriterRefusal.{RefusesItem, RefusesType}
@@ -48,7 +49,7 @@ pub data RefusesFilledItem (L : Bounds) (T : Table) (offset : ℕ) : FilledItem 
       → RefusesFilledItem L T offset (defining id v) r
   refused_type : {t : TypeId} {w : Filled} {r : Reason} → RefusesType T t r
       → RefusesFilledItem L T offset (putting t w) r
-  refused_bytes : {t : TypeId} {w : Filled} {b : List ℕ} {U : Table} {r : Reason}
+  refused_bytes : {t : TypeId} {w : Filled} {b : List ℕ} {U : Table} {r : Reason} → MayPut T t
       → SpellsFilled base_table L T t L.depth w b U → RefusesBytes L offset (pos t.0) b r
       → RefusesFilledItem L T offset (putting t w) r
 

@@ -1,7 +1,8 @@
 -- What an interface holds, as it is put.
-use Rattle.std.proofs.Common.{◌≡◌, ◌∙◌, ℕ, ◌+◌, ◌-◌, ◌<◌, ◌^◌, pos, List, [], ◌∷◌, ◌++◌, length, Result, Ok, Err, w64}
+use Rattle.std.proofs.Common.{◌≡◌, ◌∙◌, Bool, ℕ, ◌+◌, ◌-◌, ◌<◌, ◌^◌, pos, List, [], ◌∷◌, ◌++◌, length, Result, Ok, Err}
+use Rattle.std.proofs.Common.{w64}
 use Rattle.std.proofs.Common.{ap, arith, codes, refl, subst, sym, append_assoc, to_z}
-use Rattle.std.specs.Prelude.{IfErr, OnOk}
+use Rattle.std.specs.Prelude.{IfErr, IsTrue, OnOk}
 use Rattle.std.proofs.lemmas.Int.{ints, to_z_pos}
 use Rattle.json.specs.Token.{Token}
 use Rattle.serde_json.specs.Data.{Data, null}
@@ -15,14 +16,14 @@ use Rattle.gob_types.specs.declared.kind.Kind.TheVariants as kind
 use Rattle.gob_types.specs.Table.{Table}
 use Rattle.gob_value.specs.Spelling.{of_nil}
 use Rattle.gob_value.specs.Written.{WrittenBytes, counted}
-use Rattle.gob_json.specs.Json.{id_json, text_json}
-use Rattle.gob_json_writer.specs.NilsJson.{interface_json}
+use Rattle.gob_json.specs.Json.{text_json}
 use Rattle.gob_stream.specs.Body.{MayPut}
+use Rattle.gob_lines.specs.Numbers.{as_shown}
 use Rattle.gob_lines.specs.Reads.{IsWrong, Reads}
 use Rattle.gob_lines.specs.declared.fault.LineFault.{LineFault}
 use Rattle.gob_lines.proofs.UniqueLaws.{J, behind}
-use Rattle.gob_go_lines.specs.Says.{SaysAs, SaysTop, of_basic, of_held}
-use Rattle.gob_go_lines.specs.Lines.{PutsIt, PutsSaid, SpellsHeld, held_tokens}
+use Rattle.gob_go_lines.specs.Says.{SaysAs, SaysTop, held_json, of_basic, of_held}
+use Rattle.gob_go_lines.specs.Lines.{PutsIt, PutsSaid, ReadsHeld, SpellsHeld, held_tokens}
 use Rattle.gob_go_lines.proofs.KindLaws.{HeldStands, InterfaceStands, held_stands, nil_stands}
 
 pub record HasCount (s b : List ℕ) : Type 0 where
@@ -67,92 +68,96 @@ held_once {name = name} {value = value} p q =
 
 -- ---- the tokens of what an interface holds
 
-held_front : (name : List ℕ) (id : TypeId) (j : Data) (rest : List Token)
-    → J (interface_json name id j) ++ rest
-    ≡ Token.begin_object ∷ held_tokens name id (J j ++ (Token.end_object ∷ (Token.end_object ∷ rest)))
-held_front name id j rest = simp append_assoc
+held_front : (name : List ℕ) (number j : Data) (rest : List Token)
+    → J (held_json name number j) ++ rest
+    ≡ Token.begin_object ∷ held_tokens name number (J j ++ (Token.end_object ∷ (Token.end_object ∷ rest)))
+held_front name typed j rest = simp append_assoc
 
-pub held_reads : (name : List ℕ) (id : TypeId) (j : Data) (old m m2 m3 new : List Token)
-    → old ≡ Token.begin_object ∷ m → m ≡ held_tokens name id m2 → Reads j m2 m3
-    → m3 ≡ Token.end_object ∷ (Token.end_object ∷ new) → Reads (interface_json name id j) old new
-held_reads name id j old m m2 m3 new e front value end =
+pub held_reads : (name : List ℕ) (number j : Data) (old m m2 m3 new : List Token)
+    → old ≡ Token.begin_object ∷ m → m ≡ held_tokens name number m2 → Reads j m2 m3
+    → m3 ≡ Token.end_object ∷ (Token.end_object ∷ new) → Reads (held_json name number j) old new
+held_reads name typed j old m m2 m3 new e front value end =
     e ∙ ap (λ (l : List Token). Token.begin_object ∷ l)
-    (front ∙ ap (held_tokens name id) (value ∙ ap (λ (l : List Token). J j ++ l) end))
-    ∙ sym (held_front name id j new)
+    (front ∙ ap (held_tokens name typed) (value ∙ ap (λ (l : List Token). J j ++ l) end))
+    ∙ sym (held_front name typed j new)
 
-pub held_said : {T : Table} {id : TypeId} {limit : ℕ} {m2 m3 : List Token} {value : List ℕ}
+pub held_said : {T : Table} {H : Bool} {id : TypeId} {limit : ℕ} {m2 m3 : List Token} {value : List ℕ}
     (r : Result (Unit {0}) LineFault) (name : List ℕ) (old m new : List Token) (before after : List ℕ)
-    → AreBytes name → 0 < length name → MayPut T id → old ≡ Token.begin_object ∷ m → m ≡ held_tokens name id m2
-    → PutsSaid (SaysTop T id limit) m2 m3 [] value → m3 ≡ Token.end_object ∷ (Token.end_object ∷ new)
-    → OnOk r (Appends (SpellsHeld name id value) before after)
-    → OnOk r (PutsSaid (SaysAs T (kind.Basic basic.Interface) (limit + 1)) old new before after)
-held_said {T = T} {id = id} {limit = limit} {m2 = m2} {m3 = m3} {value = value} (Ok u) name old m new before after o
-    some
-    may e front p end put =
+    → AreBytes name → 0 < length name → MayPut T id → (old ≡ Token.begin_object ∷ m) × IsTrue H
+    → ReadsHeld name id m m2 → PutsSaid (SaysTop T H id limit) m2 m3 [] value
+    → m3 ≡ Token.end_object ∷ (Token.end_object ∷ new) → OnOk r (Appends (SpellsHeld name id value) before after)
+    → OnOk r (PutsSaid (SaysAs T H (kind.Basic basic.Interface) (limit + 1)) old new before after)
+held_said {T = T} {H = H} {id = id} {limit = limit} {m2 = m2} {m3 = m3} {value = value} (Ok u) name old m new before
+    after o some may e front p end put =
     let s = put.spelled in
     let down : limit ≡ limit + 1 - 1 = omega arith in
-    let json = interface_json name id p.json in
+    let json = held_json name front.0 p.json in
     let all = s.name_count ++ (name ++ (s.number ++ (s.count ++ value))) in
     record {
       json = json;
       bytes = put.bytes;
-      says = subst (λ b. SaysAs T (kind.Basic basic.Interface) (limit + 1) json b) (sym s.whole)
-          (of_held name o some s.named may s.typed
-          (subst (λ b. SaysTop T id (limit + 1 - 1) p.json b) (sym p.appended)
-          (subst (λ l. SaysTop T id l p.json p.bytes) down p.says)) s.counted);
-      reads = held_reads name id p.json old m m2 m3 new e front p.reads end;
+      says = subst (λ b. SaysAs T H (kind.Basic basic.Interface) (limit + 1) json b) (sym s.whole)
+          (of_held name e.1 o some s.named may s.typed front.1
+          (subst (λ b. SaysTop T H id (limit + 1 - 1) p.json b) (sym p.appended)
+          (subst (λ l. SaysTop T H id l p.json p.bytes) down p.says)) s.counted);
+      reads = held_reads name front.0 p.json old m m2 m3 new e.0 front.2 p.reads end;
       appended = put.appended;
     }
 held_said (Err x) name old m new before after o some may e front p end put = tt
 
-pub nil_said : {T : Table} {limit : ℕ} {before after : List ℕ} (old new : List Token) → old ≡ Token.null ∷ new
+pub nil_said : {T : Table} {H : Bool} {limit : ℕ} {before after : List ℕ} (old new : List Token)
+    → old ≡ Token.null ∷ new
     → Appends (IsUnsigned 0) before after
-    → PutsSaid (SaysAs T (kind.Basic basic.Interface) limit) old new before after
+    → PutsSaid (SaysAs T H (kind.Basic basic.Interface) limit) old new before after
 nil_said old new e put = record {
   json = null;
   bytes = put.bytes;
-  says = of_basic (of_nil put.spelled) tt;
+  says = of_basic (of_nil put.spelled) tt as_shown;
   reads = e;
   appended = put.appended;
 }
 
 -- ---- what stands there
 
-pub nil_stands_there : {T : Table} {limit : ℕ} {j : Data} {b : List ℕ} {old new rest : List Token}
-    → InterfaceStands T limit j b → Reads j old rest → old ≡ Token.null ∷ new → IsUnsigned 0 b × (new ≡ rest)
+pub nil_stands_there : {T : Table} {H : Bool} {limit : ℕ} {j : Data} {b : List ℕ} {old new rest : List Token}
+    → InterfaceStands T H limit j b → Reads j old rest → old ≡ Token.null ∷ new → IsUnsigned 0 b × (new ≡ rest)
 nil_stands_there {old = old} {rest = rest} (nil_stands is p) reads e =
     (p, ap behind (sym e ∙ subst (λ d. Reads d old rest) is reads))
 nil_stands_there {old = old} {rest = rest} (held_stands s) reads e =
-    let there = sym e ∙ subst (λ d. Reads d old rest) s.is reads ∙ held_front s.name s.held s.json rest in
+    let there = sym e ∙ subst (λ d. Reads d old rest) s.is reads ∙ held_front s.name s.id_json s.json rest in
     absurd (cc (there))
 
-pub record HeldThere (T : Table) (limit : ℕ) (j : Data) (b : List ℕ) (new rest : List Token) : Type 0 where
-  pub stands : HeldStands T limit j b
-  pub tokens : new ≡ held_tokens stands.name stands.held
+pub record HeldThere (T : Table) (H : Bool) (limit : ℕ) (j : Data) (b : List ℕ) (new rest : List Token) : Type 0 where
+  pub stands : HeldStands T H limit j b
+  pub tokens : ReadsHeld stands.name stands.held new
       (J stands.json ++ (Token.end_object ∷ (Token.end_object ∷ rest)))
 
-pub held_stands_there : {T : Table} {limit : ℕ} {j : Data} {b : List ℕ} {old new rest : List Token}
-    → InterfaceStands T limit j b → Reads j old rest → old ≡ Token.begin_object ∷ new
-    → HeldThere T limit j b new rest
+pub held_stands_there : {T : Table} {H : Bool} {limit : ℕ} {j : Data} {b : List ℕ} {old new rest : List Token}
+    → InterfaceStands T H limit j b → Reads j old rest → old ≡ Token.begin_object ∷ new
+    → HeldThere T H limit j b new rest
 held_stands_there {old = old} {rest = rest} (nil_stands is p) reads e =
     let there = sym e ∙ subst (λ d. Reads d old rest) is reads in
     absurd (cc (there))
 held_stands_there {old = old} {rest = rest} (held_stands s) reads e = record {
   stands = s;
-  tokens = ap behind (sym e ∙ subst (λ d. Reads d old rest) s.is reads ∙ held_front s.name s.held s.json rest);
+  tokens = (
+    s.id_json,
+    s.numbered,
+    ap behind (sym e ∙ subst (λ d. Reads d old rest) s.is reads ∙ held_front s.name s.id_json s.json rest),
+  );
 }
 
 -- one of both stands there
-pub one_stands_there : {T : Table} {limit : ℕ} {j : Data} {b : List ℕ} {old : List Token} (rest : List Token)
-    → InterfaceStands T limit j b → Reads j old rest → ((new : List Token) → old ≡ Token.null ∷ new → ⊥)
-    → ((new : List Token) → old ≡ Token.begin_object ∷ new → ⊥) → ⊥
+pub one_stands_there : {T : Table} {H : Bool} {limit : ℕ} {j : Data} {b : List ℕ} {old : List Token} (rest : List Token)
+    → InterfaceStands T H limit j b → Reads j old rest → ((new : List Token) → old ≡ Token.null ∷ new → ⊥)
+    → (IsTrue H → (new : List Token) → old ≡ Token.begin_object ∷ new → ⊥) → ⊥
 one_stands_there {old = old} rest (nil_stands is p) reads nil held =
     nil rest (subst (λ d. Reads d old rest) is reads)
 one_stands_there {old = old} rest (held_stands s) reads nil held =
-    held _ (subst (λ d. Reads d old rest) s.is reads ∙ held_front s.name s.held s.json rest)
+    held s.in_go _ (subst (λ d. Reads d old rest) s.is reads ∙ held_front s.name s.id_json s.json rest)
 
-pub held_was_put : {T : Table} {limit : ℕ} {j : Data} {b : List ℕ} (r : Result (Unit {0}) LineFault)
-    (s : HeldStands T limit j b) (name : List ℕ) (id : TypeId) (value : List ℕ) (new rest : List Token)
+pub held_was_put : {T : Table} {H : Bool} {limit : ℕ} {j : Data} {b : List ℕ} (r : Result (Unit {0}) LineFault)
+    (s : HeldStands T H limit j b) (name : List ℕ) (id : TypeId) (value : List ℕ) (new rest : List Token)
     (before after : List ℕ) → OnOk r (Appends (SpellsHeld name id value) before after) → IfErr r (λ f. ¬ IsWrong f)
     → ◌≡◌ {A = List ℕ × TypeId} (name, id) (s.name, s.held) → value ≡ s.value → new ≡ rest
     → PutsIt r new rest before after b
@@ -180,27 +185,28 @@ held_was_put (Err e) s name id value new rest before after put none same body le
 pub signed_small : {n : ℕ} {b : List ℕ} → IsSigned (pos n) b → n < 2 ^ 63
 signed_small p = let f = signed_fits p in omega (arith, ints)
 
-pub held_top : {j : Data} {b : List ℕ} (T : Table) (limit : ℕ) (id : TypeId) (k : HeldStands T (limit + 1 - 1) j b)
-    → id ≡ k.held → SaysTop T id limit k.json k.value
-held_top T limit id k same =
+pub held_top : {H : Bool} {j : Data} {b : List ℕ} (T : Table) (limit : ℕ) (id : TypeId)
+    (k : HeldStands T H (limit + 1 - 1) j b)
+    → id ≡ k.held → SaysTop T H id limit k.json k.value
+held_top {H = H} T limit id k same =
     let down : limit + 1 - 1 ≡ limit = omega arith in
-    subst (λ l. SaysTop T id l k.json k.value) down
-    (subst (λ i. SaysTop T i (limit + 1 - 1) k.json k.value) (sym same) k.says)
+    subst (λ l. SaysTop T H id l k.json k.value) down
+    (subst (λ i. SaysTop T H i (limit + 1 - 1) k.json k.value) (sym same) k.says)
 
 -- ---- what stands in front of the value
 
 -- behind the name
-abbrev pub behind_name : TypeId → List Token → List Token
-behind_name id rest = Token.key (codes "type") ∷ (J (id_json id) ++ (Token.key (codes "value") ∷ rest))
+abbrev pub behind_name : Data → List Token → List Token
+behind_name typed rest = Token.key (codes "type") ∷ (J typed ++ (Token.key (codes "value") ∷ rest))
 
-pub front_tokens : (name : List ℕ) (id : TypeId) (old m0 m1 m2 m3 m4 m5 new : List Token)
+pub front_tokens : (name : List ℕ) (number : Data) (old m0 m1 m2 m3 m4 m5 new : List Token)
     → old ≡ Token.key (codes "interface") ∷ m0 → m0 ≡ Token.begin_object ∷ m1 → m1 ≡ Token.key (codes "name") ∷ m2
-    → Reads (text_json name) m2 m3 → m3 ≡ Token.key (codes "type") ∷ m4 → Reads (id_json id) m4 m5
-    → m5 ≡ Token.key (codes "value") ∷ new → old ≡ held_tokens name id new
-front_tokens name id old m0 m1 m2 m3 m4 m5 new e0 e1 e2 text e3 number e4 =
+    → Reads (text_json name) m2 m3 → m3 ≡ Token.key (codes "type") ∷ m4 → Reads number m4 m5
+    → m5 ≡ Token.key (codes "value") ∷ new → old ≡ held_tokens name number new
+front_tokens name of old m0 m1 m2 m3 m4 m5 new e0 e1 e2 text e3 reads e4 =
     e0 ∙ ap (λ (l : List Token). Token.key (codes "interface") ∷ l)
     (e1 ∙ ap (λ (l : List Token). Token.begin_object ∷ l)
     (e2 ∙ ap (λ (l : List Token). Token.key (codes "name") ∷ l)
     (text ∙ ap (λ (l : List Token). J (text_json name) ++ l)
     (e3 ∙ ap (λ (l : List Token). Token.key (codes "type") ∷ l)
-    (number ∙ ap (λ (l : List Token). J (id_json id) ++ l) e4)))))
+    (reads ∙ ap (λ (l : List Token). J of ++ l) e4)))))

@@ -1,7 +1,8 @@
 -- What JSON says of a value, by the kind of its type; and that it is one byte at least.
-use Rattle.std.proofs.Common.{◌≡◌, ℕ, ◌+◌, ◌-◌, ◌<◌, ◌≤◌, List, [], ◌∷◌, ◌++◌, length, Some, ℤ, pos, Result, Ok, Err}
+use Rattle.std.proofs.Common.{◌≡◌, Bool, ℕ, ◌+◌, ◌-◌, ◌<◌, ◌≤◌, List, [], ◌∷◌, ◌++◌, length, Some, ℤ, pos, Result, Ok}
+use Rattle.std.proofs.Common.{Err}
 use Rattle.std.proofs.Common.{arith, refl, sym, ap, subst, ◌∙◌, append_assoc, append-nil, length-append}
-use Rattle.std.specs.Prelude.{IfErr, IsErrAnd, OnOk}
+use Rattle.std.specs.Prelude.{IfErr, IsErrAnd, IsTrue, OnOk}
 use Rattle.json.specs.Token.{Token}
 use Rattle.serde_json.specs.Data.{Data, array, null}
 use Rattle.gob_num.specs.Unsigned.{AreBytes, IsUnsigned}
@@ -22,27 +23,29 @@ use Rattle.gob_value.specs.Spelling.{SpellsAs, of_nil}
 use Rattle.gob_value.specs.Spelling as spells
 use Rattle.gob_value.specs.Top.{IsStruct, HasStructs}
 use Rattle.gob_value.specs.Tree.{Tree}
-use Rattle.gob_json.specs.Json.{no_type, opaque_json, value_json}
-use Rattle.gob_json_writer.specs.NilsJson.{interface_json}
+use Rattle.gob_json.specs.Json.{no_type, opaque_json}
 use Rattle.gob_stream.specs.Body.{MayPut}
+use Rattle.gob_lines.specs.Numbers.{IsBasicJson, as_shown, IsNatural}
 use Rattle.gob_lines.specs.Reads.{IsWrong}
 use Rattle.gob_lines.specs.declared.fault.LineFault.{LineFault}
 use Rattle.gob_go_lines.specs.Says.{Says, of_type, SaysAs, of_basic, of_opaque, of_slice, of_array, of_map, of_struct}
-use Rattle.gob_go_lines.specs.Says.{of_held, SaysTop, at_once, tagged, SaysEach, SaysPairs, SaysFields, items_of}
+use Rattle.gob_go_lines.specs.Says.{held_json, of_held, SaysTop, at_once, tagged, SaysEach, SaysPairs, SaysFields}
+use Rattle.gob_go_lines.specs.Says.{items_of}
 use Rattle.gob_go_lines.specs.Says.{end_of_fields, next_field}
 use Rattle.gob_go_lines.specs.Lines.{PutsIt, PutsSaid, ReadsParts, SaysStruct}
 
 -- ---- by the kind
 
-pub said_as : {T : Table} {t : TypeId} {s : Shape} {k : Kind} {limit : ℕ} {j : Data} {b : List ℕ}
-    → shape_of T t ≡ Some s → s.kind ≡ k → Says T t limit j b → SaysAs T k limit j b
-said_as {T = T} {limit = limit} {j = j} {b = b} e is (of_type f some h) =
-    subst (λ (k : Kind). SaysAs T k limit j b) (ap (λ (r : Shape). r.kind) (some_injective (sym f ∙ e)) ∙ is) h
+pub said_as : {T : Table} {H : Bool} {t : TypeId} {s : Shape} {k : Kind} {limit : ℕ} {j : Data} {b : List ℕ}
+    → shape_of T t ≡ Some s → s.kind ≡ k → Says T H t limit j b → SaysAs T H k limit j b
+said_as {T = T} {H = H} {limit = limit} {j = j} {b = b} e is (of_type f some h) =
+    subst (λ (k : Kind). SaysAs T H k limit j b) (ap (λ (r : Shape). r.kind) (some_injective (sym f ∙ e)) ∙ is) h
 
-pub some_depth : {T : Table} {t : TypeId} {limit : ℕ} {j : Data} {b : List ℕ} → Says T t limit j b → 0 < limit
+pub some_depth : {T : Table} {H : Bool} {t : TypeId} {limit : ℕ} {j : Data} {b : List ℕ} → Says T H t limit j b
+    → 0 < limit
 some_depth (of_type f some h) = some
 
-pub is_known : {T : Table} {t : TypeId} {limit : ℕ} {j : Data} {b : List ℕ} → Says T t limit j b
+pub is_known : {T : Table} {H : Bool} {t : TypeId} {limit : ℕ} {j : Data} {b : List ℕ} → Says T H t limit j b
     → (s : Shape) × (shape_of T t ≡ Some s)
 is_known (of_type {s = s} f some h) = (s, f)
 
@@ -56,29 +59,32 @@ pub record PartsStand (Are : List Data → List ℕ → Type 0) (j : Data) (b : 
   pub is : j ≡ array (items_of parts)
   pub whole : b ≡ count ++ bytes
 
-pub slice_stands : {T : Table} {e : TypeId} {limit : ℕ} {j : Data} {b : List ℕ} → SaysAs T (kind.Slice e) limit j b
-    → PartsStand (SaysEach T e (limit - 1)) j b
+pub slice_stands : {T : Table} {H : Bool} {e : TypeId} {limit : ℕ} {j : Data} {b : List ℕ}
+    → SaysAs T H (kind.Slice e) limit j b
+    → PartsStand (SaysEach T H e (limit - 1)) j b
 slice_stands (of_slice {js = js} {c = c} {b = b} p h) =
     record { parts = js; count = c; bytes = b; counted = p; says = h; is = refl; whole = refl }
 
-pub map_stands : {T : Table} {k e : TypeId} {limit : ℕ} {j : Data} {b : List ℕ} → SaysAs T (kind.Map k e) limit j b
-    → PartsStand (SaysPairs T k e (limit - 1)) j b
+pub map_stands : {T : Table} {H : Bool} {k e : TypeId} {limit : ℕ} {j : Data} {b : List ℕ}
+    → SaysAs T H (kind.Map k e) limit j b
+    → PartsStand (SaysPairs T H k e (limit - 1)) j b
 map_stands (of_map {js = js} {c = c} {b = b} p h) =
     record { parts = js; count = c; bytes = b; counted = p; says = h; is = refl; whole = refl }
 
-pub record ArrayStands (T : Table) (e : TypeId) (n limit : ℕ) (j : Data) (b : List ℕ) : Type 0 where
-  pub elements : PartsStand (SaysEach T e limit) j b
+pub record ArrayStands (T : Table) (H : Bool) (e : TypeId) (n limit : ℕ) (j : Data) (b : List ℕ) : Type 0 where
+  pub elements : PartsStand (SaysEach T H e limit) j b
   pub same : length elements.parts ≡ n
 
-pub array_stands : {T : Table} {e : TypeId} {n limit : ℕ} {j : Data} {b : List ℕ} → SaysAs T (kind.Array e n) limit j b
-    → ArrayStands T e n (limit - 1) j b
+pub array_stands : {T : Table} {H : Bool} {e : TypeId} {n limit : ℕ} {j : Data} {b : List ℕ}
+    → SaysAs T H (kind.Array e n) limit j b
+    → ArrayStands T H e n (limit - 1) j b
 array_stands (of_array {js = js} {c = c} {b = b} same p h) = record {
   elements = record { parts = js; count = c; bytes = b; counted = p; says = h; is = refl; whole = refl };
   same = same;
 }
 
-pub struct_stands : {T : Table} {types : List Field} {limit : ℕ} {j : Data} {b : List ℕ}
-    → SaysAs T (kind.Struct types) limit j b → SaysStruct T types (limit - 1) j b
+pub struct_stands : {T : Table} {H : Bool} {types : List Field} {limit : ℕ} {j : Data} {b : List ℕ}
+    → SaysAs T H (kind.Struct types) limit j b → SaysStruct T H types (limit - 1) j b
 struct_stands (of_struct {js = js} h) = record { parts = js; says = h; is = refl }
 
 pub record OpaqueStands (j : Data) (b : List ℕ) : Type 0 where
@@ -89,8 +95,8 @@ pub record OpaqueStands (j : Data) (b : List ℕ) : Type 0 where
   pub is : j ≡ opaque_json text
   pub whole : b ≡ count ++ text
 
-pub opaque_stands : {T : Table} {m : Marshal} {limit : ℕ} {j : Data} {b : List ℕ}
-    → SaysAs T (kind.Opaque m) limit j b → OpaqueStands j b
+pub opaque_stands : {T : Table} {H : Bool} {m : Marshal} {limit : ℕ} {j : Data} {b : List ℕ}
+    → SaysAs T H (kind.Opaque m) limit j b → OpaqueStands j b
 opaque_stands (of_opaque {c = c} s o p) =
     record { text = s; count = c; holds = o; counted = p; is = refl; whole = refl }
 
@@ -98,59 +104,66 @@ pub record PlainStands (T : Table) (k : Basic) (j : Data) (b : List ℕ) : Type 
   pub value : Tree
   pub spelled : SpellsAs T (kind.Basic k) value b
   pub holds : HoldsBytes value
-  pub is : j ≡ value_json T no_type value
+  pub is : IsBasicJson T no_type value j
 
-pub plain_stands : {T : Table} {k : Basic} {limit : ℕ} {j : Data} {b : List ℕ} → (k ≡ basic.Interface → ⊥)
-    → SaysAs T (kind.Basic k) limit j b → PlainStands T k j b
-plain_stands other (of_basic {v = v} p o) = record { value = v; spelled = p; holds = o; is = refl }
-plain_stands other (of_held name o m p may q h r) = absurd (other refl)
+pub plain_stands : {T : Table} {H : Bool} {k : Basic} {limit : ℕ} {j : Data} {b : List ℕ} → (k ≡ basic.Interface → ⊥)
+    → SaysAs T H (kind.Basic k) limit j b → PlainStands T k j b
+plain_stands other (of_basic {v = v} p o is) = record { value = v; spelled = p; holds = o; is = is }
+plain_stands other (of_held name in_go o m p may q i h r) = absurd (other refl)
 
 -- ---- an interface
 
-pub record HeldStands (T : Table) (limit : ℕ) (j : Data) (b : List ℕ) : Type 0 where
+pub record HeldStands (T : Table) (H : Bool) (limit : ℕ) (j : Data) (b : List ℕ) : Type 0 where
+  pub in_go : IsTrue H
   pub held : TypeId
   pub name : List ℕ
   pub name_count : List ℕ
   pub number : List ℕ
   pub count : List ℕ
   pub value : List ℕ
+  pub id_json : Data
   pub json : Data
   pub holds : AreBytes name
   pub some : 0 < length name
   pub named : IsUnsigned (length name) name_count
   pub may : MayPut T held
   pub typed : IsSigned (pos held.0) number
-  pub says : SaysTop T held limit json value
+  pub numbered : IsNatural held.0 id_json
+  pub says : SaysTop T H held limit json value
   pub counted : IsUnsigned (length value) count
-  pub is : j ≡ interface_json name held json
+  pub is : j ≡ held_json name id_json json
   pub whole : b ≡ name_count ++ (name ++ (number ++ (count ++ value)))
 
 -- nil, or what it holds
-pub data InterfaceStands (T : Table) (limit : ℕ) (j : Data) (b : List ℕ) : Type 0 where
-  nil_stands : j ≡ null → IsUnsigned 0 b → InterfaceStands T limit j b
-  held_stands : HeldStands T limit j b → InterfaceStands T limit j b
+pub data InterfaceStands (T : Table) (H : Bool) (limit : ℕ) (j : Data) (b : List ℕ) : Type 0 where
+  nil_stands : j ≡ null → IsUnsigned 0 b → InterfaceStands T H limit j b
+  held_stands : HeldStands T H limit j b → InterfaceStands T H limit j b
 
-nil_is : {T : Table} {v : Tree} {b : List ℕ} → SpellsAs T (kind.Basic basic.Interface) v b
-    → (value_json T no_type v ≡ null) × IsUnsigned 0 b
-nil_is (of_nil p) = (refl, p)
+nil_is : {T : Table} {v : Tree} {j : Data} {b : List ℕ} → SpellsAs T (kind.Basic basic.Interface) v b
+    → IsBasicJson T no_type v j → (j ≡ null) × IsUnsigned 0 b
+nil_is (of_nil p) as_shown = (refl, p)
 
-pub interface_stands : {T : Table} {limit : ℕ} {j : Data} {b : List ℕ}
-    → SaysAs T (kind.Basic basic.Interface) limit j b → InterfaceStands T (limit - 1) j b
-interface_stands (of_basic p o) = let n = nil_is p in nil_stands n.0 n.1
-interface_stands (of_held {held = held} {a = a} {n = n} {c = c} {b = b} {j = j} name o m p may q h r) =
+pub interface_stands : {T : Table} {H : Bool} {limit : ℕ} {j : Data} {b : List ℕ}
+    → SaysAs T H (kind.Basic basic.Interface) limit j b → InterfaceStands T H (limit - 1) j b
+interface_stands (of_basic p o is) = let n = nil_is p is in nil_stands n.0 n.1
+interface_stands
+    (of_held {held = held} {a = a} {n = n} {c = c} {b = b} {number = of} {j = j} name in_go o m p may q i h r) =
     held_stands (record {
+      in_go = in_go;
       held = held;
       name = name;
       name_count = a;
       number = n;
       count = c;
       value = b;
+      id_json = of;
       json = j;
       holds = o;
       some = m;
       named = p;
       may = may;
       typed = q;
+      numbered = i;
       says = h;
       counted = r;
       is = refl;
@@ -159,28 +172,29 @@ interface_stands (of_held {held = held} {a = a} {n = n} {c = c} {b = b} {j = j} 
 
 -- ---- behind a tag or without one
 
-pub top_as : {T : Table} {t : TypeId} {limit : ℕ} {j : Data} {b : List ℕ} → HasStructs T t → SaysTop T t limit j b
-    → Says T t limit j b
+pub top_as : {T : Table} {H : Bool} {t : TypeId} {limit : ℕ} {j : Data} {b : List ℕ} → HasStructs T t
+    → SaysTop T H t limit j b
+    → Says T H t limit j b
 top_as h (at_once found is said) = said
 top_as {T = T} h (tagged {s = s} found isnt said) =
     absurd (isnt (subst (λ (r : Shape). IsStruct r.kind) (some_injective (sym h.found ∙ found)) h.struct))
 
-pub record BehindTag (T : Table) (t : TypeId) (limit : ℕ) (j : Data) (b : List ℕ) : Type 0 where
+pub record BehindTag (T : Table) (H : Bool) (t : TypeId) (limit : ℕ) (j : Data) (b : List ℕ) : Type 0 where
   pub bytes : List ℕ
-  pub says : Says T t limit j bytes
+  pub says : Says T H t limit j bytes
   pub whole : b ≡ 0 ∷ bytes
 
-pub top_behind : {T : Table} {t : TypeId} {limit : ℕ} {j : Data} {b : List ℕ} → ¬ HasStructs T t
-    → SaysTop T t limit j b → BehindTag T t limit j b
+pub top_behind : {T : Table} {H : Bool} {t : TypeId} {limit : ℕ} {j : Data} {b : List ℕ} → ¬ HasStructs T t
+    → SaysTop T H t limit j b → BehindTag T H t limit j b
 top_behind isnt (at_once {s = s} found is said) = absurd (isnt (record { shape = s; found = found; struct = is }))
 top_behind isnt (tagged {b = b} found other said) = record { bytes = b; says = said; whole = refl }
 
-pub top_of_struct : {T : Table} {t : TypeId} {limit : ℕ} {j : Data} {b : List ℕ} → HasStructs T t
-    → Says T t limit j b → SaysTop T t limit j b
+pub top_of_struct : {T : Table} {H : Bool} {t : TypeId} {limit : ℕ} {j : Data} {b : List ℕ} → HasStructs T t
+    → Says T H t limit j b → SaysTop T H t limit j b
 top_of_struct h said = at_once h.found h.struct said
 
-pub top_tagged : {T : Table} {t : TypeId} {limit : ℕ} {j : Data} {b : List ℕ} → ¬ HasStructs T t
-    → Says T t limit j b → SaysTop T t limit j (0 ∷ b)
+pub top_tagged : {T : Table} {H : Bool} {t : TypeId} {limit : ℕ} {j : Data} {b : List ℕ} → ¬ HasStructs T t
+    → Says T H t limit j b → SaysTop T H t limit j (0 ∷ b)
 top_tagged isnt said =
     let k = is_known said in
     tagged k.1 (λ is. isnt (record { shape = k.0; found = k.1; struct = is })) said
@@ -204,22 +218,23 @@ plain_some (spells.of_nil p) = (unsigned_length p).0
 plain_some (spells.of_bytes {s = s} {c = c} p) = behind_first c s (unsigned_length p).0
 plain_some (spells.of_text {s = s} {c = c} p) = behind_first c s (unsigned_length p).0
 
-fields_some : {T : Table} {types : List Field} {next limit : ℕ} {js : List Data} {b : List ℕ}
-    → SaysFields T types next limit js b → 0 < length b
+fields_some : {T : Table} {H : Bool} {types : List Field} {next limit : ℕ} {js : List Data} {b : List ℕ}
+    → SaysFields T H types next limit js b → 0 < length b
 fields_some (end_of_fields p) = (unsigned_length p).0
-fields_some (next_field {a = a} {b = b} {c = c} o i p h k) = behind_first a (b ++ c) (unsigned_length p).0
+fields_some (next_field {a = a} {b = b} {c = c} o i p q h k) = behind_first a (b ++ c) (unsigned_length p).0
 
-as_some : {T : Table} {k : Kind} {limit : ℕ} {j : Data} {b : List ℕ} → SaysAs T k limit j b → 0 < length b
-as_some (of_basic p o) = plain_some p
+as_some : {T : Table} {H : Bool} {k : Kind} {limit : ℕ} {j : Data} {b : List ℕ} → SaysAs T H k limit j b → 0 < length b
+as_some (of_basic p o is) = plain_some p
 as_some (of_opaque {c = c} s o p) = behind_first c s (unsigned_length p).0
 as_some (of_slice {c = c} {b = b} p h) = behind_first c b (unsigned_length p).0
 as_some (of_array {c = c} {b = b} same p h) = behind_first c b (unsigned_length p).0
 as_some (of_map {c = c} {b = b} p h) = behind_first c b (unsigned_length p).0
 as_some (of_struct h) = fields_some h
-as_some (of_held {a = a} {n = n} {c = c} {b = b} name o m p may q h r) =
+as_some (of_held {a = a} {n = n} {c = c} {b = b} name in_go o m p may q i h r) =
     behind_first a (name ++ (n ++ (c ++ b))) (unsigned_length p).0
 
-pub some_bytes : {T : Table} {t : TypeId} {limit : ℕ} {j : Data} {b : List ℕ} → Says T t limit j b → 0 < length b
+pub some_bytes : {T : Table} {H : Bool} {t : TypeId} {limit : ℕ} {j : Data} {b : List ℕ} → Says T H t limit j b
+    → 0 < length b
 some_bytes (of_type f some h) = as_some h
 
 -- ---- what calls answer
@@ -281,17 +296,18 @@ parts_put (Ok u) s new rest count bytes before after put none same left =
 parts_put (Err e) s new rest count bytes before after put none same left = none
 
 -- behind a tag
-pub tag_said : {T : Table} {t : TypeId} (limit : ℕ) (r : Result (Unit {0}) LineFault) (old new : List Token)
+pub tag_said : {T : Table} {t : TypeId} (H : Bool) (limit : ℕ) (r : Result (Unit {0}) LineFault) (old new : List Token)
     (before mid after : List ℕ) → ¬ HasStructs T t → mid ≡ before ++ 0 ∷ []
-    → OnOk r (PutsSaid (Says T t limit) old new mid after) → OnOk r (PutsSaid (SaysTop T t limit) old new before after)
-tag_said limit (Ok u) old new before mid after isnt tag p = record {
+    → OnOk r (PutsSaid (Says T H t limit) old new mid after)
+    → OnOk r (PutsSaid (SaysTop T H t limit) old new before after)
+tag_said H limit (Ok u) old new before mid after isnt tag p = record {
   json = p.json;
   bytes = 0 ∷ p.bytes;
   says = top_tagged isnt p.says;
   reads = p.reads;
   appended = p.appended ∙ ap (λ l. l ++ p.bytes) tag ∙ append_assoc before (0 ∷ []) p.bytes;
 }
-tag_said limit (Err e) old new before mid after isnt tag p = tt
+tag_said H limit (Err e) old new before mid after isnt tag p = tt
 
 pub tag_put : (r : Result (Unit {0}) LineFault) (new rest : List Token) (before mid after b bytes : List ℕ)
     → mid ≡ before ++ 0 ∷ [] → b ≡ 0 ∷ bytes → PutsIt r new rest mid after bytes → PutsIt r new rest before after b
@@ -302,20 +318,22 @@ tag_put (Ok u) new rest before mid after b bytes tag whole p = (
 tag_put (Err e) new rest before mid after b bytes tag whole p = p
 
 -- of a type of the kind
-pub kind_said : {s : Shape} {k : Kind} {limit : ℕ} (T : Table) (t : TypeId) (r : Result (Unit {0}) LineFault)
+pub kind_said : {s : Shape} {k : Kind} {limit : ℕ} (T : Table) (H : Bool) (t : TypeId)
+    (r : Result (Unit {0}) LineFault)
     (old new : List Token) (before after : List ℕ) → shape_of T t ≡ Some s → s.kind ≡ k → 0 < limit
-    → OnOk r (PutsSaid (SaysAs T k limit) old new before after)
-    → OnOk r (PutsSaid (Says T t limit) old new before after)
-kind_said {limit = limit} T t r old new before after found is some put =
+    → OnOk r (PutsSaid (SaysAs T H k limit) old new before after)
+    → OnOk r (PutsSaid (Says T H t limit) old new before after)
+kind_said {limit = limit} T H t r old new before after found is some put =
     says_put r old new before after
-    (λ j b h. of_type found some (subst (λ (k : Kind). SaysAs T k limit j b) (sym is) h)) put
+    (λ j b h. of_type found some (subst (λ (k : Kind). SaysAs T H k limit j b) (sym is) h)) put
 
 -- elements that are as many as the array has
-pub array_said : {T : Table} {e : TypeId} (n limit : ℕ) (r : Result (Unit {0}) LineFault) (old new : List Token)
+pub array_said : {T : Table} {H : Bool} {e : TypeId} (n limit : ℕ) (r : Result (Unit {0}) LineFault)
+    (old new : List Token)
     (count : ℕ) (bytes before after : List ℕ) → OnOk r (count ≡ n)
-    → ReadsParts (SaysEach T e (limit - 1)) old new count bytes
+    → ReadsParts (SaysEach T H e (limit - 1)) old new count bytes
     → OnOk r ((c : List ℕ) × IsUnsigned count c × (after ≡ before ++ (c ++ bytes)))
-    → OnOk r (PutsSaid (SaysAs T (kind.Array e n) limit) old new before after)
+    → OnOk r (PutsSaid (SaysAs T H (kind.Array e n) limit) old new before after)
 array_said n limit (Ok u) old new count bytes before after same p put = parts_said _ (Ok u) old new count bytes before
     after
     (λ js c b long q h. of_array (long ∙ same) q h) p put

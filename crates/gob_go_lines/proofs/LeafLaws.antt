@@ -1,5 +1,5 @@
 -- Values without parts, as they are put.
-use Rattle.std.proofs.Common.{◌≡◌, ◌∙◌, ℕ, suc, ◌<◌, List, [], ◌∷◌, ◌++◌, length, get_or, arith, Result, Ok, Err}
+use Rattle.std.proofs.Common.{◌≡◌, ◌∙◌, Bool, ℕ, suc, ◌<◌, List, [], ◌∷◌, ◌++◌, length, get_or, arith, Result, Ok, Err}
 use Rattle.std.proofs.Common.{Some, ap, sym, subst}
 use Rattle.std.specs.Prelude.{IfErr, OnOk}
 use Rattle.json.specs.Token.{Token}
@@ -22,7 +22,8 @@ use Rattle.gob_value.proofs.BytesLaws.{spelled_bytes}
 use Rattle.gob_value.proofs.PublicLaws.{one_spelling}
 use Rattle.gob_go.specs.Machine.WholeFilled.{IsOfKind}
 use Rattle.gob_go.proofs.WholeFilledSteps.{spelled_as}
-use Rattle.gob_json.specs.Json.{no_type, opaque_json, value_json}
+use Rattle.gob_json.specs.Json.{no_type, opaque_json}
+use Rattle.gob_lines.specs.Numbers.{IsBasicJson, ReadsSome}
 use Rattle.gob_lines.specs.Reads.{IsWrong, Reads}
 use Rattle.gob_lines.specs.declared.fault.LineFault.{LineFault}
 use Rattle.gob_go_lines.specs.Says.{Says, SaysAs, of_basic, of_opaque}
@@ -37,17 +38,17 @@ kind_spelled {T = T} {v = v} {b = b} is (of_type f p) =
 
 pub leaf_said : {k : Basic} (T : Table) (t : TypeId) (r : Result (Unit {0}) LineFault) (v : Tree)
     (old new : List Token) (before after : List ℕ) → IsOfKind T t (kind.Basic k) → AreBytes after
-    → Reads (value_json T no_type v) old new → OnOk r (Appends (Spells T t v) before after)
-    → OnOk r ((limit : ℕ) → PutsSaid (SaysAs T (kind.Basic k) limit) old new before after)
-leaf_said T t (Ok u) v old new before after is o reads put = λ limit. record {
-  json = value_json T no_type v;
+    → ReadsSome (IsBasicJson T no_type v) old new → OnOk r (Appends (Spells T t v) before after)
+    → OnOk r ((H : Bool) (limit : ℕ) → PutsSaid (SaysAs T H (kind.Basic k) limit) old new before after)
+leaf_said T t (Ok u) v old new before after is o read put = λ H limit. record {
+  json = read.json;
   bytes = put.bytes;
   says = of_basic (kind_spelled is put.spelled)
-      ((spelled_bytes put.spelled).0 (bytes_rest before put.bytes (subst AreBytes put.appended o)));
-  reads = reads;
+      ((spelled_bytes put.spelled).0 (bytes_rest before put.bytes (subst AreBytes put.appended o))) read.is;
+  reads = read.reads;
   appended = put.appended;
 }
-leaf_said T t (Err e) v old new before after is o reads put = tt
+leaf_said T t (Err e) v old new before after is o read put = tt
 
 pub leaf_put : {k : Basic} {w : Tree} {b : List ℕ} (T : Table) (t : TypeId) (r : Result (Unit {0}) LineFault) (v : Tree)
     (new rest : List Token) (before after : List ℕ) → IsOfKind T t (kind.Basic k) → SpellsAs T (kind.Basic k) w b
@@ -60,9 +61,9 @@ leaf_put T t (Err e) v new rest before after is spelled same left put none = non
 
 pub opaque_said : (r : Result (Unit {0}) LineFault) (s : List ℕ) (old new : List Token) (before after : List ℕ)
     → AreBytes s → Reads (opaque_json s) old new → OnOk r (Appends (WrittenBytes s) before after)
-    → OnOk r ((T : Table) (m : Marshal) (limit : ℕ)
-    → PutsSaid (SaysAs T (kind.Opaque m) limit) old new before after)
-opaque_said (Ok u) s old new before after o reads put = λ T m limit.
+    → OnOk r ((T : Table) (H : Bool) (m : Marshal) (limit : ℕ)
+    → PutsSaid (SaysAs T H (kind.Opaque m) limit) old new before after)
+opaque_said (Ok u) s old new before after o reads put = λ T H m limit.
     let c = count_of put.spelled in
     record {
       json = opaque_json s;
@@ -85,21 +86,24 @@ opaque_put (Ok u) s t c new rest before after p same left put none =
 opaque_put (Err e) s t c new rest before after p same left put none = none
 
 -- of a type of the kind
-pub opaque_kind : {s : Shape} {m : Marshal} {limit : ℕ} (T : Table) (t : TypeId) (r : Result (Unit {0}) LineFault)
-    (old new : List Token) (before after : List ℕ) → shape_of T t ≡ Some s → s.kind ≡ kind.Opaque m → 0 < limit
-    → OnOk r ((U : Table) (m : Marshal) (limit : ℕ) → PutsSaid (SaysAs U (kind.Opaque m) limit) old new before after)
-    → OnOk r (PutsSaid (Says T t limit) old new before after)
-opaque_kind {m = m} {limit = limit} T t (Ok u) old new before after found is some put =
-    kind_said T t (Ok u) old new before after found is some (put T m limit)
-opaque_kind T t (Err e) old new before after found is some put = tt
+pub opaque_kind : {s : Shape} {m : Marshal} {limit : ℕ} (T : Table) (H : Bool) (t : TypeId)
+    (r : Result (Unit {0}) LineFault) (old new : List Token) (before after : List ℕ) → shape_of T t ≡ Some s
+    → s.kind ≡ kind.Opaque m → 0 < limit
+    → OnOk r ((U : Table) (H : Bool) (m : Marshal) (limit : ℕ)
+    → PutsSaid (SaysAs U H (kind.Opaque m) limit) old new before after)
+    → OnOk r (PutsSaid (Says T H t limit) old new before after)
+opaque_kind {m = m} {limit = limit} T H t (Ok u) old new before after found is some put =
+    kind_said T H t (Ok u) old new before after found is some (put T H m limit)
+opaque_kind T H t (Err e) old new before after found is some put = tt
 
-pub basic_kind : {s : Shape} {k : Basic} {limit : ℕ} (T : Table) (t : TypeId) (r : Result (Unit {0}) LineFault)
-    (old new : List Token) (before after : List ℕ) → shape_of T t ≡ Some s → s.kind ≡ kind.Basic k → 0 < limit
-    → OnOk r ((limit : ℕ) → PutsSaid (SaysAs T (kind.Basic k) limit) old new before after)
-    → OnOk r (PutsSaid (Says T t limit) old new before after)
-basic_kind {limit = limit} T t (Ok u) old new before after found is some put =
-    kind_said T t (Ok u) old new before after found is some (put limit)
-basic_kind T t (Err e) old new before after found is some put = tt
+pub basic_kind : {s : Shape} {k : Basic} {limit : ℕ} (T : Table) (H : Bool) (t : TypeId)
+    (r : Result (Unit {0}) LineFault) (old new : List Token) (before after : List ℕ) → shape_of T t ≡ Some s
+    → s.kind ≡ kind.Basic k → 0 < limit
+    → OnOk r ((H : Bool) (limit : ℕ) → PutsSaid (SaysAs T H (kind.Basic k) limit) old new before after)
+    → OnOk r (PutsSaid (Says T H t limit) old new before after)
+basic_kind {limit = limit} T H t (Ok u) old new before after found is some put =
+    kind_said T H t (Ok u) old new before after found is some (put H limit)
+basic_kind T H t (Err e) old new before after found is some put = tt
 
 -- each item of a vector of bytes is one
 pub each_byte : (s : List ℕ) → ((i d : ℕ) → i < length s → get_or s i d < 256) → AreBytes s

@@ -5,5 +5,11 @@ pub mod PartLaws
 pub mod HeldLaws
 pub mod LeafLaws
 pub mod LineLaws
-pub mod UnfilledLaws
 pub mod BytesLaws
+pub mod OnceLaws
+pub mod ReachLaws
+pub mod HoleLaws
+pub mod FilledLaws
+pub mod UnfilledLaws
+pub mod TextsLaws
+pub mod ToldLaws

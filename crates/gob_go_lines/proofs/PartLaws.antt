@@ -1,7 +1,8 @@
 -- What was read of the parts of a list, a map or a struct, and what is left of those that stand there.
-use Rattle.std.proofs.Common.{◌≡◌, ℕ, ◌+◌, ◌-◌, ◌<◌, ◌≤◌, List, [], ◌∷◌, ◌++◌, length, Some, None, arith, refl, sym, ap}
+use Rattle.std.proofs.Common.{◌≡◌, Bool, ℕ, ◌+◌, ◌-◌, ◌<◌, ◌≤◌, List, [], ◌∷◌, ◌++◌, length, Some, None, arith, refl}
+use Rattle.std.proofs.Common.{sym, ap}
 use Rattle.std.proofs.Common.{subst, ◌∙◌, append_assoc, append-nil, length-append}
-use Rattle.std.specs.Prelude.{decimal, slice_get}
+use Rattle.std.specs.Prelude.{slice_get}
 use Rattle.std.specs.List.{flat_map}
 use Rattle.json.specs.Token.{Token}
 use Rattle.json.specs.Json.{after_end_array}
@@ -10,7 +11,8 @@ use Rattle.gob_num.specs.Unsigned.{IsUnsigned}
 use Rattle.gob_types.specs.declared.id.TypeId.{TypeId}
 use Rattle.gob_types.specs.declared.kind.Field.{Field}
 use Rattle.gob_types.specs.Table.{Table}
-use Rattle.gob_json.specs.Json.{natural_json, pair_json, text_json, triple_json}
+use Rattle.gob_json.specs.Json.{pair_json, text_json, triple_json}
+use Rattle.gob_lines.specs.Numbers.{IsNatural}
 use Rattle.gob_lines.specs.Reads.{Reads}
 use Rattle.gob_lines.proofs.ReadLaws.{HasReadParts, all_read, end_is_next, nested, one_more_read}
 use Rattle.gob_lines.proofs.UniqueLaws.{J, JS, behind, flat, not_end}
@@ -64,32 +66,31 @@ one_more_said {All = All} {old = old} {mid = mid} {before = before} {after = aft
     }
 
 -- a key and its element
-pub one_entry_said : {T : Table} {k e : TypeId} {limit : ℕ} {All : List Data → List ℕ → Type 0}
+pub one_entry_said : {T : Table} {H : Bool} {k e : TypeId} {limit : ℕ} {All : List Data → List ℕ → Type 0}
     {old mid : List Token} {count : ℕ} {before after : List ℕ} (now : List Token) (new : List ℕ) (x j : Data)
-    (a b : List ℕ) → HasSaid (SaysPairs T k e limit) All old mid count before after → Reads (pair_json x j) mid now
-    → Says T k limit x a → Says T e limit j b → new ≡ (after ++ a) ++ b
-    → HasSaid (SaysPairs T k e limit) All old now (count + 1) before new
-one_entry_said {T = T} {k = k} {e = e} {limit = limit} {after = after} now new x j a b h reads key value is =
+    (a b : List ℕ) → HasSaid (SaysPairs T H k e limit) All old mid count before after → Reads (pair_json x j) mid now
+    → Says T H k limit x a → Says T H e limit j b → new ≡ (after ++ a) ++ b
+    → HasSaid (SaysPairs T H k e limit) All old now (count + 1) before new
+one_entry_said {T = T} {H = H} {k = k} {e = e} {limit = limit} {after = after} now new x j a b h reads key value is =
     let some : 0 < length (a ++ b) = omega (arith, length-append a b, some_bytes key) in
     one_more_said now new (pair_json x j) (a ++ b) h reads (is ∙ append_assoc after a b) some
-    (λ js c s. subst (λ l. SaysPairs T k e limit (pair_json x j ∷ js) l) (sym (append_assoc a b c))
+    (λ js c s. subst (λ l. SaysPairs T H k e limit (pair_json x j ∷ js) l) (sym (append_assoc a b c))
     (entry key value s))
 
 -- a field that is present
-pub one_field_said : {T : Table} {types : List Field} {next limit : ℕ} {All : List Data → List ℕ → Type 0}
+pub one_field_said : {T : Table} {H : Bool} {types : List Field} {next limit : ℕ} {All : List Data → List ℕ → Type 0}
     {old mid : List Token} {count : ℕ} {before after : List ℕ} (now : List Token) (new : List ℕ) (f : ℕ) (e : Field)
-    (j : Data) (a b : List ℕ) → HasSaid (SaysFields T types next limit) All old mid count before after
-    → Reads (triple_json (natural_json f) (text_json e.name) j) mid now → next ≤ f → slice_get types f ≡ Some e
-    → IsUnsigned (f + 1 - next) a → Says T e.id limit j b → new ≡ (after ++ a) ++ b
-    → HasSaid (SaysFields T types (f + 1) limit) All old now (count + 1) before new
-one_field_said {T = T} {types = types} {next = next} {limit = limit} {after = after} now new f e j a b h reads order
-    here
-    delta value is =
+    (number j : Data) (a b : List ℕ) → HasSaid (SaysFields T H types next limit) All old mid count before after
+    → Reads (triple_json number (text_json e.name) j) mid now → next ≤ f → slice_get types f ≡ Some e
+    → IsUnsigned (f + 1 - next) a → IsNatural f number → Says T H e.id limit j b → new ≡ (after ++ a) ++ b
+    → HasSaid (SaysFields T H types (f + 1) limit) All old now (count + 1) before new
+one_field_said {T = T} {H = H} {types = types} {next = next} {limit = limit} {after = after} now new f e of j a b h
+    reads order here delta numbered value is =
     let some : 0 < length (a ++ b) = omega (arith, length-append a b, some_bytes value) in
-    let part = triple_json (natural_json f) (text_json e.name) j in
+    let part = triple_json of (text_json e.name) j in
     one_more_said now new part (a ++ b) h reads (is ∙ append_assoc after a b) some
-    (λ js c s. subst (λ l. SaysFields T types next limit (part ∷ js) l) (sym (append_assoc a b c))
-    (next_field order here delta value s))
+    (λ js c s. subst (λ l. SaysFields T H types next limit (part ∷ js) l) (sym (append_assoc a b c))
+    (next_field order here delta numbered value s))
 
 items_each : (js : List Data) → JS (items_of js) ≡ flat_map J js ++ Token.end_array ∷ []
 items_each [] = refl
@@ -108,19 +109,20 @@ all_said {All = All} {old = old} {mid = mid} now h end none = record {
   reads = all_read J h.parts (items_of h.parts) old mid now (items_each h.parts) h.reads end;
 }
 
-pub all_fields_said : {T : Table} {types : List Field} {next limit count : ℕ} {old mid : List Token}
+pub all_fields_said : {T : Table} {H : Bool} {types : List Field} {next limit count : ℕ} {old mid : List Token}
     {before after : List ℕ} (now : List Token) (new b : List ℕ)
-    → HasSaid (SaysFields T types next limit) (SaysFields T types 0 limit) old mid count before after
+    → HasSaid (SaysFields T H types next limit) (SaysFields T H types 0 limit) old mid count before after
     → after_end_array mid ≡ Some now → IsUnsigned 0 b → new ≡ after ++ b
-    → PutsSaid (SaysStruct T types limit) old now before new
-all_fields_said {T = T} {types = types} {limit = limit} {old = old} {mid = mid} {before = before} now new b h end zero
+    → PutsSaid (SaysStruct T H types limit) old now before new
+all_fields_said {T = T} {H = H} {types = types} {limit = limit} {old = old} {mid = mid}
+    {before = before} now new b h end zero
     is =
     record {
       json = array (items_of h.parts);
       bytes = h.bytes ++ b;
       says = record {
         parts = h.parts;
-        says = subst (λ l. SaysFields T types 0 limit l (h.bytes ++ b)) (append-nil h.parts)
+        says = subst (λ l. SaysFields T H types 0 limit l (h.bytes ++ b)) (append-nil h.parts)
             (h.goes_on [] b (end_of_fields zero));
         is = refl;
       };
@@ -146,13 +148,14 @@ pub pair_tokens : (i j : Data) (mid t2 t3 t4 now : List Token) → mid ≡ Token
 pair_tokens i j mid t2 t3 t4 now e x y z =
     e ∙ ap (λ (l : List Token). Token.begin_array ∷ l) (nested (J i) (J j) t2 t3 t4 now x y z)
 
-pub field_tokens : (n : ℕ) (name : List ℕ) (j : Data) (mid t1 t2 t3 t4 now : List Token)
-    → mid ≡ Token.begin_array ∷ t1 → Reads (natural_json n) t1 t2 → Reads (text_json name) t2 t3 → Reads j t3 t4
-    → t4 ≡ Token.end_array ∷ now → Reads (triple_json (natural_json n) (text_json name) j) mid now
-field_tokens n name j mid t1 t2 t3 t4 now e first text value end =
+pub field_tokens : (number : Data) (name : List ℕ) (j : Data) (mid t1 t2 t3 t4 now : List Token)
+    → mid ≡ Token.begin_array ∷ t1 → Reads number t1 t2 → Reads (text_json name) t2 t3 → Reads j t3 t4
+    → t4 ≡ Token.end_array ∷ now → Reads (triple_json number (text_json name) j) mid now
+field_tokens of name j mid t1 t2 t3 t4 now e first text value end =
+    let parts = J (text_json name) ++ (J j ++ Token.end_array ∷ []) in
     e ∙ ap (λ (l : List Token). Token.begin_array ∷ l)
-    (first ∙ ap (λ (l : List Token). J (natural_json n) ++ l)
-    (nested (J (text_json name)) (J j) t2 t3 t4 now text value end))
+    (first ∙ ap (λ (l : List Token). J of ++ l)
+    (nested (J (text_json name)) (J j) t2 t3 t4 now text value end) ∙ sym (append_assoc (J of) parts now))
 
 -- ---- what is left of the parts that stand there
 
@@ -211,13 +214,14 @@ left_at_end {Left = Left} {now = now} {count = count} {total = total} new h end 
       all = h.all;
     }
 
-no_element_bytes : {T : Table} {e : TypeId} {limit : ℕ} {js : List Data} {b : List ℕ} → SaysEach T e limit js b
+no_element_bytes : {T : Table} {H : Bool} {e : TypeId} {limit : ℕ} {js : List Data} {b : List ℕ}
+    → SaysEach T H e limit js b
     → js ≡ [] → b ≡ []
 no_element_bytes no_element none = refl
 no_element_bytes (element h k) none = absurd (cc)
 
-pub elements_end : {T : Table} {e : TypeId} {limit : ℕ} {now rest : List Token} {count total : ℕ}
-    {after whole : List ℕ} (new : List Token) → HasLeft (SaysEach T e limit) now rest count total after whole
+pub elements_end : {T : Table} {H : Bool} {e : TypeId} {limit : ℕ} {now rest : List Token} {count total : ℕ}
+    {after whole : List ℕ} (new : List Token) → HasLeft (SaysEach T H e limit) now rest count total after whole
     → after_end_array now ≡ Some new → (◌≡◌ {A = ℕ × List ℕ} (count, after) (total, whole)) × (new ≡ rest)
 elements_end {total = total} {after = after} new h end =
     let l = left_at_end new h end in
@@ -225,13 +229,14 @@ elements_end {total = total} {after = after} new h end =
     let bytes = sym (append-nil after) ∙ ap (λ b. after ++ b) (sym none) ∙ l.all in
     (ap (λ (a : ℕ). (a, after)) l.counted ∙ ap (λ (a : List ℕ). (total, a)) bytes, l.rest_is)
 
-no_entry_bytes : {T : Table} {k e : TypeId} {limit : ℕ} {js : List Data} {b : List ℕ} → SaysPairs T k e limit js b
+no_entry_bytes : {T : Table} {H : Bool} {k e : TypeId} {limit : ℕ} {js : List Data} {b : List ℕ}
+    → SaysPairs T H k e limit js b
     → js ≡ [] → b ≡ []
 no_entry_bytes no_entry none = refl
 no_entry_bytes (entry g h k) none = absurd (cc)
 
-pub entries_end : {T : Table} {k e : TypeId} {limit : ℕ} {now rest : List Token} {count total : ℕ}
-    {after whole : List ℕ} (new : List Token) → HasLeft (SaysPairs T k e limit) now rest count total after whole
+pub entries_end : {T : Table} {H : Bool} {k e : TypeId} {limit : ℕ} {now rest : List Token} {count total : ℕ}
+    {after whole : List ℕ} (new : List Token) → HasLeft (SaysPairs T H k e limit) now rest count total after whole
     → after_end_array now ≡ Some new → (◌≡◌ {A = ℕ × List ℕ} (count, after) (total, whole)) × (new ≡ rest)
 entries_end {total = total} {after = after} new h end =
     let l = left_at_end new h end in
@@ -239,10 +244,10 @@ entries_end {total = total} {after = after} new h end =
     let bytes = sym (append-nil after) ∙ ap (λ b. after ++ b) (sym none) ∙ l.all in
     (ap (λ (a : ℕ). (a, after)) l.counted ∙ ap (λ (a : List ℕ). (total, a)) bytes, l.rest_is)
 
-no_field_bytes : {T : Table} {types : List Field} {next limit : ℕ} {js : List Data} {b : List ℕ}
-    → SaysFields T types next limit js b → js ≡ [] → IsUnsigned 0 b
+no_field_bytes : {T : Table} {H : Bool} {types : List Field} {next limit : ℕ} {js : List Data} {b : List ℕ}
+    → SaysFields T H types next limit js b → js ≡ [] → IsUnsigned 0 b
 no_field_bytes (end_of_fields p) none = p
-no_field_bytes (next_field o i p h k) none = absurd (cc)
+no_field_bytes (next_field o i p q h k) none = absurd (cc)
 
 pub record FieldsAll (new rest : List Token) (after whole : List ℕ) : Type 0 where
   pub bytes : List ℕ
@@ -250,8 +255,9 @@ pub record FieldsAll (new rest : List Token) (after whole : List ℕ) : Type 0 w
   pub rest_is : new ≡ rest
   pub all : after ++ bytes ≡ whole
 
-pub fields_end : {T : Table} {types : List Field} {next limit : ℕ} {now rest : List Token} {count total : ℕ}
-    {after whole : List ℕ} (new : List Token) → HasLeft (SaysFields T types next limit) now rest count total after whole
+pub fields_end : {T : Table} {H : Bool} {types : List Field} {next limit : ℕ} {now rest : List Token} {count total : ℕ}
+    {after whole : List ℕ} (new : List Token)
+    → HasLeft (SaysFields T H types next limit) now rest count total after whole
     → after_end_array now ≡ Some new → FieldsAll new rest after whole
 fields_end new h end =
     let l = left_at_end new h end in
@@ -259,22 +265,23 @@ fields_end new h end =
 
 -- ---- the next one, where the array doesn't end
 
-pub record NextElement (T : Table) (e : TypeId) (limit : ℕ) (now rest : List Token) (count total : ℕ)
+pub record NextElement (T : Table) (H : Bool) (e : TypeId) (limit : ℕ) (now rest : List Token) (count total : ℕ)
     (after whole : List ℕ) : Type 0 where
   pub json : Data
   pub bytes : List ℕ
   pub parts : List Data
   pub others : List ℕ
-  pub says : Says T e limit json bytes
-  pub left : SaysEach T e limit parts others
+  pub says : Says T H e limit json bytes
+  pub left : SaysEach T H e limit parts others
   pub stand : now ≡ J json ++ (JS (items_of parts) ++ rest)
   pub counted : count + 1 + length parts ≡ total
   pub all : (after ++ bytes) ++ others ≡ whole
 
-element_at : {T : Table} {e : TypeId} {limit : ℕ} {now rest : List Token} {count total : ℕ} {after whole : List ℕ}
-    {js : List Data} {b : List ℕ} → SaysEach T e limit js b → now ≡ JS (items_of js) ++ rest
+element_at : {T : Table} {H : Bool} {e : TypeId} {limit : ℕ} {now rest : List Token} {count total : ℕ}
+    {after whole : List ℕ}
+    {js : List Data} {b : List ℕ} → SaysEach T H e limit js b → now ≡ JS (items_of js) ++ rest
     → count + length js ≡ total → after ++ b ≡ whole → after_end_array now ≡ None
-    → NextElement T e limit now rest count total after whole
+    → NextElement T H e limit now rest count total after whole
 element_at no_element stand counted all n = absurd (no_end_there stand n)
 element_at {rest = rest} {after = after} (element {j = j} {js = js} {b = b} {c = c} h k) stand counted all n = record {
   json = j;
@@ -288,17 +295,17 @@ element_at {rest = rest} {after = after} (element {j = j} {js = js} {b = b} {c =
   all = append_assoc after b c ∙ all;
 }
 
-pub element_next : {T : Table} {e : TypeId} {limit : ℕ} {now rest : List Token} {count total : ℕ}
-    {after whole : List ℕ} → HasLeft (SaysEach T e limit) now rest count total after whole
-    → after_end_array now ≡ None → NextElement T e limit now rest count total after whole
+pub element_next : {T : Table} {H : Bool} {e : TypeId} {limit : ℕ} {now rest : List Token} {count total : ℕ}
+    {after whole : List ℕ} → HasLeft (SaysEach T H e limit) now rest count total after whole
+    → after_end_array now ≡ None → NextElement T H e limit now rest count total after whole
 element_next h n = element_at h.says h.stand h.counted h.all n
 
 -- it was read
-pub element_read : {T : Table} {e : TypeId} {limit : ℕ} {now rest : List Token} {count total : ℕ}
-    {after whole : List ℕ} (new : List Token) (put : List ℕ) (n : NextElement T e limit now rest count total after
+pub element_read : {T : Table} {H : Bool} {e : TypeId} {limit : ℕ} {now rest : List Token} {count total : ℕ}
+    {after whole : List ℕ} (new : List Token) (put : List ℕ) (n : NextElement T H e limit now rest count total after
     whole)
     → new ≡ JS (items_of n.parts) ++ rest → put ≡ after ++ n.bytes
-    → HasLeft (SaysEach T e limit) new rest (count + 1) total put whole
+    → HasLeft (SaysEach T H e limit) new rest (count + 1) total put whole
 element_read new put n stand is = record {
   parts = n.parts;
   bytes = n.others;
@@ -308,7 +315,7 @@ element_read new put n stand is = record {
   all = ap (λ l. l ++ n.others) is ∙ n.all;
 }
 
-pub record NextEntry (T : Table) (k e : TypeId) (limit : ℕ) (now rest : List Token) (count total : ℕ)
+pub record NextEntry (T : Table) (H : Bool) (k e : TypeId) (limit : ℕ) (now rest : List Token) (count total : ℕ)
     (after whole : List ℕ) : Type 0 where
   pub key : Data
   pub json : Data
@@ -316,9 +323,9 @@ pub record NextEntry (T : Table) (k e : TypeId) (limit : ℕ) (now rest : List T
   pub bytes : List ℕ
   pub parts : List Data
   pub others : List ℕ
-  pub key_says : Says T k limit key key_bytes
-  pub says : Says T e limit json bytes
-  pub left : SaysPairs T k e limit parts others
+  pub key_says : Says T H k limit key key_bytes
+  pub says : Says T H e limit json bytes
+  pub left : SaysPairs T H k e limit parts others
   pub stand : now ≡ Token.begin_array ∷ (J key ++ (J json ++ (Token.end_array ∷ (JS (items_of parts) ++ rest))))
   pub counted : count + 1 + length parts ≡ total
   pub all : ((after ++ key_bytes) ++ bytes) ++ others ≡ whole
@@ -326,10 +333,11 @@ pub record NextEntry (T : Table) (k e : TypeId) (limit : ℕ) (now rest : List T
 three : (a b c d : List ℕ) → ((a ++ b) ++ c) ++ d ≡ a ++ (b ++ (c ++ d))
 three a b c d = append_assoc (a ++ b) c d ∙ append_assoc a b (c ++ d)
 
-entry_at : {T : Table} {k e : TypeId} {limit : ℕ} {now rest : List Token} {count total : ℕ} {after whole : List ℕ}
-    {js : List Data} {b : List ℕ} → SaysPairs T k e limit js b → now ≡ JS (items_of js) ++ rest
+entry_at : {T : Table} {H : Bool} {k e : TypeId} {limit : ℕ} {now rest : List Token} {count total : ℕ}
+    {after whole : List ℕ}
+    {js : List Data} {b : List ℕ} → SaysPairs T H k e limit js b → now ≡ JS (items_of js) ++ rest
     → count + length js ≡ total → after ++ b ≡ whole → after_end_array now ≡ None
-    → NextEntry T k e limit now rest count total after whole
+    → NextEntry T H k e limit now rest count total after whole
 entry_at no_entry stand counted all n = absurd (no_end_there stand n)
 entry_at {rest = rest} {after = after} (entry {x = x} {j = j} {js = js} {a = a} {b = b} {c = c} g h k) stand counted all
     n =
@@ -349,16 +357,16 @@ entry_at {rest = rest} {after = after} (entry {x = x} {j = j} {js = js} {a = a} 
       all = three after a b c ∙ all;
     }
 
-pub entry_next : {T : Table} {k e : TypeId} {limit : ℕ} {now rest : List Token} {count total : ℕ}
-    {after whole : List ℕ} → HasLeft (SaysPairs T k e limit) now rest count total after whole
-    → after_end_array now ≡ None → NextEntry T k e limit now rest count total after whole
+pub entry_next : {T : Table} {H : Bool} {k e : TypeId} {limit : ℕ} {now rest : List Token} {count total : ℕ}
+    {after whole : List ℕ} → HasLeft (SaysPairs T H k e limit) now rest count total after whole
+    → after_end_array now ≡ None → NextEntry T H k e limit now rest count total after whole
 entry_next h n = entry_at h.says h.stand h.counted h.all n
 
-pub entry_read : {T : Table} {k e : TypeId} {limit : ℕ} {now rest : List Token} {count total : ℕ}
-    {after whole : List ℕ} (new : List Token) (put : List ℕ) (n : NextEntry T k e limit now rest count total after
+pub entry_read : {T : Table} {H : Bool} {k e : TypeId} {limit : ℕ} {now rest : List Token} {count total : ℕ}
+    {after whole : List ℕ} (new : List Token) (put : List ℕ) (n : NextEntry T H k e limit now rest count total after
     whole)
     → new ≡ JS (items_of n.parts) ++ rest → put ≡ (after ++ n.key_bytes) ++ n.bytes
-    → HasLeft (SaysPairs T k e limit) new rest (count + 1) total put whole
+    → HasLeft (SaysPairs T H k e limit) new rest (count + 1) total put whole
 entry_read new put n stand is = record {
   parts = n.parts;
   bytes = n.others;
@@ -368,10 +376,12 @@ entry_read new put n stand is = record {
   all = ap (λ l. l ++ n.others) is ∙ n.all;
 }
 
-pub record NextField (T : Table) (types : List Field) (next limit : ℕ) (now rest : List Token) (count total : ℕ)
+pub record NextField (T : Table) (H : Bool) (types : List Field) (next limit : ℕ) (now rest : List Token)
+    (count total : ℕ)
     (after whole : List ℕ) : Type 0 where
   pub at : ℕ
   pub named : Field
+  pub number : Data
   pub json : Data
   pub delta : List ℕ
   pub bytes : List ℕ
@@ -380,23 +390,33 @@ pub record NextField (T : Table) (types : List Field) (next limit : ℕ) (now re
   pub later : next ≤ at
   pub there : slice_get types at ≡ Some named
   pub spelled : IsUnsigned (at + 1 - next) delta
-  pub says : Says T named.id limit json bytes
-  pub left : SaysFields T types (at + 1) limit parts others
-  pub stand : now ≡ Token.begin_array ∷ (Token.number (decimal at) ∷ (J (text_json named.name)
+  pub numbered : IsNatural at number
+  pub says : Says T H named.id limit json bytes
+  pub left : SaysFields T H types (at + 1) limit parts others
+  pub stand : now ≡ Token.begin_array ∷ (J number ++ (J (text_json named.name)
       ++ (J json ++ (Token.end_array ∷ (JS (items_of parts) ++ rest)))))
   pub counted : count + 1 + length parts ≡ total
   pub all : ((after ++ delta) ++ bytes) ++ others ≡ whole
 
-field_at : {T : Table} {types : List Field} {next limit : ℕ} {now rest : List Token} {count total : ℕ}
-    {after whole : List ℕ} {js : List Data} {b : List ℕ} → SaysFields T types next limit js b
+-- three parts, an end, and what stands behind
+flat_behind : (n a b e m x : List Token) → ((n ++ (a ++ (b ++ e))) ++ m) ++ x ≡ n ++ (a ++ (b ++ (e ++ (m ++ x))))
+flat_behind n a b e m x =
+    ap (λ (l : List Token). l ++ x) (append_assoc n (a ++ (b ++ e)) m)
+    ∙ append_assoc n ((a ++ (b ++ e)) ++ m) x
+    ∙ ap (λ (l : List Token). n ++ l) (flat a b e m x)
+
+field_at : {T : Table} {H : Bool} {types : List Field} {next limit : ℕ} {now rest : List Token} {count total : ℕ}
+    {after whole : List ℕ} {js : List Data} {b : List ℕ} → SaysFields T H types next limit js b
     → now ≡ JS (items_of js) ++ rest → count + length js ≡ total → after ++ b ≡ whole → after_end_array now ≡ None
-    → NextField T types next limit now rest count total after whole
+    → NextField T H types next limit now rest count total after whole
 field_at (end_of_fields p) stand counted all n = absurd (no_end_there stand n)
-field_at {rest = rest} {after = after} (next_field {f = f} {e = e} {j = j} {js = js} {a = a} {b = b} {c = c} o i p h k)
-    stand counted all n =
+field_at {rest = rest} {after = after}
+    (next_field {f = f} {e = e} {number = of} {j = j} {js = js} {a = a} {b = b} {c = c} o i p q h k) stand counted
+    all n =
     record {
       at = f;
       named = e;
+      number = of;
       json = j;
       delta = a;
       bytes = b;
@@ -405,24 +425,25 @@ field_at {rest = rest} {after = after} (next_field {f = f} {e = e} {j = j} {js =
       later = o;
       there = i;
       spelled = p;
+      numbered = q;
       says = h;
       left = k;
-      stand = stand ∙ ap (λ (l : List Token). Token.begin_array ∷ (Token.number (decimal f) ∷ l))
-          (flat (J (text_json e.name)) (J j) (Token.end_array ∷ []) (JS (items_of js)) rest);
+      stand = stand ∙ ap (λ (l : List Token). Token.begin_array ∷ l)
+          (flat_behind (J of) (J (text_json e.name)) (J j) (Token.end_array ∷ []) (JS (items_of js)) rest);
       counted = omega (arith, counted);
       all = three after a b c ∙ all;
     }
 
-pub field_next : {T : Table} {types : List Field} {next limit : ℕ} {now rest : List Token} {count total : ℕ}
-    {after whole : List ℕ} → HasLeft (SaysFields T types next limit) now rest count total after whole
-    → after_end_array now ≡ None → NextField T types next limit now rest count total after whole
+pub field_next : {T : Table} {H : Bool} {types : List Field} {next limit : ℕ} {now rest : List Token} {count total : ℕ}
+    {after whole : List ℕ} → HasLeft (SaysFields T H types next limit) now rest count total after whole
+    → after_end_array now ≡ None → NextField T H types next limit now rest count total after whole
 field_next h n = field_at h.says h.stand h.counted h.all n
 
-pub field_read : {T : Table} {types : List Field} {next limit : ℕ} {now rest : List Token} {count total : ℕ}
+pub field_read : {T : Table} {H : Bool} {types : List Field} {next limit : ℕ} {now rest : List Token} {count total : ℕ}
     {after whole : List ℕ} (new : List Token) (put : List ℕ)
-    (n : NextField T types next limit now rest count total after whole)
+    (n : NextField T H types next limit now rest count total after whole)
     → new ≡ JS (items_of n.parts) ++ rest → put ≡ (after ++ n.delta) ++ n.bytes
-    → HasLeft (SaysFields T types (n.at + 1) limit) new rest (count + 1) total put whole
+    → HasLeft (SaysFields T H types (n.at + 1) limit) new rest (count + 1) total put whole
 field_read new put n stand is = record {
   parts = n.parts;
   bytes = n.others;

@@ -1,7 +1,8 @@
 -- The JSON that says bytes is the one that the value shows which they spell.
-use Rattle.std.proofs.Common.{◌≡◌, ℕ, ◌+◌, ◌-◌, ◌<◌, ◌≤◌, List, [], ◌∷◌, ◌++◌, length, Some, pos, arith, refl, sym, ap}
+use Rattle.std.proofs.Common.{◌≡◌, Bool, false, ℕ, ◌+◌, ◌-◌, ◌<◌, ◌≤◌, List, [], ◌∷◌, ◌++◌, length, Some, pos, arith}
+use Rattle.std.proofs.Common.{refl, sym, ap}
 use Rattle.std.proofs.Common.{subst, ◌∙◌, append_assoc, append-nil, length-append, zero-add, add-zero, codes}
-use Rattle.std.specs.Prelude.{slice_get}
+use Rattle.std.specs.Prelude.{IsTrue, slice_get}
 use Rattle.std.specs.Option.{unwrap_or}
 use Rattle.json.specs.Token.{Token}
 use Rattle.serde_json.specs.Data.{Data, array, object, item, Items, member, no_members}
@@ -26,15 +27,15 @@ use Rattle.gob_value.specs.Machine.Begins.{BeginsThisNumber}
 use Rattle.gob_read.specs.Weight.{part_count, parts_of_all, parts_of_pairs, parts_of_fields}
 use Rattle.gob_stream.specs.Body.{MayPut}
 use Rattle.gob_stream.specs.Bounds.{Bounds}
-use Rattle.gob_filled.specs.Filled.{Filled, no_filling, SpellsFilled}
+use Rattle.gob_filled.specs.Filled.{Filled, Fillings, no_filling, SpellsFilled}
 use Rattle.gob_go.specs.Machine.WholeFilled.{IsOfKind, Filler, BeginsFilled, BeginsFilledEach, BeginsFilledPairs}
 use Rattle.gob_go.specs.Machine.WholeFilled.{BeginsFilledFields, BeginsFilledTop}
 use Rattle.gob_go.proofs.WholeFilledSteps.{element_begins, pair_begins, fields_end_here, field_begins}
 use Rattle.gob_go.proofs.WholeFilledSteps.{slice_begins, array_begins, map_begins, struct_begins, struct_top}
 use Rattle.gob_go.proofs.WholeFilledSteps.{tagged_top, spelled_as}
 use Rattle.gob_go.proofs.WholeFilledSteps.{held_begins as interface_holds}
-use Rattle.gob_json.specs.Json.{value_json, natural_json, text_json, pair_json, triple_json, no_type, opaque_json}
-use Rattle.gob_json.specs.Json.{element_type, key_type, struct_fields, field_name, field_type, id_json}
+use Rattle.gob_json.specs.Json.{value_json, text_json, pair_json, triple_json, no_type}
+use Rattle.gob_json.specs.Json.{element_type, key_type, struct_fields, field_name, field_type}
 use Rattle.gob_json_writer.specs.NilsJson.{value_json_with, elements_json_with, pairs_json_with, fields_json_with}
 use Rattle.gob_json_writer.specs.NilsJson.{interface_json, put_json_with}
 use Rattle.gob_json_writer.specs.FilledJson.{FilledShows, filled_shows, none_left, then_shown}
@@ -47,50 +48,89 @@ use Rattle.gob_filled_walk.proofs.LeadLaws.{behind_key, map_entries, behind_delt
 use Rattle.gob_filled_walk.proofs.ShiftLaws.{spliced, first_spliced, rest_spliced, first_alike, rest_alike, trans_alike}
 use Rattle.gob_filled_walk.proofs.ShiftLaws.{value_shifts, elements_shift, pairs_shift, fields_shift}
 use Rattle.gob_filled_walk.proofs.ShownLaws.{Shows, Plain, unfilled_begins, elements_begin, no_entries_begin}
+use Rattle.gob_lines.specs.Numbers.{AreWithTexts, IsBasicJson, IsNatural, IsWithTexts, as_shown, in_array, in_object}
+use Rattle.gob_lines.specs.Numbers.{integer_as_text, item_with_texts, member_with_texts, natural_as_text, of_int}
+use Rattle.gob_lines.specs.Numbers.{of_uint}
+use Rattle.gob_lines.specs.Numbers.{no_items_with_texts, no_members_with_texts, same}
 use Rattle.gob_lines.specs.Reads.{Reads}
 use Rattle.gob_go_lines.specs.Says.{Says, of_type, SaysAs, of_basic, of_opaque, of_slice, of_array, of_map, of_struct}
-use Rattle.gob_go_lines.specs.Says.{of_held, SaysTop, at_once, tagged, SaysEach, no_element, element, SaysPairs}
+use Rattle.gob_go_lines.specs.Says.{held_json, of_held, SaysTop, at_once, tagged, SaysEach, no_element, element}
+use Rattle.gob_go_lines.specs.Says.{SaysPairs}
 use Rattle.gob_go_lines.specs.Says.{no_entry, entry, SaysFields, end_of_fields, next_field, items_of}
-use Rattle.gob_go_lines.specs.Lines.{TellsFilled, put_data}
+use Rattle.gob_go_lines.specs.Lines.{HoldsNothing, TellsFilled, put_data}
 use Rattle.gob_go_lines.proofs.ShowLaws.{earlier, unfilled_shows, both_show, so_many_show, behind_count, null_behind}
 use Rattle.gob_go_lines.proofs.ShowLaws.{agrees_alone}
 
+-- ---- the JSON of equal values
+
+shown_as : {j d e : Data} → IsWithTexts j d → d ≡ e → IsWithTexts j e
+shown_as {j = j} h equal = subst (λ d. IsWithTexts j d) equal h
+
+are_shown_as : {js ks ls : Items} → AreWithTexts js ks → ks ≡ ls → AreWithTexts js ls
+are_shown_as {js = js} h equal = subst (λ k. AreWithTexts js k) equal h
+
+pair_shown : {i j d e : Data} → IsWithTexts i d → IsWithTexts j e → IsWithTexts (pair_json i j) (pair_json d e)
+pair_shown h k = in_array (item_with_texts h (item_with_texts k no_items_with_texts))
+
+triple_shown : {n i j m d e : Data} → IsWithTexts n m → IsWithTexts i d → IsWithTexts j e
+    → IsWithTexts (triple_json n i j) (triple_json m d e)
+triple_shown g h k =
+    in_array (item_with_texts g (item_with_texts h (item_with_texts k no_items_with_texts)))
+
+held_shown : {number j d : Data} (name : List ℕ) (held : TypeId) → IsNatural held.0 number → IsWithTexts j d
+    → IsWithTexts (held_json name number j) (interface_json name held d)
+held_shown name held typed h =
+    in_object (member_with_texts (in_object (member_with_texts same (member_with_texts (natural_as_text typed)
+    (member_with_texts h no_members_with_texts)))) no_members_with_texts)
+
 -- ---- what is said, part by part
-pub record PartSaid (T : Table) (u : TypeId) (limit : ℕ) (j : Data) (b : List ℕ) : Type 0 where
+
+-- it fills nothing
+abbrev HoldsNone : Filler → Type 0
+HoldsNone fill = (p : List ℕ) (fs : Fillings) → fill p fs ≡ fs
+
+pub record PartSaid (T : Table) (H : Bool) (u : TypeId) (limit : ℕ) (j : Data) (b : List ℕ) : Type 0 where
   pub begins : BeginsFilled T u limit b []
   pub nils : ℕ → Data
   pub shows : Shows T (LeadsTo T u) (part_count begins.value) begins.skeleton begins.fill nils
   pub defines : Plain begins.fill
-  pub json : j ≡ value_json_with nils T u 0 begins.value
+  pub holds : H ≡ false → HoldsNone begins.fill
+  pub json : IsWithTexts j (value_json_with nils T u 0 begins.value)
 
-pub record EachSaid (T : Table) (e : TypeId) (limit count : ℕ) (js : List Data) (b : List ℕ) : Type 0 where
+pub record EachSaid (T : Table) (H : Bool) (e : TypeId) (limit count : ℕ) (js : List Data) (b : List ℕ) : Type 0 where
   pub begins : BeginsFilledEach T e limit count b []
   pub nils : ℕ → Data
   pub shows : Shows T (LeadsToElements T e count) (parts_of_all begins.values) begins.skeleton begins.fill nils
   pub defines : Plain begins.fill
-  pub json : items_of js ≡ elements_json_with nils T e 0 begins.values
+  pub holds : H ≡ false → HoldsNone begins.fill
+  pub json : AreWithTexts (items_of js) (elements_json_with nils T e 0 begins.values)
 
-pub record EntriesSaid (T : Table) (k e : TypeId) (limit count : ℕ) (js : List Data) (b : List ℕ) : Type 0 where
+pub record EntriesSaid (T : Table) (H : Bool) (k e : TypeId) (limit count : ℕ) (js : List Data)
+    (b : List ℕ) : Type 0 where
   pub begins : BeginsFilledPairs T k e limit count b []
   pub nils : ℕ → Data
   pub shows : Shows T (LeadsToEntries T k e count) (parts_of_pairs begins.pairs) begins.skeleton begins.fill nils
   pub defines : Plain begins.fill
-  pub json : items_of js ≡ pairs_json_with nils T k e 0 begins.pairs
+  pub holds : H ≡ false → HoldsNone begins.fill
+  pub json : AreWithTexts (items_of js) (pairs_json_with nils T k e 0 begins.pairs)
 
-pub record FieldsSaid (T : Table) (types : List Field) (next limit : ℕ) (js : List Data) (b : List ℕ) : Type 0 where
+pub record FieldsSaid (T : Table) (H : Bool) (types : List Field) (next limit : ℕ) (js : List Data)
+    (b : List ℕ) : Type 0 where
   pub begins : BeginsFilledFields T types next limit b []
   pub nils : ℕ → Data
   pub shows : Shows T (LeadsToFields T types next) (parts_of_fields begins.fields) begins.skeleton begins.fill nils
   pub defines : Plain begins.fill
-  pub json : items_of js ≡ fields_json_with nils T types 0 begins.fields
+  pub holds : H ≡ false → HoldsNone begins.fill
+  pub json : AreWithTexts (items_of js) (fields_json_with nils T types 0 begins.fields)
 
-pub record TopSaid (T : Table) (t : TypeId) (limit : ℕ) (j : Data) (b : List ℕ) : Type 0 where
+pub record TopSaid (T : Table) (H : Bool) (t : TypeId) (limit : ℕ) (j : Data) (b : List ℕ) : Type 0 where
   pub begins : BeginsFilledTop T t limit b []
   pub tree : Tree
   pub nils : ℕ → Data
   pub shows : FilledShows T t begins.value tree nils
   pub defines : DefinesNothing begins.value
-  pub json : j ≡ value_json_with nils T t 0 tree
+  pub holds : H ≡ false → HoldsNothing begins.value
+  pub json : IsWithTexts j (value_json_with nils T t 0 tree)
 
 -- in front of others
 abbrev in_front : {T : Table} {u : TypeId} {limit : ℕ} {b : List ℕ} (c : List ℕ) → BeginsFilled T u limit b []
@@ -131,19 +171,27 @@ plain_within (spells.of_nil p) some = omega arith
 plain_within (spells.of_bytes p) some = omega arith
 plain_within (spells.of_text p) some = omega arith
 
-unfilled_said : {T : Table} {u : TypeId} {limit : ℕ} {v : Tree} {b : List ℕ} {j : Data} → Spells T u v b
-    → depth v ≤ limit → j ≡ value_json T u v → PartSaid T u limit j b
+unfilled_said : {T : Table} {H : Bool} {u : TypeId} {limit : ℕ} {v : Tree} {b : List ℕ} {j : Data} → Spells T u v b
+    → depth v ≤ limit → IsWithTexts j (value_json T u v) → PartSaid T H u limit j b
 unfilled_said {T = T} {u = u} {v = v} {b = b} spelled within is = record {
   begins = unfilled_begins spelled within (sym (append-nil b));
   nils = nulls;
   shows = unfilled_shows (part_count v) b;
   defines = λ p fs plain. plain;
-  json = is ∙ sym (value_nulls T u 0 v);
+  holds = λ none p fs. refl;
+  json = shown_as is (sym (value_nulls T u 0 v));
 }
 
+-- a number may stand as a text
+basic_shown : {T : Table} {k : Basic} {v : Tree} {b : List ℕ} {j : Data} (u : TypeId) → SpellsAs T (kind.Basic k) v b
+    → IsBasicJson T no_type v j → IsWithTexts j (value_json T u v)
+basic_shown u spelled as_shown = shown_as same (plain_alike u spelled)
+basic_shown u spelled (of_int h) = integer_as_text h
+basic_shown u spelled (of_uint h) = natural_as_text h
+
 -- ---- elements
-element_said : {T : Table} {e : TypeId} {limit count : ℕ} {j : Data} {js : List Data} {b c : List ℕ}
-    → PartSaid T e limit j b → EachSaid T e limit count js c → EachSaid T e limit (count + 1) (j ∷ js) (b ++ c)
+element_said : {T : Table} {H : Bool} {e : TypeId} {limit count : ℕ} {j : Data} {js : List Data} {b c : List ℕ}
+    → PartSaid T H e limit j b → EachSaid T H e limit count js c → EachSaid T H e limit (count + 1) (j ∷ js) (b ++ c)
 unfolding element_begins
 element_said {T = T} {e = e} {limit = limit} {count = count} {j = j} {js = js} {b = b} {c = c} h k =
     let v = h.begins.value in
@@ -161,23 +209,24 @@ element_said {T = T} {e = e} {limit = limit} {count = count} {j = j} {js = js} {
       shows = both_show {A = LeadsTo T e} {B = LeadsToElements T e count} {C = LeadsToElements T e (count + 1)}
           (first_element count) (other_elements h.begins.spelled) h.shows k.shows;
       defines = λ p fs plain. h.defines p _ (k.defines _ fs plain);
-      json = ap (λ i. item i (items_of js)) (h.json ∙ sym first)
-          ∙ ap (item (value_json_with N T e 0 v)) (k.json ∙ sym others);
+      holds = λ none p fs. h.holds none p _ ∙ k.holds none _ fs;
+      json = item_with_texts (shown_as h.json (sym first)) (are_shown_as k.json (sym others));
     }
 
-no_elements_said : (T : Table) (e : TypeId) (limit : ℕ) → EachSaid T e limit 0 [] []
+no_elements_said : {H : Bool} (T : Table) (e : TypeId) (limit : ℕ) → EachSaid T H e limit 0 [] []
 no_elements_said T e limit = record {
   begins = elements_begin spells.no_element (omega arith) refl refl;
   nils = nulls;
   shows = unfilled_shows 0 [];
   defines = λ p fs plain. plain;
-  json = refl;
+  holds = λ none p fs. refl;
+  json = no_items_with_texts;
 }
 
 -- ---- entries
-entry_said : {T : Table} {k e : TypeId} {limit count : ℕ} {i j : Data} {js : List Data} {a b c : List ℕ}
-    → PartSaid T k limit i a → PartSaid T e limit j b → EntriesSaid T k e limit count js c
-    → EntriesSaid T k e limit (count + 1) (pair_json i j ∷ js) (a ++ (b ++ c))
+entry_said : {T : Table} {H : Bool} {k e : TypeId} {limit count : ℕ} {i j : Data} {js : List Data} {a b c : List ℕ}
+    → PartSaid T H k limit i a → PartSaid T H e limit j b → EntriesSaid T H k e limit count js c
+    → EntriesSaid T H k e limit (count + 1) (pair_json i j ∷ js) (a ++ (b ++ c))
 unfolding pair_begins
 entry_said {T = T} {k = k} {e = e} {limit = limit} {count = count} {i = i} {j = j} {js = js} {a = a} {b = b} {c = c}
     g h o =
@@ -208,23 +257,24 @@ entry_said {T = T} {k = k} {e = e} {limit = limit} {count = count} {i = i} {j = 
           g.shows (both_show {A = LeadsTo T e} {B = LeadsToEntries T k e count} {C = Second}
           (λ t p n leads. leads.0) (λ t p n leads. leads.1) h.shows o.shows);
       defines = λ p fs plain. g.defines p _ (h.defines _ _ (o.defines _ fs plain));
-      json = ap (λ d. item (pair_json d j) (items_of js)) (g.json ∙ sym key)
-          ∙ ap (λ d. item (pair_json (value_json_with N T k 0 x) d) (items_of js)) (h.json ∙ sym value)
-          ∙ ap (item (pair_json (value_json_with N T k 0 x) (value_json_with N T e (0 + m) v))) (o.json ∙ sym others);
+      holds = λ none p fs. g.holds none p _ ∙ h.holds none _ _ ∙ o.holds none _ fs;
+      json = item_with_texts (pair_shown (shown_as g.json (sym key)) (shown_as h.json (sym value)))
+          (are_shown_as o.json (sym others));
     }
 
-no_entries_said : (T : Table) (k e : TypeId) (limit : ℕ) → EntriesSaid T k e limit 0 [] []
+no_entries_said : {H : Bool} (T : Table) (k e : TypeId) (limit : ℕ) → EntriesSaid T H k e limit 0 [] []
 no_entries_said T k e limit = record {
   begins = no_entries_begin T k e limit [];
   nils = nulls;
   shows = unfilled_shows 0 [];
   defines = λ p fs plain. plain;
-  json = refl;
+  holds = λ none p fs. refl;
+  json = no_items_with_texts;
 }
 
 -- ---- fields
-no_fields_said : (T : Table) (types : List Field) (next limit : ℕ) {b : List ℕ} → IsUnsigned 0 b
-    → FieldsSaid T types next limit [] b
+no_fields_said : {H : Bool} (T : Table) (types : List Field) (next limit : ℕ) {b : List ℕ} → IsUnsigned 0 b
+    → FieldsSaid T H types next limit [] b
 unfolding fields_end_here
 no_fields_said T types next limit {b = b} p = record {
   begins = fields_end_here types next limit 0 refl b []
@@ -232,16 +282,17 @@ no_fields_said T types next limit {b = b} p = record {
   nils = nulls;
   shows = unfilled_shows 0 b;
   defines = λ p fs plain. plain;
-  json = refl;
+  holds = λ none p fs. refl;
+  json = no_items_with_texts;
 }
 
-field_said : {T : Table} {types : List Field} {next f limit : ℕ} {e : Field} {j : Data} {js : List Data}
-    {a b c : List ℕ} → next ≤ f → slice_get types f ≡ Some e → IsUnsigned (f + 1 - next) a → PartSaid T e.id limit j b
-    → FieldsSaid T types (f + 1) limit js c
-    → FieldsSaid T types next limit (triple_json (natural_json f) (text_json e.name) j ∷ js) (a ++ (b ++ c))
+field_said : {T : Table} {H : Bool} {types : List Field} {next f limit : ℕ} {e : Field} {number j : Data}
+    {js : List Data} {a b c : List ℕ} → next ≤ f → slice_get types f ≡ Some e → IsUnsigned (f + 1 - next) a
+    → IsNatural f number → PartSaid T H e.id limit j b → FieldsSaid T H types (f + 1) limit js c
+    → FieldsSaid T H types next limit (triple_json number (text_json e.name) j ∷ js) (a ++ (b ++ c))
 unfolding field_begins
 field_said {T = T} {types = types} {next = next} {f = f} {limit = limit} {e = e} {j = j} {js = js} {a = a} {b = b}
-    {c = c} order here delta h k =
+    {c = c} order here delta typed h k =
     let v = h.begins.value in
     let ws = k.begins.fields in
     let m = part_count v in
@@ -257,7 +308,6 @@ field_said {T = T} {types = types} {next = next} {f = f} {limit = limit} {e = e}
     let others : fields_json_with N T types (0 + m) ws ≡ fields_json_with k.nils T types 0 ws =
     fields_shift T types ws N k.nils (0 + m) 0 (rest_spliced m h.nils k.nils d) in
     let Behind = LeadsBehindDelta T types e.id f h.begins.skeleton m in
-    let number = natural_json f in
     record {
       begins = field_begins types next limit (f + 1 - next) f e some is here (a ++ (b ++ c)) (b ++ c) c []
           (record { bytes = a; spelled = delta; whole = refl }) (in_front c h.begins) k.begins;
@@ -269,17 +319,15 @@ field_said {T = T} {types = types} {next = next} {f = f} {limit = limit} {e = e}
           (unfilled_shows 0 a) (both_show {A = LeadsTo T e.id} {B = LeadsToFields T types (f + 1)} {C = Behind}
           (λ t p n leads. leads.0) (λ t p n leads. leads.1) h.shows k.shows));
       defines = λ p fs plain. h.defines _ _ (k.defines _ fs plain);
-      json = ap (λ s. item (triple_json number (text_json s) j) (items_of js)) (sym here_name)
-          ∙ ap (λ i. item (triple_json number (text_json (field_name (slice_get types f))) i) (items_of js))
-          (h.json ∙ sym first)
-          ∙ ap (item (triple_json number (text_json (field_name (slice_get types f)))
-          (value_json_with N T (field_type (slice_get types f)) 0 v))) (k.json ∙ sym others);
+      holds = λ none p fs. h.holds none _ _ ∙ k.holds none _ fs;
+      json = item_with_texts (triple_shown (natural_as_text typed) (shown_as same (ap text_json (sym here_name)))
+          (shown_as h.json (sym first))) (are_shown_as k.json (sym others));
     }
 
 -- ---- values with parts
-slice_said : {T : Table} {u e : TypeId} {limit count : ℕ} {js : List Data} {c b : List ℕ}
-    → IsOfKind T u (kind.Slice e) → 0 < limit → IsUnsigned count c → EachSaid T e (limit - 1) count js b
-    → PartSaid T u limit (array (items_of js)) (c ++ b)
+slice_said : {T : Table} {H : Bool} {u e : TypeId} {limit count : ℕ} {js : List Data} {c b : List ℕ}
+    → IsOfKind T u (kind.Slice e) → 0 < limit → IsUnsigned count c → EachSaid T H e (limit - 1) count js b
+    → PartSaid T H u limit (array (items_of js)) (c ++ b)
 unfolding slice_begins
 slice_said {T = T} {u = u} {e = e} {limit = limit} {count = count} {c = c} {b = b} is some counted h =
     let vs = h.begins.values in
@@ -291,15 +339,15 @@ slice_said {T = T} {u = u} {e = e} {limit = limit} {count = count} {c = c} {b = 
       nils = spliced 1 nulls h.nils;
       shows = behind_count c (slice_elements is counted) h.shows;
       defines = λ p fs plain. h.defines _ fs plain;
-      json = ap array (h.json
-          ∙ sym (elements_shift T e vs (spliced 1 nulls h.nils) h.nils 1 0
+      holds = λ none p fs. h.holds none _ fs;
+      json = in_array (are_shown_as h.json (sym (elements_shift T e vs (spliced 1 nulls h.nils) h.nils 1 0
           (rest_spliced 1 nulls h.nils (parts_of_all vs)))
-          ∙ ap (λ t. elements_json_with (spliced 1 nulls h.nils) T t 1 vs) (sym elements));
+          ∙ ap (λ t. elements_json_with (spliced 1 nulls h.nils) T t 1 vs) (sym elements)));
     }
 
-array_said : {T : Table} {u e : TypeId} {limit count : ℕ} {js : List Data} {c b : List ℕ}
-    → IsOfKind T u (kind.Array e count) → 0 < limit → IsUnsigned count c → EachSaid T e (limit - 1) count js b
-    → PartSaid T u limit (array (items_of js)) (c ++ b)
+array_said : {T : Table} {H : Bool} {u e : TypeId} {limit count : ℕ} {js : List Data} {c b : List ℕ}
+    → IsOfKind T u (kind.Array e count) → 0 < limit → IsUnsigned count c → EachSaid T H e (limit - 1) count js b
+    → PartSaid T H u limit (array (items_of js)) (c ++ b)
 unfolding array_begins
 array_said {T = T} {u = u} {e = e} {limit = limit} {count = count} {c = c} {b = b} is some counted h =
     let vs = h.begins.values in
@@ -311,15 +359,15 @@ array_said {T = T} {u = u} {e = e} {limit = limit} {count = count} {c = c} {b = 
       nils = spliced 1 nulls h.nils;
       shows = behind_count c (array_elements is counted) h.shows;
       defines = λ p fs plain. h.defines _ fs plain;
-      json = ap array (h.json
-          ∙ sym (elements_shift T e vs (spliced 1 nulls h.nils) h.nils 1 0
+      holds = λ none p fs. h.holds none _ fs;
+      json = in_array (are_shown_as h.json (sym (elements_shift T e vs (spliced 1 nulls h.nils) h.nils 1 0
           (rest_spliced 1 nulls h.nils (parts_of_all vs)))
-          ∙ ap (λ t. elements_json_with (spliced 1 nulls h.nils) T t 1 vs) (sym elements));
+          ∙ ap (λ t. elements_json_with (spliced 1 nulls h.nils) T t 1 vs) (sym elements)));
     }
 
-map_said : {T : Table} {u k e : TypeId} {limit count : ℕ} {js : List Data} {c b : List ℕ}
-    → IsOfKind T u (kind.Map k e) → 0 < limit → IsUnsigned count c → EntriesSaid T k e (limit - 1) count js b
-    → PartSaid T u limit (array (items_of js)) (c ++ b)
+map_said : {T : Table} {H : Bool} {u k e : TypeId} {limit count : ℕ} {js : List Data} {c b : List ℕ}
+    → IsOfKind T u (kind.Map k e) → 0 < limit → IsUnsigned count c → EntriesSaid T H k e (limit - 1) count js b
+    → PartSaid T H u limit (array (items_of js)) (c ++ b)
 unfolding map_begins
 map_said {T = T} {u = u} {k = k} {e = e} {limit = limit} {count = count} {c = c} {b = b} is some counted h =
     let ps = h.begins.pairs in
@@ -334,15 +382,16 @@ map_said {T = T} {u = u} {k = k} {e = e} {limit = limit} {count = count} {c = c}
       nils = N;
       shows = behind_count c (map_entries is counted) h.shows;
       defines = λ p fs plain. h.defines _ fs plain;
-      json = ap array (h.json
-          ∙ sym (pairs_shift T k e ps N h.nils 1 0 (rest_spliced 1 nulls h.nils (parts_of_pairs ps)))
+      holds = λ none p fs. h.holds none _ fs;
+      json = in_array (are_shown_as h.json
+          (sym (pairs_shift T k e ps N h.nils 1 0 (rest_spliced 1 nulls h.nils (parts_of_pairs ps)))
           ∙ ap (λ t. pairs_json_with N T t e 1 ps) (sym keys)
-          ∙ ap (λ t. pairs_json_with N T (key_type (shape_of T u)) t 1 ps) (sym elements));
+          ∙ ap (λ t. pairs_json_with N T (key_type (shape_of T u)) t 1 ps) (sym elements)));
     }
 
-struct_said : {T : Table} {u : TypeId} {types : List Field} {limit : ℕ} {js : List Data} {b : List ℕ}
-    → IsOfKind T u (kind.Struct types) → 0 < limit → FieldsSaid T types 0 (limit - 1) js b
-    → PartSaid T u limit (array (items_of js)) b
+struct_said : {T : Table} {H : Bool} {u : TypeId} {types : List Field} {limit : ℕ} {js : List Data} {b : List ℕ}
+    → IsOfKind T u (kind.Struct types) → 0 < limit → FieldsSaid T H types 0 (limit - 1) js b
+    → PartSaid T H u limit (array (items_of js)) b
 unfolding struct_begins
 struct_said {T = T} {u = u} {types = types} {limit = limit} {b = b} is some h =
     let ws = h.begins.fields in
@@ -358,19 +407,23 @@ struct_said {T = T} {u = u} {types = types} {limit = limit} {b = b} is some h =
           (both_show {A = LeadsTo T u} {B = LeadsToFields T types 0} {C = LeadsTo T u} (λ t p n l. l)
           (struct_parts is) (unfilled_shows 1 []) h.shows);
       defines = λ p fs plain. h.defines _ fs plain;
-      json = ap array (h.json
-          ∙ sym (fields_shift T types ws N h.nils 1 0 (rest_spliced 1 nulls h.nils d))
-          ∙ ap (λ t. fields_json_with N T t 1 ws) (sym fields));
+      holds = λ none p fs. h.holds none _ fs;
+      json = in_array (are_shown_as h.json (sym (fields_shift T types ws N h.nils 1 0 (rest_spliced 1 nulls h.nils d))
+          ∙ ap (λ t. fields_json_with N T t 1 ws) (sym fields)));
     }
 
 -- ---- what an interface holds
-held_said : {T : Table} {u held : TypeId} {limit : ℕ} {a n c w : List ℕ} {j : Data} (name : List ℕ)
-    → IsOfKind T u (kind.Basic basic.Interface) → 0 < length name → IsUnsigned (length name) a → MayPut T held
-    → IsSigned (pos held.0) n → TopSaid T held limit j w → IsUnsigned (length w) c
-    → PartSaid T u (limit + 1) (interface_json name held j) (a ++ (name ++ (n ++ (c ++ w))))
+no_truth : {H : Bool} → IsTrue H → H ≡ false → ⊥
+no_truth is none = grind (arith, is, none)
+
+held_said : {T : Table} {H : Bool} {u held : TypeId} {limit : ℕ} {a n c w : List ℕ} {number j : Data}
+    (name : List ℕ) → IsOfKind T u (kind.Basic basic.Interface) → IsTrue H → 0 < length name
+    → IsUnsigned (length name) a → MayPut T held
+    → IsSigned (pos held.0) n → IsNatural held.0 number → TopSaid T H held limit j w → IsUnsigned (length w) c
+    → PartSaid T H u (limit + 1) (held_json name number j) (a ++ (name ++ (n ++ (c ++ w))))
 unfolding interface_holds
-held_said {T = T} {u = u} {held = held} {limit = limit} {a = a} {n = n} {c = c} {w = w} {j = j} name is some
-    named may typed h counted =
+held_said {T = T} {u = u} {held = held} {limit = limit} {a = a} {n = n} {c = c} {w = w} {j = j} name is
+    in_go some named may typed numbered h counted =
     let own : w ≡ h.begins.bytes = h.begins.whole ∙ append-nil h.begins.bytes in
     let spelled : AreBytes w → (base : Table) (L : Bounds) → SpellsFilled base L T held limit h.begins.value w T =
     λ o base L. subst (λ l. SpellsFilled base L T held limit h.begins.value l T) (sym own)
@@ -395,12 +448,13 @@ held_said {T = T} {u = u} {held = held} {limit = limit} {a = a} {n = n} {c = c} 
             (λ m low high. absurd (omega (arith, low, high))) more);
       };
       defines = λ p fs plain. and_defines h.defines plain;
-      json = ap (interface_json name held) h.json;
+      holds = λ none. absurd (no_truth in_go none);
+      json = held_shown name held numbered h.json;
     }
 
 -- ---- behind a tag or without one
-struct_top_said : {T : Table} {t : TypeId} {s : Shape} {limit : ℕ} {j : Data} {b : List ℕ}
-    → shape_of T t ≡ Some s → IsStruct s.kind → PartSaid T t limit j b → TopSaid T t limit j b
+struct_top_said : {T : Table} {H : Bool} {t : TypeId} {s : Shape} {limit : ℕ} {j : Data} {b : List ℕ}
+    → shape_of T t ≡ Some s → IsStruct s.kind → PartSaid T H t limit j b → TopSaid T H t limit j b
 unfolding struct_top
 struct_top_said {T = T} {t = t} {b = b} found is h =
     let v = h.begins.value in
@@ -415,11 +469,12 @@ struct_top_said {T = T} {t = t} {b = b} found is h =
           (h.shows.there t k [] [] 0 N no_filling (sym (append-nil k)) (at_struct found is) (agrees_alone c h.nils)
           (none_left (null_behind c h.nils)));
       defines = defines_nothing (h.defines [] no_filling none_defines);
-      json = h.json ∙ sym (value_shifts T t v N h.nils 0 0 (first_spliced c h.nils nulls));
+      holds = λ none. h.holds none [] no_filling;
+      json = shown_as h.json (sym (value_shifts T t v N h.nils 0 0 (first_spliced c h.nils nulls)));
     }
 
-tagged_top_said : {T : Table} {t : TypeId} {s : Shape} {limit : ℕ} {j : Data} {b : List ℕ}
-    → shape_of T t ≡ Some s → ¬ IsStruct s.kind → PartSaid T t limit j b → TopSaid T t limit j (0 ∷ b)
+tagged_top_said : {T : Table} {H : Bool} {t : TypeId} {s : Shape} {limit : ℕ} {j : Data} {b : List ℕ}
+    → shape_of T t ≡ Some s → ¬ IsStruct s.kind → PartSaid T H t limit j b → TopSaid T H t limit j (0 ∷ b)
 unfolding tagged_top
 tagged_top_said {T = T} {t = t} {b = b} found isnt h =
     let v = h.begins.value in
@@ -435,7 +490,8 @@ tagged_top_said {T = T} {t = t} {b = b} found isnt h =
           (h.shows.there t (0 ∷ k) (0 ∷ []) [] 0 N no_filling (ap (λ l. 0 ∷ l) (sym (append-nil k)))
           (at_tagged found isnt) (agrees_alone c h.nils) (none_left (null_behind c h.nils))));
       defines = defines_nothing (h.defines (0 ∷ []) no_filling none_defines);
-      json = h.json ∙ sym (value_shifts T t v N h.nils 0 0 (first_spliced c h.nils nulls));
+      holds = λ none. h.holds none (0 ∷ []) no_filling;
+      json = shown_as h.json (sym (value_shifts T t v N h.nils 0 0 (first_spliced c h.nils nulls)));
     }
 
 -- ---- all that is said
@@ -443,53 +499,57 @@ one_more : (j : Data) (js : List Data) → length js + 1 ≡ length (j ∷ js)
 one_more j js = omega arith
 
 mutual
-  part_said : {T : Table} {u : TypeId} {limit : ℕ} {j : Data} {b : List ℕ} → Says T u limit j b
-      → PartSaid T u limit j b
+  part_said : {T : Table} {H : Bool} {u : TypeId} {limit : ℕ} {j : Data} {b : List ℕ} → Says T H u limit j b
+      → PartSaid T H u limit j b
   part_said (of_type {s = s} found some h) = kind_said (s, found, refl) some h
 
-  kind_said : {T : Table} {u : TypeId} {k : Kind} {limit : ℕ} {j : Data} {b : List ℕ} → IsOfKind T u k → 0 < limit
-      → SaysAs T k limit j b → PartSaid T u limit j b
-  kind_said {u = u} is some (of_basic p o) =
-      unfilled_said (spelled_as is p) (plain_within p some) (plain_alike u p)
-  kind_said is some (of_opaque t o p) = unfilled_said (spelled_as is (spells.of_opaque p)) (omega (arith, some)) refl
+  kind_said : {T : Table} {H : Bool} {u : TypeId} {k : Kind} {limit : ℕ} {j : Data} {b : List ℕ} → IsOfKind T u k
+      → 0 < limit
+      → SaysAs T H k limit j b → PartSaid T H u limit j b
+  kind_said {u = u} is some (of_basic p o json) =
+      unfilled_said (spelled_as is p) (plain_within p some) (basic_shown u p json)
+  kind_said is some (of_opaque t o p) = unfilled_said (spelled_as is (spells.of_opaque p)) (omega (arith, some)) same
   kind_said is some (of_slice p h) = slice_said is some p (each_said h)
-  kind_said {T = T} {u = u} is some (of_array {e = e} {js = js} same p h) =
-      array_said (subst (λ n. IsOfKind T u (kind.Array e n)) (sym same) is) some p (each_said h)
+  kind_said {T = T} {u = u} is some (of_array {e = e} {js = js} long p h) =
+      array_said (subst (λ n. IsOfKind T u (kind.Array e n)) (sym long) is) some p (each_said h)
   kind_said is some (of_map p h) = map_said is some p (entries_said h)
   kind_said is some (of_struct h) = struct_said is some (fields_said h)
-  kind_said {T = T} {u = u} {limit = limit} {j = j} {b = b} is some (of_held name o more p may q h r) =
+  kind_said {T = T} {H = H} {u = u} {limit = limit} {j = j} {b = b} is some (of_held name in_go o more p may q i h r) =
       let one : limit - 1 + 1 ≡ limit = omega (arith, some) in
-      subst (λ l. PartSaid T u l j b) one (held_said name is more p may q (top_said h) r)
+      subst (λ l. PartSaid T H u l j b) one (held_said name is in_go more p may q i (top_said h) r)
 
-  pub top_said : {T : Table} {t : TypeId} {limit : ℕ} {j : Data} {b : List ℕ} → SaysTop T t limit j b
-      → TopSaid T t limit j b
+  pub top_said : {T : Table} {H : Bool} {t : TypeId} {limit : ℕ} {j : Data} {b : List ℕ} → SaysTop T H t limit j b
+      → TopSaid T H t limit j b
   top_said (at_once found is h) = struct_top_said found is (part_said h)
   top_said (tagged found isnt h) = tagged_top_said found isnt (part_said h)
 
-  each_said : {T : Table} {e : TypeId} {limit : ℕ} {js : List Data} {b : List ℕ} → SaysEach T e limit js b
-      → EachSaid T e limit (length js) js b
+  each_said : {T : Table} {H : Bool} {e : TypeId} {limit : ℕ} {js : List Data} {b : List ℕ} → SaysEach T H e limit js b
+      → EachSaid T H e limit (length js) js b
   each_said {T = T} {e = e} {limit = limit} no_element = no_elements_said T e limit
-  each_said {T = T} {e = e} {limit = limit} (element {j = j} {js = js} {b = b} {c = c} h k) =
-      subst (λ n. EachSaid T e limit n (j ∷ js) (b ++ c)) (one_more j js) (element_said (part_said h) (each_said k))
+  each_said {T = T} {H = H} {e = e} {limit = limit} (element {j = j} {js = js} {b = b} {c = c} h k) =
+      subst (λ n. EachSaid T H e limit n (j ∷ js) (b ++ c)) (one_more j js) (element_said (part_said h) (each_said k))
 
-  entries_said : {T : Table} {k e : TypeId} {limit : ℕ} {js : List Data} {b : List ℕ} → SaysPairs T k e limit js b
-      → EntriesSaid T k e limit (length js) js b
+  entries_said : {T : Table} {H : Bool} {k e : TypeId} {limit : ℕ} {js : List Data} {b : List ℕ}
+      → SaysPairs T H k e limit js b
+      → EntriesSaid T H k e limit (length js) js b
   entries_said {T = T} {k = k} {e = e} {limit = limit} no_entry = no_entries_said T k e limit
-  entries_said {T = T} {k = k} {e = e} {limit = limit} (entry {x = x} {j = j} {js = js} {a = a} {b = b} {c = c} g h o)
+  entries_said {T = T} {H = H} {k = k} {e = e} {limit = limit}
+      (entry {x = x} {j = j} {js = js} {a = a} {b = b} {c = c} g h o)
       =
-      subst (λ n. EntriesSaid T k e limit n (pair_json x j ∷ js) (a ++ (b ++ c))) (one_more (pair_json x j) js)
+      subst (λ n. EntriesSaid T H k e limit n (pair_json x j ∷ js) (a ++ (b ++ c))) (one_more (pair_json x j) js)
       (entry_said (part_said g) (part_said h) (entries_said o))
 
-  fields_said : {T : Table} {types : List Field} {next limit : ℕ} {js : List Data} {b : List ℕ}
-      → SaysFields T types next limit js b → FieldsSaid T types next limit js b
+  fields_said : {T : Table} {H : Bool} {types : List Field} {next limit : ℕ} {js : List Data} {b : List ℕ}
+      → SaysFields T H types next limit js b → FieldsSaid T H types next limit js b
   fields_said {T = T} {types = types} {next = next} {limit = limit} (end_of_fields p) =
       no_fields_said T types next limit p
-  fields_said (next_field order here p h k) = field_said order here p (part_said h) (fields_said k)
+  fields_said (next_field order here p q h k) = field_said order here p q (part_said h) (fields_said k)
 
 -- so the tokens of a value's JSON with its type are those that the value shows which the bytes spell
-pub filled_told : {T : Table} {id : TypeId} {limit : ℕ} {j : Data} {body : List ℕ} {old new : List Token}
-    → AreBytes body → SaysTop T id limit j body → Reads (put_data id j) old new → TellsFilled T id limit body old new
-filled_told {T = T} {id = id} {limit = limit} {j = j} {body = body} {old = old} {new = new} o says reads =
+pub filled_told : {T : Table} {H : Bool} {id : TypeId} {limit : ℕ} {number j : Data} {body : List ℕ}
+    {old new : List Token} → AreBytes body → IsNatural id.0 number → SaysTop T H id limit j body
+    → Reads (put_data number j) old new → TellsFilled T H id limit body old new
+filled_told {T = T} {id = id} {limit = limit} {number = of} {j = j} {body = body} o typed says reads =
     let h = top_said says in
     let own : body ≡ h.begins.bytes = h.begins.whole ∙ append-nil h.begins.bytes in
     record {
@@ -497,8 +557,12 @@ filled_told {T = T} {id = id} {limit = limit} {j = j} {body = body} {old = old} 
       spelled = λ base L. subst (λ l. SpellsFilled base L T id limit h.begins.value l T) (sym own)
           (h.begins.spelled (subst AreBytes own o) base L);
       defines = h.defines;
+      holds = h.holds;
       tree = h.tree;
       nils = h.nils;
       shows = h.shows;
-      reads = subst (λ d. Reads (put_data id d) old new) h.json reads;
+      json = put_data of j;
+      written = in_object (member_with_texts (natural_as_text typed)
+          (member_with_texts h.json no_members_with_texts));
+      reads = reads;
     }

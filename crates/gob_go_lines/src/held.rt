@@ -6,11 +6,13 @@ ghost use Rattle.gob_num.specs.Spelled.{Appends};
 ghost use Rattle.gob_num.specs.Unsigned.{AreBytes};
 ghost use Rattle.gob_types.specs.Defined.{types};
 ghost use Rattle.gob_types.specs.declared.id.TypeId.{TypeId};
-ghost use Rattle.gob_json.specs.Json.{id_json, text_json};
+ghost use Rattle.serde_json.specs.Data.{Data};
+ghost use Rattle.gob_json.specs.Json.{text_json};
 ghost use Rattle.gob_stream.specs.Body.{MayPut};
 ghost use Rattle.gob_lines.specs.Complete.{PassesIt, ReadsIt};
+ghost use Rattle.gob_lines.specs.Numbers.{IsNatural, ReadsSome};
 ghost use Rattle.gob_lines.specs.Reads.{IsWrong, Reads};
-ghost use Rattle.gob_go_lines.specs.Lines.{SpellsHeld, held_tokens};
+ghost use Rattle.gob_go_lines.specs.Lines.{ReadsHeld, SpellsHeld};
 
 use crate::put::put_bytes;
 use gob_lines::{Due, LineFault, read_text, read_uint, take_key, take_object_end};
@@ -34,19 +36,25 @@ impl Drop for Held {
     }
 }
 
-/// Takes a nil, or the brace that opens what an interface holds. True says that it was a nil.
-pub(crate) fn take_nil(alloc: Global, tokens: &mut Reader<'_>) -> Result<bool, LineFault>
+/// Takes a nil, or where interfaces may hold values the brace that opens what one holds. True says that it was a nil.
+pub(crate) fn take_nil(
+    alloc: Global,
+    holds: bool,
+    tokens: &mut Reader<'_>,
+) -> Result<bool, LineFault>
     ensures nil { IfOk result (λ nil. IsTrue nil → tokens.old ≡ token.null ∷ tokens.new) }
-    ensures held { IfOk result (λ nil. nil ≡ false → tokens.old ≡ token.begin_object ∷ tokens.new) }
+    ensures held { IfOk result (λ nil. nil ≡ false
+        → (tokens.old ≡ token.begin_object ∷ tokens.new) × IsTrue holds) }
     ensures no_nil { IfErr result (λ f. IsWrong f → (rest : List token.Token) → tokens.old ≢ token.null ∷ rest) }
-    ensures no_held { IfErr result (λ f. IsWrong f → (rest : List token.Token)
+    ensures no_held { IfErr result (λ f. IsWrong f → IsTrue holds → (rest : List token.Token)
         → tokens.old ≢ token.begin_object ∷ rest) }
 {
     let at = tokens.offset();
     match tokens.next() {
         Some(Token::Null) => Ok(true),
-        Some(Token::BeginObject) => Ok(false),
-        _ => Err(LineFault::due(alloc, at, Due::Held)),
+        Some(Token::BeginObject) if holds => Ok(false),
+        _ if holds => Err(LineFault::due(alloc, at, Due::Held)),
+        _ => Err(LineFault::due(alloc, at, Due::Nil)),
     }
 }
 
@@ -58,12 +66,12 @@ pub(crate) fn take_held(
     table: &Table,
     tokens: &mut Reader<'_>,
 ) -> Result<Held, LineFault>
-    ensures read { IfOk result (λ held. tokens.old ≡ held_tokens held.name.items held.id tokens.new) }
+    ensures read { IfOk result (λ held. ReadsHeld held.name.items held.id tokens.old tokens.new) }
     ensures named { IfOk result (λ held. 0 < length held.name.items) }
     ensures may { IfOk result (λ held. MayPut (types table.now) held.id) }
     ensures small { IfOk result (λ held. held.id.0 < 2 ^ 63) }
     ensures whole { (name : List ℕ) (id : TypeId) (rest : List token.Token) → AreBytes name → 0 < length name
-        → MayPut (types table.now) id → id.0 < 2 ^ 63 → tokens.old ≡ held_tokens name id rest
+        → MayPut (types table.now) id → id.0 < 2 ^ 63 → ReadsHeld name id tokens.old rest
         → ReadsIt {B = List ℕ × TypeId} (λ held. (held.name.items, held.id)) result tokens.new (name, id) rest }
 {
     take_key(alloc, tokens, "interface")?;
@@ -105,11 +113,11 @@ fn read_name(alloc: Global, tokens: &mut Reader<'_>) -> Result<Vec<u8>, LineFaul
 
 /// Reads the number of a type of which values may stand in interfaces.
 fn read_type(alloc: Global, table: &Table, tokens: &mut Reader<'_>) -> Result<TypeId, LineFault>
-    ensures read { IfOk result (λ id. Reads (id_json id) tokens.old tokens.new) }
+    ensures read { IfOk result (λ id. ReadsSome (IsNatural id.0) tokens.old tokens.new) }
     ensures may { IfOk result (λ id. MayPut (types table.now) id) }
     ensures small { IfOk result (λ id. id.0 < 2 ^ 63) }
-    ensures whole { (id : TypeId) (rest : List token.Token) → MayPut (types table.now) id → id.0 < 2 ^ 63
-        → Reads (id_json id) tokens.old rest → ReadsIt (λ read. read) result tokens.new id rest }
+    ensures whole { (id : TypeId) (j : Data) (rest : List token.Token) → MayPut (types table.now) id → id.0 < 2 ^ 63
+        → IsNatural id.0 j → Reads j tokens.old rest → ReadsIt (λ read. read) result tokens.new id rest }
 {
     let at = tokens.offset();
     let id = TypeId(read_uint(alloc, tokens)?);

@@ -1,4 +1,4 @@
-//! The lines of `show --go`, read back: what a line says, where interfaces hold values.
+//! The lines of `show` and `show --go`, read back: what a line says, also where interfaces hold values.
 //!
 //! ```text
 //! {"type":8,"value":{"interface":{"name":"int","type":2,"value":3}}}      a line
@@ -15,4 +15,4 @@ mod line;
 mod put;
 mod value;
 
-pub use line::{GoLine, read_go_line};
+pub use line::{Form, GoLine, read_go_line};

@@ -8,7 +8,7 @@ ghost use Rattle.gob_types.specs.declared.kind.Shape as spec;
 ghost use Rattle.gob_lines.specs.Complete.{SaysDefinition};
 ghost use Rattle.gob_go_lines.specs.Lines.{LeavesNone, ReadsDefinition, ReadsPut, SaysPut, Tells, TellsTokens};
 
-use crate::value::put_top;
+use crate::value::{Reading, put_top};
 use gob_lines::{Due, LineFault, read_shape, read_uint, take_key, take_object_end};
 use gob_types::{Shape, Table, TypeId};
 use json::{Reader, Scratch, Token};
@@ -41,23 +41,32 @@ pub enum GoLine {
     },
 }
 
-/// Reads a line that `show --go` prints, without its line feed, by these types. No part of a value is deeper than
-/// `depth`, and what an interface holds lies one deeper. What interfaces hold is of types that are ready.
+/// Which values lines may say.
+#[derive(Clone, Copy, Debug, PartialEq, Eq)]
+pub struct Form {
+    /// How deep the parts of a value may be: the value itself has depth 1, and what an interface holds lies one deeper.
+    pub depth: u64,
+    /// Whether interfaces may hold values, as in the lines of `show --go`.
+    pub holds: bool,
+}
+
+/// Reads a line that `show` prints, or `show --go` where interfaces may hold values, without its line feed, by these
+/// types. For a number a text of its digits may stand. What interfaces hold is of types that are ready.
 pub fn read_go_line(
     alloc: Global,
     table: &Table,
-    depth: u64,
+    form: Form,
     line: &str,
     scratch: &mut Scratch,
 ) -> Result<GoLine, LineFault>
-    ensures tells { IfOk result (λ said. Tells (types table.now) depth line.now said) }
-    ensures whole { (id : TypeId) (body : List ℕ) → SaysPut (types table.now) depth (json.tokens line.now) id body
-        → ReadsPut result id body }
+    ensures tells { IfOk result (λ said. Tells (types table.now) form.holds form.depth line.now said) }
+    ensures whole { (id : TypeId) (body : List ℕ)
+        → SaysPut (types table.now) form.holds form.depth (json.tokens line.now) id body → ReadsPut result id body }
     ensures definition { (id : TypeId) (s : spec.Shape) → SaysDefinition (json.tokens line.now) id s
         → ReadsDefinition result id s }
 {
     let mut tokens = Reader::new(line, scratch)?;
-    match read_whole(alloc, table, depth, &mut tokens) {
+    match read_whole(alloc, table, form, &mut tokens) {
         Err(LineFault::Wrong(wrong)) => Err(LineFault::Wrong(wrong.placed(line))),
         answer => answer,
     }
@@ -67,17 +76,17 @@ pub fn read_go_line(
 fn read_whole(
     alloc: Global,
     table: &Table,
-    depth: u64,
+    form: Form,
     tokens: &mut Reader<'_>,
 ) -> Result<GoLine, LineFault>
     ensures tells { IfOk result (λ said. (text : List ℕ)
-        → tokens.old ≡ json.tokens text → Tells (types table.now) depth text said) }
-    ensures whole { (id : TypeId) (body : List ℕ) → SaysPut (types table.now) depth tokens.old id body
+        → tokens.old ≡ json.tokens text → Tells (types table.now) form.holds form.depth text said) }
+    ensures whole { (id : TypeId) (body : List ℕ) → SaysPut (types table.now) form.holds form.depth tokens.old id body
         → ReadsPut result id body }
     ensures definition { (id : TypeId) (s : spec.Shape) → SaysDefinition tokens.old id s
         → ReadsDefinition result id s }
 {
-    let said = read_item(alloc, table, depth, tokens)?;
+    let said = read_item(alloc, table, form, tokens)?;
     if matches!(said, GoLine::Unready { .. }) {
         return Ok(said);
     }
@@ -92,11 +101,12 @@ fn read_whole(
 fn read_item(
     alloc: Global,
     table: &Table,
-    depth: u64,
+    form: Form,
     tokens: &mut Reader<'_>,
 ) -> Result<GoLine, LineFault>
-    ensures tells { IfOk result (λ said. TellsTokens (types table.now) depth tokens.old said tokens.new) }
-    ensures whole { (id : TypeId) (body : List ℕ) → SaysPut (types table.now) depth tokens.old id body
+    ensures tells { IfOk result (λ said. TellsTokens (types table.now) form.holds form.depth tokens.old said
+        tokens.new) }
+    ensures whole { (id : TypeId) (body : List ℕ) → SaysPut (types table.now) form.holds form.depth tokens.old id body
         → ReadsPut result id body × LeavesNone result tokens.new }
     ensures definition { (id : TypeId) (s : spec.Shape) → SaysDefinition tokens.old id s
         → ReadsDefinition result id s × LeavesNone result tokens.new }
@@ -120,8 +130,12 @@ fn read_item(
                 return Ok(GoLine::Unready { id });
             }
             take_key(alloc, tokens, "value")?;
+            let reading = Reading {
+                table,
+                holds: form.holds,
+            };
             let mut body = Vec::new(alloc);
-            put_top(alloc, table, id, depth, tokens, &mut body)?;
+            put_top(alloc, &reading, id, form.depth, tokens, &mut body)?;
             take_object_end(alloc, tokens)?;
             Ok(GoLine::Put { id, body })
         }

@@ -1,6 +1,6 @@
 //! What is put behind the bytes of a value: counts, and what has no parts.
 
-ghost use Rattle.std.specs.Prelude.{◌≡◌, ◌++◌, ℕ, List, IfErr, OnOk, length};
+ghost use Rattle.std.specs.Prelude.{◌≡◌, ◌++◌, ℕ, Bool, List, IfErr, OnOk, length};
 ghost use Rattle.json.specs.Token.{Token};
 ghost use Rattle.gob_num.specs.Spelled.{Appends};
 ghost use Rattle.gob_num.specs.Unsigned.{AreBytes, IsUnsigned};
@@ -13,8 +13,10 @@ ghost use Rattle.gob_value.specs.Spelling.{Spells, SpellsAs};
 ghost use Rattle.gob_value.specs.Tree.{Tree};
 ghost use Rattle.gob_value.specs.View.{view};
 ghost use Rattle.gob_value.specs.Written.{WrittenBytes};
-ghost use Rattle.gob_json.specs.Json.{no_type, opaque_json, value_json};
+ghost use Rattle.serde_json.specs.Data.{Data};
+ghost use Rattle.gob_json.specs.Json.{no_type, opaque_json};
 ghost use Rattle.gob_go.specs.Machine.WholeFilled.{IsOfKind};
+ghost use Rattle.gob_lines.specs.Numbers.{IsBasicJson};
 ghost use Rattle.gob_lines.specs.Reads.{IsWrong, Reads};
 ghost use Rattle.gob_go_lines.specs.Says.{SaysAs};
 ghost use Rattle.gob_go_lines.specs.Lines.{PutsIt, PutsSaid};
@@ -93,11 +95,11 @@ pub(crate) fn put_basic(
     out: &mut Vec<u8>,
 ) -> Result<(), LineFault>
     requires { IsOfKind (types table.now) id (kinds.Basic basic) }
-    ensures says { OnOk result ((limit : ℕ) → PutsSaid (SaysAs (types table.now) (kinds.Basic basic) limit) tokens.old
-        tokens.new out.old.items out.new.items) }
-    ensures whole { (v : Tree) (b : List ℕ) (rest : List Token) → SpellsAs (types table.now) (kinds.Basic basic) v b
-        → HoldsBytes v → Reads (value_json (types table.now) no_type v) tokens.old rest
-        → PutsIt result tokens.new rest out.old.items out.new.items b }
+    ensures says { OnOk result ((H : Bool) (limit : ℕ) → PutsSaid (SaysAs (types table.now) H (kinds.Basic basic) limit)
+        tokens.old tokens.new out.old.items out.new.items) }
+    ensures whole { (v : Tree) (j : Data) (b : List ℕ) (rest : List Token)
+        → SpellsAs (types table.now) (kinds.Basic basic) v b → HoldsBytes v → IsBasicJson (types table.now) no_type v j
+        → Reads j tokens.old rest → PutsIt result tokens.new rest out.old.items out.new.items b }
 {
     let value = read_basic(alloc, basic, tokens)?;
     put_leaf(alloc, table, id, &value, out)
@@ -128,8 +130,8 @@ pub(crate) fn put_opaque(
     tokens: &mut Reader<'_>,
     out: &mut Vec<u8>,
 ) -> Result<(), LineFault>
-    ensures says { OnOk result ((T : Known) (m : Marshal) (limit : ℕ) → PutsSaid (SaysAs T (kinds.Opaque m) limit)
-        tokens.old tokens.new out.old.items out.new.items) }
+    ensures says { OnOk result ((T : Known) (H : Bool) (m : Marshal) (limit : ℕ)
+        → PutsSaid (SaysAs T H (kinds.Opaque m) limit) tokens.old tokens.new out.old.items out.new.items) }
     ensures whole { (s c : List ℕ) (rest : List Token) → AreBytes s → IsUnsigned (length s) c
         → Reads (opaque_json s) tokens.old rest
         → PutsIt result tokens.new rest out.old.items out.new.items (c ++ s) }

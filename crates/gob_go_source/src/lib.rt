@@ -29,5 +29,5 @@ pub use declarations::{GoSource, declared_by};
 pub use fault::{Due, Fault, Wrong};
 pub use go_type::{Declaration, GoField, GoType};
 pub use lexer::{LexFault, Lexed, tokens_in};
-pub use source::{Position, SourceFault, declared_in};
+pub use source::{Position, SourceFault, declared_in, position_of};
 pub use token::{Mark, Note, Token};

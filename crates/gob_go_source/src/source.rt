@@ -89,8 +89,8 @@ fn of_token(text: &[u8], offsets: &[usize], fault: Fault) -> SourceFault {
     }
 }
 
-// The place of a byte of the text.
-fn position_of(text: &[u8], offset: usize) -> Position
+/// The place of the byte at this offset of the text, or behind the text where that is shorter.
+pub fn position_of(text: &[u8], offset: usize) -> Position
     ensures { result ≡ position_behind (take (min offset (length text.now)) text.now) }
 {
     position_behind(&text[..offset.min(text.len())])

@@ -1,5 +1,5 @@
 -- What is read where a value without parts stands: that value. Where something else is, no such value stands.
-use Rattle.std.proofs.Common.{◌≡◌, ℕ, ℤ, ◌^◌, ◌<◌, Bool, true, false, List, ◌∷◌, ◌++◌, refl, sym, ap, ◌∙◌}
+use Rattle.std.proofs.Common.{◌≡◌, ℕ, ℤ, ◌^◌, ◌<◌, Bool, true, false, List, ◌∷◌, ◌++◌, refl, sym, ap, subst, ◌∙◌}
 use Rattle.std.proofs.Common.{arith, w64, codes, Ok}
 use Rattle.std.specs.Prelude.{FitsSigned}
 use Rattle.std.specs.Str.{is_utf8}
@@ -8,16 +8,22 @@ use Rattle.std.proofs.lemmas.Int.{ints}
 use Rattle.hex.specs.Hex.{IsBytes, decode_of}
 use Rattle.hex.proofs.HexLemmas.{decode_of-encode_lower}
 use Rattle.json.specs.Token.{Token}
+use Rattle.serde_json.specs.Data.{Data}
 use Rattle.gob_num.proofs.PublicLaws.{unsigned_fits, signed_fits, pattern_fits}
 use Rattle.gob_types.specs.declared.id.TypeId.{TypeId}
+use Rattle.gob_types.specs.declared.basic.Basic.{Basic}
 use Rattle.gob_types.specs.declared.basic.Basic.TheVariants as basic
 use Rattle.gob_types.specs.declared.kind.Kind.TheVariants as kind
 use Rattle.gob_types.specs.Table.{Table}
 use Rattle.gob_value.specs.Bytes.{HoldsBytes}
-use Rattle.gob_value.specs.Spelling.{SpellsAs, of_int, of_uint, of_float, of_complex, of_bytes, of_text}
+use Rattle.gob_value.specs.Spelling.{SpellsAs, of_bool, of_float, of_complex, of_nil, of_bytes}
+use Rattle.gob_value.specs.Spelling.{of_text}
+use Rattle.gob_value.specs.Spelling as spells
 use Rattle.gob_value.specs.Tree.{Tree}
 use Rattle.gob_json.specs.Json.{value_json, natural_json, integer_json, hex_json, text_json}
 use Rattle.gob_json.specs.Json.{pattern_json, pair_json}
+use Rattle.gob_lines.specs.Numbers.{IsBasicJson, as_shown, of_int, of_uint, IsInteger, integer_number, integer_text}
+use Rattle.gob_lines.specs.Numbers.{IsNatural, ReadsSome, natural_number, natural_text}
 use Rattle.gob_lines.specs.Reads.{Reads}
 use Rattle.gob_lines.proofs.UniqueLaws.{J, behind, first, text_of, integer_token, pattern_said}
 use Rattle.gob_lines.proofs.UniqueLaws.{are_bytes, decoded, text_as}
@@ -38,6 +44,38 @@ integer_it i j old new rest f g got said =
       signed_decimal_injective i j (omega (arith, ints)) (omega (arith, ints)) (ap (λ l. text_of (first l)) e),
       ap behind e,
     )
+
+-- whichever way it stands
+pub natural_once : {m n : ℕ} {j k : Data} (old new rest : List Token) → m < 2 ^ 64 → n < 2 ^ 64 → IsNatural m j
+    → Reads j old new → IsNatural n k → Reads k old rest → (m ≡ n) × (new ≡ rest)
+natural_once {m = m} {n = n} old new rest small fits natural_number got natural_number said =
+    natural_it m n old new rest small fits got said
+natural_once {m = m} {n = n} old new rest small fits natural_text got natural_text said =
+    let h = sym got ∙ said in
+    (decimal_injective m n small fits (ap (λ l. text_of (first l)) h), ap behind h)
+natural_once old new rest small fits natural_number got natural_text said =
+    let h = ap first (sym got ∙ said) in absurd (cc)
+natural_once old new rest small fits natural_text got natural_number said =
+    let h = ap first (sym got ∙ said) in absurd (cc)
+
+pub naturals_once : {m n : ℕ} {old new rest : List Token} → m < 2 ^ 64 → n < 2 ^ 64 → ReadsSome (IsNatural m) old new
+    → ReadsSome (IsNatural n) old rest → (m ≡ n) × (new ≡ rest)
+naturals_once {old = old} {new = new} {rest = rest} small fits got said =
+    natural_once old new rest small fits got.is got.reads said.is said.reads
+
+pub integer_once : {i l : ℤ} {j k : Data} (old new rest : List Token) → FitsSigned w64 i → FitsSigned w64 l
+    → IsInteger i j → Reads j old new → IsInteger l k → Reads k old rest → (i ≡ l) × (new ≡ rest)
+integer_once {i = i} {l = l} old new rest f g integer_number got integer_number said =
+    integer_it i l old new rest f g got said
+integer_once {i = i} {l = l} old new rest f g integer_text got integer_text said =
+    let h = sym got ∙ said in (
+      signed_decimal_injective i l (omega (arith, ints)) (omega (arith, ints)) (ap (λ l. text_of (first l)) h),
+      ap behind h,
+    )
+integer_once {i = i} old new rest f g integer_number got integer_text said =
+    let h = ap first (ap (λ (l : List Token). l ++ new) (integer_token i) ∙ sym got ∙ said) in absurd (cc)
+integer_once {l = l} old new rest f g integer_text got integer_number said =
+    let h = ap first (ap (λ (m : List Token). m ++ rest) (integer_token l) ∙ sym said ∙ got) in absurd (cc)
 
 pub pattern_it : (p q : ℕ) (old new rest : List Token) → p < 2 ^ 64 → q < 2 ^ 64 → Reads (pattern_json p) old new
     → Reads (pattern_json q) old rest → (p ≡ q) × (new ≡ rest)
@@ -136,29 +174,70 @@ text_object b old new rest e said = text_object_at (is_utf8 b) b old new rest e 
 abbrev pub IsItsBasic : (v w : Tree) → (new rest : List Token) → Type 0
 IsItsBasic v w new rest = (v ≡ w) × (new ≡ rest)
 
-pub int_it : {T : Table} {v : Tree} {b : List ℕ} (t : TypeId) (i : ℤ) (old new rest : List Token) → FitsSigned w64 i
-    → Reads (integer_json i) old new → SpellsAs T (kind.Basic basic.Int) v b → Reads (value_json T t v) old rest
-    → IsItsBasic (Tree.int i) v new rest
-int_it t i old new rest f got (of_int {i = j} q) said =
-    let r = integer_it i j old new rest f (signed_fits q) got said in
+-- how a number stands
+int_json : {T : Table} {t : TypeId} {i : ℤ} {j : Data} → IsBasicJson T t (Tree.int i) j → IsInteger i j
+int_json as_shown = integer_number
+int_json (of_int h) = h
+
+uint_json : {T : Table} {t : TypeId} {n : ℕ} {j : Data} → IsBasicJson T t (Tree.uint n) j → IsNatural n j
+uint_json as_shown = natural_number
+uint_json (of_uint h) = h
+
+-- and all else
+abbrev IsNoNumber : Tree → Type 0
+IsNoNumber (Tree.int i) = ⊥
+IsNoNumber (Tree.uint n) = ⊥
+IsNoNumber _ = Unit {0}
+
+shown_json : {T : Table} {t : TypeId} {v : Tree} {j : Data} → IsNoNumber v → IsBasicJson T t v j
+    → j ≡ value_json T t v
+shown_json other as_shown = refl
+shown_json other (of_int h) = absurd other
+shown_json other (of_uint h) = absurd other
+
+no_number : {T : Table} {k : Basic} {v : Tree} {b : List ℕ} → (k ≡ basic.Int → ⊥) → (k ≡ basic.Uint → ⊥)
+    → SpellsAs T (kind.Basic k) v b → IsNoNumber v
+no_number int uint (of_bool p) = tt
+no_number int uint (spells.of_int p) = absurd (int refl)
+no_number int uint (spells.of_uint p) = absurd (uint refl)
+no_number int uint (of_float p) = tt
+no_number int uint (of_complex p q) = tt
+no_number int uint (of_nil p) = tt
+no_number int uint (of_bytes p) = tt
+no_number int uint (of_text p) = tt
+
+-- what is no number stands as `show` prints it
+pub stands_shown : {T : Table} {t : TypeId} {k : Basic} {v : Tree} {j : Data} {b : List ℕ} (old rest : List Token)
+    → (k ≡ basic.Int → ⊥) → (k ≡ basic.Uint → ⊥) → SpellsAs T (kind.Basic k) v b → IsBasicJson T t v j
+    → Reads j old rest → Reads (value_json T t v) old rest
+stands_shown old rest int uint spelled is said =
+    subst (λ (d : Data). Reads d old rest) (shown_json (no_number int uint spelled) is) said
+
+pub int_it : {T : Table} {v : Tree} {j k : Data} {b : List ℕ} (t : TypeId) (i : ℤ) (old new rest : List Token)
+    → FitsSigned w64 i → IsInteger i k → Reads k old new → SpellsAs T (kind.Basic basic.Int) v b
+    → IsBasicJson T t v j → Reads j old rest → IsItsBasic (Tree.int i) v new rest
+int_it t i old new rest f is got (spells.of_int q) stands said =
+    let r = integer_once old new rest f (signed_fits q) is got (int_json stands) said in
     (ap Tree.int r.0, r.1)
 
-pub no_int : {T : Table} {v : Tree} {b : List ℕ} (t : TypeId) (old rest : List Token)
-    → ((i : ℤ) (rest : List Token) → FitsSigned w64 i → Reads (integer_json i) old rest → ⊥)
-    → SpellsAs T (kind.Basic basic.Int) v b → Reads (value_json T t v) old rest → ⊥
-no_int t old rest none (of_int {i = j} q) said = none j rest (signed_fits q) said
+pub no_int : {T : Table} {v : Tree} {j : Data} {b : List ℕ} (t : TypeId) (old rest : List Token)
+    → ((i : ℤ) (j : Data) (rest : List Token) → FitsSigned w64 i → IsInteger i j → Reads j old rest → ⊥)
+    → SpellsAs T (kind.Basic basic.Int) v b → IsBasicJson T t v j → Reads j old rest → ⊥
+no_int {j = j} t old rest none (spells.of_int {i = i} q) stands said = none i j rest (signed_fits q)
+    (int_json stands) said
 
-pub uint_it : {T : Table} {v : Tree} {b : List ℕ} (t : TypeId) (n : ℕ) (old new rest : List Token) → n < 2 ^ 64
-    → Reads (natural_json n) old new → SpellsAs T (kind.Basic basic.Uint) v b → Reads (value_json T t v) old rest
-    → IsItsBasic (Tree.uint n) v new rest
-uint_it t n old new rest f got (of_uint {n = m} q) said =
-    let r = natural_it n m old new rest f (unsigned_fits q) got said in
+pub uint_it : {T : Table} {v : Tree} {j k : Data} {b : List ℕ} (t : TypeId) (n : ℕ) (old new rest : List Token)
+    → n < 2 ^ 64 → IsNatural n k → Reads k old new → SpellsAs T (kind.Basic basic.Uint) v b
+    → IsBasicJson T t v j → Reads j old rest → IsItsBasic (Tree.uint n) v new rest
+uint_it t n old new rest f is got (spells.of_uint q) stands said =
+    let r = natural_once old new rest f (unsigned_fits q) is got (uint_json stands) said in
     (ap Tree.uint r.0, r.1)
 
-pub no_uint : {T : Table} {v : Tree} {b : List ℕ} (t : TypeId) (old rest : List Token)
-    → ((n : ℕ) (rest : List Token) → n < 2 ^ 64 → Reads (natural_json n) old rest → ⊥)
-    → SpellsAs T (kind.Basic basic.Uint) v b → Reads (value_json T t v) old rest → ⊥
-no_uint t old rest none (of_uint {n = m} q) said = none m rest (unsigned_fits q) said
+pub no_uint : {T : Table} {v : Tree} {j : Data} {b : List ℕ} (t : TypeId) (old rest : List Token)
+    → ((n : ℕ) (j : Data) (rest : List Token) → n < 2 ^ 64 → IsNatural n j → Reads j old rest → ⊥)
+    → SpellsAs T (kind.Basic basic.Uint) v b → IsBasicJson T t v j → Reads j old rest → ⊥
+no_uint {j = j} t old rest none (spells.of_uint {n = m} q) stands said = none m j rest (unsigned_fits q)
+    (uint_json stands) said
 
 pub float_it : {T : Table} {v : Tree} {b : List ℕ} (t : TypeId) (p : ℕ) (old new rest : List Token) → p < 2 ^ 64
     → Reads (pattern_json p) old new → SpellsAs T (kind.Basic basic.Float) v b → Reads (value_json T t v) old rest

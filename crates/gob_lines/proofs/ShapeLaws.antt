@@ -14,41 +14,44 @@ use Rattle.gob_types.specs.Ready.{HasFieldOf, Names}
 use Rattle.gob_value.specs.Bytes.{AllHoldBytes, FieldsHoldBytes, HoldsBytes}
 use Rattle.gob_value.specs.Described.{described, described_kind, field_list, field_types, name_and_id}
 use Rattle.gob_value.specs.Tree.{Tree}
-use Rattle.gob_json.specs.Json.{natural_json, text_json}
-use Rattle.gob_json.specs.DefinitionJson.{name_member, shape_members}
 use Rattle.gob_lines.specs.Complete.{AreFieldTypesReadable, IsKindReadable, SaysDefinition}
-use Rattle.gob_lines.specs.Reads.{Reads, ReadsMembers}
-use Rattle.gob_lines.proofs.KindLaws.{JM}
-use Rattle.gob_lines.proofs.PartLaws.{natural_it}
+use Rattle.gob_lines.specs.Definition.{IsDefinitionJson, ReadsShape}
+use Rattle.gob_lines.specs.Numbers.{IsNatural, ReadsSome}
+use Rattle.gob_lines.specs.DefinitionLaws.{IsDescribed}
+use Rattle.gob_lines.proofs.DefinitionLaws.{JM, shape_said}
+use Rattle.gob_lines.proofs.PartLaws.{natural_once}
 use Rattle.gob_lines.proofs.PutLaws.{numbered}
 use Rattle.gob_lines.proofs.UniqueLaws.{J, behind}
 
 -- the id that was read is the one that is defined, and the members of its shape stand behind it
 pub record ShapeStands (n : ℕ) (id : TypeId) (s : Shape) (ts : List Token) : Type 0 where
   pub same : numbered n ≡ id
-  pub stand : ReadsMembers (shape_members s.kind s.name) ts []
+  pub stand : ReadsShape s ts []
 
 pub define_front : {id : TypeId} {s : Shape} {ts m0 m1 m2 : List Token} (n : ℕ) → SaysDefinition ts id s
     → ts ≡ Token.begin_object ∷ m0 → m0 ≡ Token.key (codes "define") ∷ m1 → n < 2 ^ 64
-    → Reads (natural_json n) m1 m2 → ShapeStands n id s m2
-define_front {id = id} {s = s} {m1 = m1} {m2 = m2} n says object named small got =
-    let r = natural_it n id.0 m1 m2 (JM (shape_members s.kind s.name) ++ []) small says.number got
-    (ap behind (sym named ∙ ap behind (sym object ∙ says.said))) in
-    record { same = ap numbered r.0; stand = r.1 }
+    → ReadsSome (IsNatural n) m1 m2 → ShapeStands n id s m2
+define_front {m1 = m1} {m2 = m2} n says object named small got =
+    let said = says.said in
+    let front = said.reads ∙ ap (λ d. J d ++ []) said.is.is in
+    let r = natural_once m1 m2 (JM said.is.members ++ []) small says.number got.is got.reads said.is.numbered
+    (ap behind (sym named ∙ ap behind (sym object ∙ front))
+    ∙ append_assoc (J said.is.number) (JM said.is.members) []) in
+    record {
+      same = ap numbered r.0;
+      stand = record { members = said.is.members; says = said.is.says; reads = r.1 };
+    }
 
--- the name stands behind the kind, and the end of the object behind the name
-pub name_stands : (name : List ℕ) (m n rest : List Token) → m ≡ JM (name_member name) ++ rest
-    → m ≡ Token.key (codes "name") ∷ n → Reads (text_json name) n (Token.end_object ∷ rest)
-name_stands name m n rest said key =
-    ap behind (sym key ∙ said) ∙ append_assoc (J (text_json name)) (Token.end_object ∷ []) rest
-
-abbrev pub shaped : List ℕ → Kind → Shape
-shaped name k = record { name = name; kind = k }
-
-pub shape_is : (s : Shape) {k : Kind} {name : List ℕ} → k ≡ s.kind → name ≡ s.name
-    → shaped name k ≡ s
-shape_is s {name = name} kind named =
-    ap (shaped name) kind ∙ ap (λ (n : List ℕ). shaped n s.kind) named
+pub define_told : {id : TypeId} {s : Shape} {old m0 m1 m2 new : List Token} → old ≡ Token.begin_object ∷ m0
+    → m0 ≡ Token.key (codes "define") ∷ m1 → ReadsSome (IsNatural id.0) m1 m2 → ReadsShape s m2 new
+    → ReadsSome (IsDefinitionJson id s) old new
+define_told {new = new} object named n r = record {
+  json = _;
+  is = record { number = n.json; members = r.members; numbered = n.is; says = r.says; is = refl };
+  reads = object ∙ ap (λ (l : List Token). Token.begin_object ∷ l)
+      (named ∙ ap (λ (l : List Token). Token.key (codes "define") ∷ l)
+      (n.reads ∙ ap (λ (l : List Token). J n.json ++ l) r.reads ∙ sym (append_assoc (J n.json) (JM r.members) new)));
+}
 
 -- ---- of a shape whose description consists of bytes the line can be read
 
@@ -97,3 +100,24 @@ pub shape_readable : (id : TypeId) (s : Shape) → IsDefinable s → HoldsBytes 
 shape_readable id s d h =
     let r = kind_readable s.kind (Tree.fields (name_and_id s.name id)) d.length d.references h in
     (r.0, name_bytes s.name id r.1)
+
+-- ---- the tokens tell the type and its shape
+
+pub definition_once : {i j : TypeId} {s t : Shape} {all : List Token} (x y : List Token) → IsDescribed i s
+    → IsDescribed j t → ReadsSome (IsDefinitionJson i s) all x → ReadsSome (IsDefinitionJson j t) all y
+    → (i ≡ j) × (s ≡ t) × (x ≡ y)
+definition_once {i = i} {j = j} {s = s} {t = t} x y p q said other =
+    let ms = said.is.members in
+    let ns = other.is.members in
+    let front = J said.is.number in
+    let one = said.reads ∙ ap (λ d. J d ++ x) said.is.is in
+    let two = other.reads ∙ ap (λ d. J d ++ y) other.is.is in
+    let id = natural_once (front ++ (JM ms ++ x)) (JM ms ++ x) (JM ns ++ y) p.small q.small said.is.numbered refl
+    other.is.numbered (sym (append_assoc front (JM ms) x) ∙ ap behind (ap behind (sym one ∙ two))
+    ∙ append_assoc (J other.is.number) (JM ns) y) in
+    let a = shape_readable i s p.definable p.bytes in
+    let b = shape_readable j t q.definable q.bytes in
+    let shape = shape_said {s = s} {t = t} {old = JM ms ++ x} {x = x} {y = y} a.0 a.1 b.0 b.1
+    (record { members = ms; says = said.is.says; reads = refl })
+    (record { members = ns; says = other.is.says; reads = id.1 }) in
+    (ap numbered id.0, shape.0, shape.1)

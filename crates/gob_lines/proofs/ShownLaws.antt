@@ -37,10 +37,14 @@ use Rattle.gob_value.specs.Spelling.{SpellsEach, no_element, element, SpellsPair
 use Rattle.gob_value.specs.Spelling.{end_of_fields, next_field}
 use Rattle.gob_value.specs.Tree.{Tree, Trees, Pairs, Fields}
 use Rattle.gob_json.specs.Json.{value_json, elements_json, pairs_json, fields_json, put_json, integer_json}
-use Rattle.gob_json.specs.Json.{field_name, field_type}
+use Rattle.gob_json.specs.Json.{field_name, field_type, id_json}
 use Rattle.gob_json.specs.DefinitionJson.{definition_json, field_types_json, shape_members}
 use Rattle.gob_lines.specs.Laws.{FewFields, HaveFewFields}
+use Rattle.gob_lines.specs.Definition.{AreFieldsJson, IsDefinitionJson, Part, SaysParts, fields_array, no_field}
+use Rattle.gob_lines.specs.Definition.{no_more, no_part, one_field, one_more, shape_parts}
+use Rattle.gob_lines.specs.Numbers.{ReadsSome, natural_number}
 use Rattle.gob_lines.specs.Reads.{Reads}
+use Rattle.gob_lines.specs.declared.definition_parts.KindName.TheVariants as named
 use Rattle.gob_lines.proofs.UniqueLaws.{kind_json, of_kind, text_as, number_small}
 
 -- ---- a line feed behind the text of tokens
@@ -244,10 +248,43 @@ member_numbers (kind.Map k e) name length names =
     )
 member_numbers (kind.Opaque m) name length names = (tt, (text_numbers (is_utf8 name) name, tt))
 
+-- the members that are shown say the shape
+fields_shown : (fs : List Field) → AreFieldsJson fs (field_types_json fs)
+fields_shown [] = no_field
+fields_shown (f ∷ fs) = one_field natural_number (fields_shown fs)
+
+members_shown : (k : Kind) (name : List ℕ) → SaysParts no_part (shape_members k name) (shape_parts k name)
+members_shown (kind.Basic b) name = no_more
+members_shown (kind.Array e n) name =
+    one_more (Part.elem e) refl natural_number
+    (one_more (Part.kind_name named.Array) refl refl
+    (one_more (Part.len n) refl natural_number (one_more (Part.name name) refl refl no_more)))
+members_shown (kind.Slice e) name =
+    one_more (Part.elem e) refl natural_number
+    (one_more (Part.kind_name named.Slice) refl refl (one_more (Part.name name) refl refl no_more))
+members_shown (kind.Struct fs) name =
+    one_more (Part.fields fs) refl (fields_array (fields_shown fs))
+    (one_more (Part.kind_name named.Struct) refl refl (one_more (Part.name name) refl refl no_more))
+members_shown (kind.Map k e) name =
+    one_more (Part.elem e) refl natural_number
+    (one_more (Part.key k) refl natural_number
+    (one_more (Part.kind_name named.Map) refl refl (one_more (Part.name name) refl refl no_more)))
+members_shown (kind.Opaque m) name =
+    one_more (Part.kind_name (named.Opaque m)) refl refl (one_more (Part.name name) refl refl no_more)
+
 -- the line that shows a definition says its shape
 pub shape_shown : (id : TypeId) (s : Shape) → IsDefinable s → id.0 < 2 ^ 64
-    → Reads (definition_json id (Some s)) (tokens (compact_text (definition_json id (Some s)) ++ lf)) []
-shape_shown id s d small =
-    line_tokens (definition_json id (Some s))
-    (IsNumber-decimal id.0 small, member_numbers s.kind s.name d.length d.references)
-    ∙ sym (append-nil (json_tokens (outline (definition_json id (Some s)))))
+    → ReadsSome (IsDefinitionJson id s) (tokens (compact_text (definition_json id (Some s)) ++ lf)) []
+shape_shown id s d small = record {
+  json = definition_json id (Some s);
+  is = record {
+    number = id_json id;
+    members = shape_members s.kind s.name;
+    numbered = natural_number;
+    says = members_shown s.kind s.name;
+    is = refl;
+  };
+  reads = line_tokens (definition_json id (Some s))
+      (IsNumber-decimal id.0 small, member_numbers s.kind s.name d.length d.references)
+      ∙ sym (append-nil (json_tokens (outline (definition_json id (Some s)))));
+}

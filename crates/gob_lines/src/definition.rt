@@ -1,152 +1,160 @@
 //! The shape of a definition, read from the tokens of its line.
 
-ghost use Rattle.std.specs.Prelude.{◌≡◌, ◌∷◌, ◌++◌, ℕ, List, IfOk, OnOk, Some, codes, decimal};
+ghost use Rattle.std.specs.Prelude.{◌≡◌, ◌≢◌, ◌∷◌, ℕ, List, IfErr, IfOk, MatchOption, OnOk};
 ghost use Rattle.json.specs.Token as token;
-ghost use Rattle.serde_json.specs.Data.{array, string};
 ghost use Rattle.gob_num.specs.Unsigned.{AreBytes};
 ghost use Rattle.gob_types.specs.Definable.{IsDefinable};
-ghost use Rattle.gob_types.specs.KindParts.{elem_named};
 ghost use Rattle.gob_types.specs.declared.kind.Field.{Field as FieldSpec};
-ghost use Rattle.gob_types.specs.declared.kind.Kind.{Kind as KindSpec};
-ghost use Rattle.gob_types.specs.declared.kind.Marshal.{Marshal as MarshalSpec};
 ghost use Rattle.gob_types.specs.declared.kind.Shape.{Shape as ShapeSpec};
-ghost use Rattle.gob_json.specs.DefinitionJson.{field_types_json, marshal_name, name_member, shape_members};
-ghost use Rattle.gob_lines.specs.Complete.{AreFieldTypesReadable, IsKindReadable, PassesIt, ReadsIt, name_tokens};
-ghost use Rattle.gob_lines.specs.Reads.{Reads, ReadsMembers};
+ghost use Rattle.gob_lines.specs.Complete.{AreFieldTypesReadable, ArePartsReadable, FillsIt, IsKindReadable};
+ghost use Rattle.gob_lines.specs.Complete.{IsPartReadable, ReadsIt};
+ghost use Rattle.gob_lines.specs.Definition.{IsFieldsJson, IsMemberOrEnd, IsNewPart, IsPartJson, Part, ReadsPart};
+ghost use Rattle.gob_lines.specs.Definition.{ReadsParts, ReadsShape, kind_word, part_key, shape_parts, with_part};
+ghost use Rattle.gob_lines.specs.Numbers.{ReadsSome};
+ghost use Rattle.gob_lines.specs.declared.definition_parts.KindName.{KindName as KindNameSpec};
+ghost use Rattle.gob_lines.specs.declared.definition_parts.Parts.{Parts as PartsSpec};
 
+use crate::definition_parts::{KindName, Parts};
 use crate::fault::{Due, LineFault};
-use crate::leaf::{read_text, read_uint, take_array, take_array_end, take_key, take_object_end};
+use crate::leaf::{read_text, read_uint, take_array, take_array_end};
 use gob_num::Memory;
-use gob_types::{Field, Fields, Kind, Marshal, Name, Shape, TypeId};
+use gob_types::{Field, Fields, Marshal, Name, Shape, TypeId};
 use json::{Reader, Token};
 use std::alloc::Global;
 
-/// Reads the members behind the id, up to the end of the object: a shape that a description can give.
+/// Reads the members behind the id, in any order, up to the end of the object: a shape that a description can give.
 pub fn read_shape(alloc: Global, tokens: &mut Reader<'_>) -> Result<Shape, LineFault>
-    ensures read { IfOk result (λ s. ReadsMembers (shape_members s.kind s.name) tokens.old tokens.new) }
+    ensures read { IfOk result (λ s. ReadsShape s tokens.old tokens.new) }
     ensures definable { IfOk result IsDefinable }
     ensures whole { (s : ShapeSpec) (rest : List token.Token) → IsDefinable s → IsKindReadable s.kind → AreBytes s.name
-        → ReadsMembers (shape_members s.kind s.name) tokens.old rest → ReadsIt (λ x. x) result tokens.new s rest }
+        → ReadsShape s tokens.old rest → ReadsIt (λ x. x) result tokens.new s rest }
 {
     let at = tokens.offset();
-    let shape = read_members(alloc, tokens)?;
+    let mut parts = Parts::new();
+    let shape = read_told(alloc, tokens, &mut parts)?;
     if !shape.definable() {
         return Err(LineFault::due(alloc, at, Due::Definable));
     }
     Ok(shape)
 }
 
-/// Reads the kind and the name.
-fn read_members(alloc: Global, tokens: &mut Reader<'_>) -> Result<Shape, LineFault>
-    ensures read { IfOk result (λ s. ReadsMembers (shape_members s.kind s.name) tokens.old tokens.new) }
+/// Reads the members behind these parts, and makes the shape of all.
+fn read_told(alloc: Global, tokens: &mut Reader<'_>, parts: &mut Parts) -> Result<Shape, LineFault>
+    ensures read { IfOk result (λ s. ReadsParts parts.old (shape_parts s.kind s.name) tokens.old tokens.new) }
     ensures whole { (s : ShapeSpec) (rest : List token.Token) → IsKindReadable s.kind → AreBytes s.name
-        → ReadsMembers (shape_members s.kind s.name) tokens.old rest → ReadsIt (λ x. x) result tokens.new s rest }
+        → ReadsParts parts.old (shape_parts s.kind s.name) tokens.old rest
+        → ReadsIt (λ x. x) result tokens.new s rest }
 {
-    let kind = read_kind(alloc, tokens)?;
-    take_key(alloc, tokens, "name")?;
-    let name = read_text(alloc, tokens)?;
-    take_object_end(alloc, tokens)?;
-    Ok(Shape {
-        name: Name::new(name),
-        kind,
-    })
-}
-
-/// Reads the members that tell the kind.
-fn read_kind(alloc: Global, tokens: &mut Reader<'_>) -> Result<Kind, LineFault>
-    ensures read { IfOk result (λ k. (name : List ℕ) (rest : List token.Token)
-        → ReadsMembers (name_member name) tokens.new rest → ReadsMembers (shape_members k name) tokens.old rest) }
-    ensures whole { (k : KindSpec) (name : List ℕ) (rest : List token.Token) → IsKindReadable k
-        → ReadsMembers (shape_members k name) tokens.old rest
-        → ReadsIt (λ x. x) result tokens.new k (name_tokens name ++ rest) }
-{
-    let at = tokens.offset();
-    match tokens.next() {
-        Some(Token::Key("elem")) => {
-            let elem = TypeId(read_uint(alloc, tokens)?);
-            read_list_kind(alloc, elem, tokens)
-        }
-        Some(Token::Key("fields")) => {
-            let fields = read_field_types(alloc, tokens)?;
-            take_kind(alloc, tokens, "struct")?;
-            Ok(Kind::Struct {
-                fields: Fields::new(fields),
-            })
-        }
-        Some(Token::Key("kind")) => Ok(Kind::Opaque(read_marshal(alloc, tokens)?)),
-        _ => Err(LineFault::due(alloc, at, Due::Key("kind"))),
+    let end = read_members(alloc, tokens, parts)?;
+    let kind = parts.take_kind(alloc, end)?;
+    match parts.name.take() {
+        Some(name) => Ok(Shape { name, kind }),
+        None => Err(LineFault::due(alloc, end, Due::Key("name"))),
     }
 }
 
-/// Reads what tells an array, a slice and a map apart, behind the type of the elements.
-fn read_list_kind(alloc: Global, elem: TypeId, tokens: &mut Reader<'_>) -> Result<Kind, LineFault>
-    ensures read { IfOk result (λ k. (name : List ℕ) (rest : List token.Token)
-        → ReadsMembers (name_member name) tokens.new rest
-        → ReadsMembers (shape_members k name)
-        (token.key (codes "elem") ∷ token.number (decimal elem.0) ∷ tokens.old) rest) }
-    ensures whole { (k : KindSpec) (name : List ℕ) (rest : List token.Token) → IsKindReadable k
-        → elem_named k ≡ Some elem → ReadsMembers (shape_members k name)
-        (token.key (codes "elem") ∷ token.number (decimal elem.0) ∷ tokens.old) rest
-        → ReadsIt (λ x. x) result tokens.new k (name_tokens name ++ rest) }
+/// Reads members up to the end of the object, and answers the offset of that.
+fn read_members(
+    alloc: Global,
+    tokens: &mut Reader<'_>,
+    parts: &mut Parts,
+) -> Result<usize, LineFault>
+    ensures read { OnOk result (ReadsParts parts.old parts.new tokens.old tokens.new) }
+    ensures whole { (all : PartsSpec) (rest : List token.Token) → ArePartsReadable all
+        → ReadsParts parts.old all tokens.old rest → FillsIt result parts.new all tokens.new rest }
 {
-    let at = tokens.offset();
-    match tokens.next() {
-        Some(Token::Key("key")) => {
-            let key = TypeId(read_uint(alloc, tokens)?);
-            take_kind(alloc, tokens, "map")?;
-            Ok(Kind::Map { key, elem })
+    'members: loop {
+        let at = tokens.offset();
+        match take_next_key(alloc, tokens)? {
+            Some(key) => read_member(alloc, at, key, tokens, parts)?,
+            None => return Ok(at),
         }
-        Some(Token::Key("kind")) => {
-            let at = tokens.offset();
-            match tokens.next() {
-                Some(Token::String("slice")) => Ok(Kind::Slice { elem }),
-                Some(Token::String("array")) => {
-                    take_key(alloc, tokens, "len")?;
-                    let len = read_uint(alloc, tokens)?;
-                    Ok(Kind::Array { elem, len })
-                }
-                _ => Err(LineFault::due(alloc, at, Due::Kind)),
-            }
-        }
-        _ => Err(LineFault::due(alloc, at, Due::Key("kind"))),
     }
 }
 
-/// Takes the member that tells this kind.
-fn take_kind(alloc: Global, tokens: &mut Reader<'_>, kind: &str) -> Result<(), LineFault>
-    ensures read { OnOk result (tokens.old ≡ token.key (codes "kind") ∷ token.string kind.now ∷ tokens.new) }
-    ensures whole { (rest : List token.Token) → tokens.old ≡ token.key (codes "kind") ∷ token.string kind.now ∷ rest
-        → PassesIt result tokens.new rest }
+/// Takes the key of the next member. None: the object ends.
+fn take_next_key<'t>(alloc: Global, tokens: &mut Reader<'t>) -> Result<Option<&'t str>, LineFault>
+    ensures ok { IfOk result (λ found. MatchOption found (tokens.old ≡ token.end_object ∷ tokens.new)
+        (λ key. tokens.old ≡ token.key key.now ∷ tokens.new)) }
+    ensures none { IfErr result (λ f. IsMemberOrEnd tokens.old → ⊥) }
 {
-    take_key(alloc, tokens, "kind")?;
     let at = tokens.offset();
     match tokens.next() {
-        Some(Token::String(found)) if found == kind => Ok(()),
-        _ => Err(LineFault::due(alloc, at, Due::Kind)),
+        Some(Token::Key(key)) => Ok(Some(key)),
+        Some(Token::EndObject) => Ok(None),
+        _ => Err(LineFault::due(alloc, at, Due::Part)),
     }
 }
 
-/// Reads the way in which an opaque type marshals itself.
-fn read_marshal(alloc: Global, tokens: &mut Reader<'_>) -> Result<Marshal, LineFault>
-    ensures read { IfOk result (λ m. tokens.old ≡ token.string (marshal_name m) ∷ tokens.new) }
-    ensures whole { (m : MarshalSpec) (rest : List token.Token) → tokens.old ≡ token.string (marshal_name m) ∷ rest
-        → ReadsIt (λ x. x) result tokens.new m rest }
+/// Reads the member of this key, which stands at this offset.
+fn read_member(
+    alloc: Global,
+    at: usize,
+    key: &str,
+    tokens: &mut Reader<'_>,
+    parts: &mut Parts,
+) -> Result<(), LineFault>
+    ensures read { OnOk result (ReadsPart parts.old key.now parts.new tokens.old tokens.new) }
+    ensures whole { (part : Part) (rest : List token.Token) → IsPartReadable part → part_key part ≡ key.now
+        → IsNewPart part parts.old → ReadsSome (IsPartJson part) tokens.old rest
+        → FillsIt result parts.new (with_part part parts.old) tokens.new rest }
+{
+    if parts.has(key) {
+        return Err(LineFault::due(alloc, at, Due::NewPart));
+    }
+    match key {
+        "elem" => {
+            parts.elem = Some(TypeId(read_uint(alloc, tokens)?));
+            Ok(())
+        }
+        "fields" => {
+            parts.fields = Some(Fields::new(read_field_types(alloc, tokens)?));
+            Ok(())
+        }
+        "key" => {
+            parts.key = Some(TypeId(read_uint(alloc, tokens)?));
+            Ok(())
+        }
+        "kind" => {
+            parts.kind = Some(read_kind_name(alloc, tokens)?);
+            Ok(())
+        }
+        "len" => {
+            parts.len = Some(read_uint(alloc, tokens)?);
+            Ok(())
+        }
+        "name" => {
+            parts.name = Some(Name::new(read_text(alloc, tokens)?));
+            Ok(())
+        }
+        _ => Err(LineFault::due(alloc, at, Due::Part)),
+    }
+}
+
+/// Reads the word of a kind.
+fn read_kind_name(alloc: Global, tokens: &mut Reader<'_>) -> Result<KindName, LineFault>
+    ensures read { IfOk result (λ w. tokens.old ≡ token.string (kind_word w) ∷ tokens.new) }
+    ensures none { IfErr result (λ f. (w : KindNameSpec) (rest : List token.Token)
+        → tokens.old ≢ token.string (kind_word w) ∷ rest) }
 {
     let at = tokens.offset();
     match tokens.next() {
-        Some(Token::String("gob")) => Ok(Marshal::Gob),
-        Some(Token::String("binary")) => Ok(Marshal::Binary),
-        Some(Token::String("text")) => Ok(Marshal::Text),
+        Some(Token::String("array")) => Ok(KindName::Array),
+        Some(Token::String("slice")) => Ok(KindName::Slice),
+        Some(Token::String("struct")) => Ok(KindName::Struct),
+        Some(Token::String("map")) => Ok(KindName::Map),
+        Some(Token::String("gob")) => Ok(KindName::Opaque(Marshal::Gob)),
+        Some(Token::String("binary")) => Ok(KindName::Opaque(Marshal::Binary)),
+        Some(Token::String("text")) => Ok(KindName::Opaque(Marshal::Text)),
         _ => Err(LineFault::due(alloc, at, Due::Kind)),
     }
 }
 
 /// Reads an array of the fields, each its name and its type.
 fn read_field_types(alloc: Global, tokens: &mut Reader<'_>) -> Result<Vec<Field>, LineFault>
-    ensures read { IfOk result (λ fs. Reads (array (field_types_json fs.items)) tokens.old tokens.new) }
+    ensures read { IfOk result (λ fs. ReadsSome (IsFieldsJson fs.items) tokens.old tokens.new) }
     ensures whole { (fs : List FieldSpec) (rest : List token.Token) → AreFieldTypesReadable fs
-        → Reads (array (field_types_json fs)) tokens.old rest
-        → ReadsIt (λ read. read.items) result tokens.new fs rest }
+        → ReadsSome (IsFieldsJson fs) tokens.old rest → ReadsIt (λ read. read.items) result tokens.new fs rest }
 {
     take_array(alloc, tokens)?;
     let mut fields = Vec::new(alloc);

@@ -20,6 +20,12 @@ pub enum Due {
     Key(&'static str),
     /// One of the kinds of types.
     Kind,
+    /// A member of a definition, or the end of its object.
+    Part,
+    /// A member of a definition, of another key than those before.
+    NewPart,
+    /// A definition without a member of this key, which types of its kind haven't.
+    Without(&'static str),
     /// The array of a value's parts, or of a pair's or a field's.
     Array,
     /// So many elements of an array.
@@ -92,6 +98,7 @@ impl fmt::Display for Due {
     fn fmt<W: fmt::Write>(&self, f: &mut fmt::Formatter<W>) -> fmt::Result {
         match self {
             Due::Key(key) => write!(f, "the key \"{key}\""),
+            Due::Without(key) => write!(f, "a definition of its kind without the key \"{key}\""),
             Due::Elements(1) => f.write_str("an array of 1 element"),
             Due::Elements(count) => write!(f, "an array of {count} elements"),
             Due::AtMost(most) => write!(f, "an array of {most} elements at most"),
@@ -107,6 +114,9 @@ impl Due {
             Due::Text => "UTF-8",
             Due::Head => "{\"define\": or {\"type\":",
             Due::Kind => "a kind: array, slice, struct, map, gob, binary or text",
+            Due::Part => "elem, fields, key, kind, len, name or the end of the object",
+            Due::NewPart => "another key",
+            Due::Without(_) => "a definition of its kind",
             Due::Array | Due::Elements(_) => "an array",
             Due::ArrayEnd => "the end of the array",
             Due::ObjectEnd => "the end of the object",

@@ -8,7 +8,7 @@ ghost use Rattle.std.specs.Int.{to_be_bytes, w64};
 ghost use Rattle.std.specs.Prelude as truth;
 ghost use Rattle.std.specs.Fmt.{signed_decimal};
 ghost use Rattle.json.specs.Token as token;
-ghost use Rattle.serde_json.specs.Data.{null, boolean};
+ghost use Rattle.serde_json.specs.Data.{Data, null, boolean};
 ghost use Rattle.gob_types.specs.declared.id.TypeId.{TypeId};
 ghost use Rattle.gob_types.specs.Table.{Table};
 ghost use Rattle.gob_types.specs.declared.kind.Kind.TheVariants as kind;
@@ -17,8 +17,9 @@ ghost use Rattle.gob_value.specs.Spelling.{SpellsAs};
 ghost use Rattle.gob_value.specs.Tree.{Tree};
 ghost use Rattle.gob_value.specs.View.{view};
 ghost use Rattle.gob_json.specs.Json.{hex_json, text_json, opaque_json, pattern_json, pair_json};
-ghost use Rattle.gob_json.specs.Json.{natural_json, integer_json, value_json};
+ghost use Rattle.gob_json.specs.Json.{value_json};
 ghost use Rattle.gob_lines.specs.Complete.{ReadsIt};
+ghost use Rattle.gob_lines.specs.Numbers.{IsBasicJson, IsInteger, IsNatural, ReadsSome};
 ghost use Rattle.gob_lines.specs.Reads.{Reads, IsWrong};
 
 use crate::fault::{Due, LineFault};
@@ -123,36 +124,58 @@ pub fn uint_of(text: &str) -> Option<u64>
     Some(number)
 }
 
-/// Reads a signed number.
+/// Reads a signed number, or a text of its digits.
 pub(crate) fn read_int(alloc: Global, tokens: &mut Reader<'_>) -> Result<i64, LineFault>
-    ensures ok { IfOk result (λ i. Reads (integer_json i) tokens.old tokens.new) }
-    ensures none { IfErr result (λ f. IsWrong f → (i : ℤ) (rest : List token.Token)
-        → FitsSigned w64 i → Reads (integer_json i) tokens.old rest → ⊥) }
+    ensures ok { IfOk result (λ i. ReadsSome (IsInteger i) tokens.old tokens.new) }
+    ensures none { IfErr result (λ f. IsWrong f → (i : ℤ) (j : Data) (rest : List token.Token)
+        → FitsSigned w64 i → IsInteger i j → Reads j tokens.old rest → ⊥) }
     ensures fits { IfOk result (λ i. FitsSigned w64 i) }
 {
     let at = tokens.offset();
-    if let Some(Token::Number(text)) = tokens.next() {
-        if let Some(number) = int_of(text) {
-            return Ok(number);
-        }
+    match tokens.next() {
+        Some(Token::Number(digits)) => int_in(alloc, digits, at),
+        Some(Token::String(digits)) => int_in(alloc, digits, at),
+        _ => Err(LineFault::due(alloc, at, Due::Int)),
     }
-    Err(LineFault::due(alloc, at, Due::Int))
 }
 
-/// Reads an unsigned number.
+/// The signed number of these digits, which stand at this offset of the line.
+fn int_in(alloc: Global, digits: &str, at: usize) -> Result<i64, LineFault>
+    ensures ok { IfOk result (λ i. signed_decimal i ≡ digits.now) }
+    ensures none { IfErr result (λ f. IsWrong f → (i : ℤ) → FitsSigned w64 i → signed_decimal i ≢ digits.now) }
+    ensures fits { IfOk result (λ i. FitsSigned w64 i) }
+{
+    match int_of(digits) {
+        Some(number) => Ok(number),
+        None => Err(LineFault::due(alloc, at, Due::Int)),
+    }
+}
+
+/// Reads an unsigned number, or a text of its digits.
 pub fn read_uint(alloc: Global, tokens: &mut Reader<'_>) -> Result<u64, LineFault>
-    ensures ok { IfOk result (λ n. Reads (natural_json n) tokens.old tokens.new) }
-    ensures none { IfErr result (λ f. IsWrong f → (n : ℕ) (rest : List token.Token)
-        → n < 2 ^ 64 → Reads (natural_json n) tokens.old rest → ⊥) }
+    ensures ok { IfOk result (λ n. ReadsSome (IsNatural n) tokens.old tokens.new) }
+    ensures none { IfErr result (λ f. IsWrong f → (n : ℕ) (j : Data) (rest : List token.Token)
+        → n < 2 ^ 64 → IsNatural n j → Reads j tokens.old rest → ⊥) }
     ensures fits { IfOk result (λ n. n < 2 ^ 64) }
 {
     let at = tokens.offset();
-    if let Some(Token::Number(text)) = tokens.next() {
-        if let Some(number) = uint_of(text) {
-            return Ok(number);
-        }
+    match tokens.next() {
+        Some(Token::Number(digits)) => uint_in(alloc, digits, at),
+        Some(Token::String(digits)) => uint_in(alloc, digits, at),
+        _ => Err(LineFault::due(alloc, at, Due::Uint)),
     }
-    Err(LineFault::due(alloc, at, Due::Uint))
+}
+
+/// The unsigned number of these digits, which stand at this offset of the line.
+fn uint_in(alloc: Global, digits: &str, at: usize) -> Result<u64, LineFault>
+    ensures ok { IfOk result (λ n. decimal n ≡ digits.now) }
+    ensures none { IfErr result (λ f. IsWrong f → (n : ℕ) → n < 2 ^ 64 → decimal n ≢ digits.now) }
+    ensures fits { IfOk result (λ n. n < 2 ^ 64) }
+{
+    match uint_of(digits) {
+        Some(number) => Ok(number),
+        None => Err(LineFault::due(alloc, at, Due::Uint)),
+    }
 }
 
 /// The bytes of which this is the text in lower case hexadecimal.
@@ -310,9 +333,9 @@ pub fn read_basic(
     tokens: &mut Reader<'_>,
 ) -> Result<Value, LineFault>
     ensures read { IfOk result (λ v. (T : Table) (t : TypeId)
-        → Reads (value_json T t (view v)) tokens.old tokens.new) }
-    ensures whole { (T : Table) (t : TypeId) (v : Tree) (b : List ℕ) (rest : List token.Token)
-        → SpellsAs T (kind.Basic basic) v b → HoldsBytes v → Reads (value_json T t v) tokens.old rest
+        → ReadsSome (IsBasicJson T t (view v)) tokens.old tokens.new) }
+    ensures whole { (T : Table) (t : TypeId) (v : Tree) (j : Data) (b : List ℕ) (rest : List token.Token)
+        → SpellsAs T (kind.Basic basic) v b → HoldsBytes v → IsBasicJson T t v j → Reads j tokens.old rest
         → ReadsIt view result tokens.new v rest }
 {
     match basic {

@@ -7,12 +7,12 @@
 #![tactic(auto)]
 
 mod definition;
+mod definition_parts;
 mod fault;
 pub mod laws;
 mod leaf;
-mod line;
+mod part;
 mod path;
-mod value;
 
 pub use definition::read_shape;
 pub use fault::{Due, LineFault, Wrong};
@@ -20,6 +20,5 @@ pub use leaf::{
     int_of, is_same, read_basic, read_hex, read_opaque, read_text, read_uint, take_array,
     take_array_end, take_key, take_object_end, uint_of,
 };
-pub use line::{Line, read_line};
+pub use part::{field_from, take_name};
 pub use path::{PathStep, path_text};
-pub use value::{field_from, take_name};

@@ -8,3 +8,4 @@ pub mod Shell
 pub mod Paths
 pub mod Splitting
 pub mod Making
+pub mod Numbers

@@ -55,9 +55,9 @@ two_streams name =
 abbrev pub with_go : Text → App
 with_go name = with_progress (with_rule (with_options name) (flag_rule (codes "go")))
 
--- the command that shows items
+-- the command that shows items, with the flag for which numbers are texts
 abbrev pub show : App
-show = with_input (with_salvage (with_go (codes "show")))
+show = with_input (with_rule (with_salvage (with_go (codes "show"))) (flag_rule (codes "numbers-as-text")))
 
 -- the command that counts them
 abbrev pub check : App

@@ -226,7 +226,9 @@ fn show<'a>(alloc: Global) -> Built<'a>
     ensures local { IfOk result (λ command. (out-Command command).has_globals ≡ false) }
 {
     let flagged = with_go(alloc, "show", help::SHOW, help::DEPTH);
-    with_input(alloc, with_salvage(alloc, flagged), help::INPUT)
+    let kept = with_salvage(alloc, flagged);
+    let quoting = with_flag(alloc, kept, "numbers-as-text", help::NUMBERS_AS_TEXT);
+    with_input(alloc, quoting, help::INPUT)
 }
 
 // The command that counts items.

@@ -40,7 +40,7 @@ pub(crate) const CONVERT: &str =
 
 pub(crate) const WRITE: &str = "Write the stream that lines of JSON say, as show prints them";
 
-pub(crate) const MAKE: &str = "Write the stream of the values that plain JSON says, a line each";
+pub(crate) const MAKE: &str = "Write the stream of the values that plain JSON says";
 
 pub(crate) const NAME_AND_VERSION: &str = "Print the program's name and version";
 
@@ -87,6 +87,9 @@ pub(crate) const PROGRESS_WITH_GO: &str = "With --go, say on standard error how 
 
 pub(crate) const KEPT: &str =
     "Show what isn't damaged, as salvage keeps it, and say on standard error what is left out";
+
+pub(crate) const NUMBERS_AS_TEXT: &str =
+    "Print each number as a text of its digits, for readers that round numbers, as jq 1.6";
 
 pub(crate) const FAULT: &str = "Show the item that is refused alone";
 

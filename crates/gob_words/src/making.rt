@@ -62,7 +62,7 @@ fn making_in<'a>(matches: &ArgMatches<'a>) -> Option<Making<'a>>
 }
 
 // Whether a flag is given, by clap's value of it.
-fn is_true(value: Option<&str>) -> bool
+pub(crate) fn is_true(value: Option<&str>) -> bool
     ensures { IsGiven (text_of value.entry) result }
 {
     matches!(value, Some("true"))

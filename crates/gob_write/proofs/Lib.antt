@@ -1,7 +1,10 @@
 pub mod LineLaws
+pub mod TextLaws
+pub mod PlaceLaws
 pub mod SaidLaws
 pub mod RunLaws
 pub mod MakeLaws
 pub mod TypesLaws
-pub mod GoSaidLaws
-pub mod GoRunLaws
+pub mod ShownSaidLaws
+pub mod ShownRunLaws
+pub mod ExactLaws

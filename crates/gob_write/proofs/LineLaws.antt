@@ -180,7 +180,7 @@ pub left_there : {w w' : Waiting} {now now' : Option (List ℕ)} {bytes : List �
 left_there {now' = now'} left got = brought left got now' refl
     (subst (λ (o : Option (List ℕ)). Consumes o now' got.more) left.known got.read)
 
-no_more : (w w' : Waiting) {now now' : Option (List ℕ)} → Brings now now' (waiting w) (waiting w') 0
+pub no_more : (w w' : Waiting) {now now' : Option (List ℕ)} → Brings now now' (waiting w) (waiting w') 0
     → waiting w' ≡ waiting w
 no_more w w' got = got.behind ∙ ap (λ (l : List ℕ). waiting w ++ l) (nothing got.more (sym got.counted))
     ∙ append-nil (waiting w)
@@ -189,7 +189,7 @@ no_more w w' got = got.behind ∙ ap (λ (l : List ℕ). waiting w ++ l) (nothin
     nothing [] e = refl
     nothing (x ∷ xs) e = absurd (omega (arith, e))
 
-ends : {o : Option (List ℕ)} {unread : List ℕ} → o ≡ Some unread → IsAtEnd o → unread ≡ []
+pub ends : {o : Option (List ℕ)} {unread : List ℕ} → o ≡ Some unread → IsAtEnd o → unread ≡ []
 ends {unread = unread} e end = subst IsAtEnd e end
 
 -- at the end of the input all that waits is the last line
@@ -224,3 +224,9 @@ searched_there w w' none got = subst HasNoFeed (sym (ap (take (length (waiting w
 pub longer_there : (w w' : Waiting) {now now' : Option (List ℕ)} {count : ℕ}
     → Brings now now' (waiting w) (waiting w') count → length (waiting w) ≤ length (waiting w')
 longer_there w w' got = omega (arith, ap length got.behind, length-append (waiting w) got.more)
+
+-- a count that is at most this
+pub if_ok_le : (count most n : ℕ) (r : Result ℕ LinesFault) → IfOk r (λ m. (m ≡ count) × (count ≤ most)) → count ≤ n
+    → IfOk r (λ m. m ≤ n)
+if_ok_le count most n (Ok m) h le = omega (arith, h.0, le)
+if_ok_le count most n (Err f) h le = tt

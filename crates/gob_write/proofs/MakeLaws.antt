@@ -1,4 +1,4 @@
--- Behind the definitions of the types the lines are written.
+-- Behind the definitions of the types the values are written.
 use Rattle.std.proofs.Common.{◌≡◌, ℕ, ◌+◌, ◌<◌, ◌≤◌, List, [], ◌++◌, length, get_or, take, Option, Some, Result, Ok}
 use Rattle.std.proofs.Common.{Err}
 use Rattle.std.proofs.Common.{refl, sym, ap, subst, ◌∙◌, arith, take_all}
@@ -21,14 +21,13 @@ use Rattle.gob_stream.proofs.Written.WriteStreamSteps.{WroteSome, stopped, wrote
 use Rattle.gob_write.specs.Faults.{CountsAllWrites, CountsReads, writing_fault, writing_result}
 use Rattle.gob_write.specs.Making.{MakeAnswers, StopsWithin, WroteFront, behind_front}
 use Rattle.gob_write.specs.Making.{definitions_of, ending, of_plain, within_front}
-use Rattle.gob_write.specs.Running.{WriteLinesAnswers}
-use Rattle.gob_write.specs.Says.{HasWrittenLines, IsWithinTrees, Saying, in_form}
+use Rattle.gob_write.specs.Running.{WriteTextsAnswers}
+use Rattle.gob_write.specs.Says.{HasWrittenTexts, IsWithinTrees, Saying, of_values}
 use Rattle.gob_write.specs.declared.fault.LinesFault.{LinesFault}
 use Rattle.gob_write.specs.declared.fault.LinesFault.TheVariants as fault
 use Rattle.gob_write.specs.declared.types.Definition.{Definition}
 use Rattle.gob_write.specs.declared.types.Types.{Types}
-use Rattle.gob_write.specs.declared.writer.LineForm.TheVariants as form
-use Rattle.gob_write.specs.declared.writer.LineWriter.{LineWriter}
+use Rattle.gob_write.specs.declared.writer.PlainWriter.{PlainWriter}
 use Rattle.gob_write.proofs.RunLaws.{flushed_answers, unflushed_answers}
 use Rattle.gob_write.proofs.SaidLaws.{same_limits}
 
@@ -39,35 +38,32 @@ definition_at ds n d is within = slice_get-map (λ d. defines d.id (view d.descr
     ∙ rw (slice_get_read ds (length ds) n d refl within is) refl
 
 -- so many definitions went out, and the writer stands behind them
-pub record HasWrittenSome (S : Saying) (ds : List Definition) (n : ℕ) (w : LineWriter) (old new : Option (List ℕ))
+pub record HasWrittenSome (S : Saying) (ds : List Definition) (n : ℕ) (w : PlainWriter) (old new : Option (List ℕ))
     : Type 0 where
   pub wrote : WroteSome S.bounds (definitions_of ds) n w.writer old new
-  pub depth : w.depth ≡ S.bounds.depth
-  pub form : w.form ≡ S.form
+  pub making : w.making ≡ S.making
 
-pub none_yet : (S : Saying) (ds : List Definition) (w : LineWriter) (old : Option (List ℕ))
-    → HasWrittenLines S w [] [] base_table → HasWrittenSome S ds 0 w old old
+pub none_yet : (S : Saying) (ds : List Definition) (w : PlainWriter) (old : Option (List ℕ))
+    → HasWrittenTexts S w [] [] base_table → HasWrittenSome S ds 0 w old old
 none_yet S ds w old h = record {
   wrote = record { bytes = []; table = base_table; written = h.written; limits = h.limits; out = Appends-nil old };
-  depth = h.depth;
-  form = h.form;
+  making = h.making;
 }
 
-pub one_more : {S : Saying} {ds : List Definition} {n : ℕ} {w : LineWriter} {old mid : Option (List ℕ)}
-    (w' : LineWriter) (new : Option (List ℕ)) (d : Definition) (u : Unit {0}) → IsWithinTrees S
+pub one_more : {S : Saying} {ds : List Definition} {n : ℕ} {w : PlainWriter} {old mid : Option (List ℕ)}
+    (w' : PlainWriter) (new : Option (List ℕ)) (d : Definition) (u : Unit {0}) → IsWithinTrees S
     → HasWrittenSome S ds n w old mid → d ≡ get_or ds n d → n < length ds
     → WritesNext (within_trees w.writer.limits) w.writer w'.writer (defines d.id (view d.described)) mid new (Ok u)
-    → w'.depth ≡ w.depth → w'.form ≡ w.form → HasWrittenSome S ds (n + 1) w' old new
-one_more {S = S} {ds = ds} {n = n} {w = w} {old = old} {mid = mid} w' new d u within h is inside writes deep formed =
+    → w'.making ≡ w.making → HasWrittenSome S ds (n + 1) w' old new
+one_more {S = S} {ds = ds} {n = n} {w = w} {old = old} {mid = mid} w' new d u within h is inside writes making =
     record {
       wrote = wrote_more S.bounds (within_trees w.writer.limits) (definitions_of ds) n w.writer w'.writer old mid new
           (defines d.id (view d.described)) u h.wrote (definition_at ds n d is inside) writes;
-      depth = deep ∙ h.depth;
-      form = formed ∙ h.form;
+      making = making ∙ h.making;
     }
 
 -- all of them
-pub all_written : {S : Saying} {ds : List Definition} {n : ℕ} {w : LineWriter} {old new : Option (List ℕ)}
+pub all_written : {S : Saying} {ds : List Definition} {n : ℕ} {w : PlainWriter} {old new : Option (List ℕ)}
     → HasWrittenSome S ds n w old new → length ds ≤ n → WroteFront S ds w old new
 all_written {S = S} {ds = ds} {n = n} {w = w} h past =
     let all : take n (definitions_of ds) ≡ definitions_of ds =
@@ -79,15 +75,14 @@ all_written {S = S} {ds = ds} {n = n} {w = w} h past =
         written = subst (λ (is : List StreamItem). HasWritten w.writer is h.wrote.bytes h.wrote.table) all
             h.wrote.written;
         limits = h.wrote.limits;
-        depth = h.depth;
-        form = h.form;
+        making = h.making;
       };
       out = h.wrote.out;
     }
 
 -- or one of them stops the run
-pub one_stops : {S : Saying} {ds : List Definition} {n : ℕ} {w : LineWriter} {old mid : Option (List ℕ)}
-    (w' : LineWriter) (new : Option (List ℕ)) (d : Definition) (g : WriteFault) (f : LinesFault) → IsWithinTrees S
+pub one_stops : {S : Saying} {ds : List Definition} {n : ℕ} {w : PlainWriter} {old mid : Option (List ℕ)}
+    (w' : PlainWriter) (new : Option (List ℕ)) (d : Definition) (g : WriteFault) (f : LinesFault) → IsWithinTrees S
     → HasWrittenSome S ds n w old mid → d ≡ get_or ds n d → n < length ds
     → WritesNext (within_trees w.writer.limits) w.writer w'.writer (defines d.id (view d.described)) mid new (Err g)
     → Leaves w.writer w'.writer mid new (Err g) → f ≡ writing_fault 0 g → StopsWithin S ds old new f
@@ -102,19 +97,19 @@ one_stops {S = S} {ds = ds} {n = n} {w = w} {old = old} {mid = mid} w' new d g f
     }
 
 -- what a call answers that writes this one
-pub one_written : {W : Type 0} {S : Saying} {ds : List Definition} {n : ℕ} {w : LineWriter} {old : Option (List ℕ)}
-    (w' : LineWriter) (d : Definition) (contents : W → Option (List ℕ)) (output output' : Output W)
+pub one_written : {W : Type 0} {S : Saying} {ds : List Definition} {n : ℕ} {w : PlainWriter} {old : Option (List ℕ)}
+    (w' : PlainWriter) (d : Definition) (contents : W → Option (List ℕ)) (output output' : Output W)
     (r : Result (Unit {0}) WriteFault) (u : Unit {0}) → IsWithinTrees S
     → HasWrittenSome S ds n w old (contents (writer_of output)) → d ≡ get_or ds n d → n < length ds
     → WriteAnswers (within_trees w.writer.limits) w.writer w'.writer (defines d.id (view d.described)) contents output
-    output' r → Ok u ≡ writing_result 0 r → w'.depth ≡ w.depth → w'.form ≡ w.form
+    output' r → Ok u ≡ writing_result 0 r → w'.making ≡ w.making
     → HasWrittenSome S ds (n + 1) w' old (contents (writer_of output'))
-one_written w' d contents output output' (Ok v) u within h is inside answers told deep formed =
-    one_more w' (contents (writer_of output')) d v within h is inside answers.writes deep formed
-one_written w' d contents output output' (Err g) u within h is inside answers told deep formed = absurd (cc told)
+one_written w' d contents output output' (Ok v) u within h is inside answers told making =
+    one_more w' (contents (writer_of output')) d v within h is inside answers.writes making
+one_written w' d contents output output' (Err g) u within h is inside answers told making = absurd (cc told)
 
-pub one_refused : {W : Type 0} {S : Saying} {ds : List Definition} {n : ℕ} {w : LineWriter} {old : Option (List ℕ)}
-    (w' : LineWriter) (d : Definition) (contents : W → Option (List ℕ)) (output output' : Output W)
+pub one_refused : {W : Type 0} {S : Saying} {ds : List Definition} {n : ℕ} {w : PlainWriter} {old : Option (List ℕ)}
+    (w' : PlainWriter) (d : Definition) (contents : W → Option (List ℕ)) (output output' : Output W)
     (r : Result (Unit {0}) WriteFault) (f : LinesFault) → IsWithinTrees S
     → HasWrittenSome S ds n w old (contents (writer_of output)) → d ≡ get_or ds n d → n < length ds
     → WriteAnswers (within_trees w.writer.limits) w.writer w'.writer (defines d.id (view d.described)) contents output
@@ -124,45 +119,44 @@ one_refused w' d contents output output' (Err g) f within h is inside answers to
     let same : f ≡ writing_fault 0 g = cc in
     one_stops w' (contents (writer_of output')) d g f within h is inside answers.writes answers.effects.leaves same
 
--- ---- the lines behind them
+-- ---- the values behind them
 -- a new writer of them
-pub made_new : (K : Bounds) (types : Types) (w : LineWriter) (depth zeros : ℕ) → depth ≡ (within_trees K).depth
-    → zeros ≡ K.item → HasWrittenLines (in_form (form.Plain (record {
+pub made_new : (K : Bounds) (types : Types) (w : PlainWriter) (depth zeros : ℕ) → depth ≡ (within_trees K).depth
+    → zeros ≡ K.item → HasWrittenTexts (of_values (record {
       id = types.id;
       depth = depth;
       zeros = zeros;
       lenient = types.lenient;
-    })) (within_trees K)) w [] [] base_table → HasWrittenLines (of_plain (within_trees K) types) w [] [] base_table
+    }) (within_trees K)) w [] [] base_table → HasWrittenTexts (of_plain (within_trees K) types) w [] [] base_table
 made_new K types w depth zeros deep many h = record {
   written = h.written;
   limits = h.limits;
-  depth = h.depth;
-  form = h.form ∙ ap (λ (n : ℕ). form.Plain (record {
+  making = h.making ∙ ap (λ (n : ℕ). record {
     id = types.id;
     depth = n;
     zeros = zeros;
     lenient = types.lenient;
-  })) deep ∙ ap (λ (n : ℕ). form.Plain (record {
+  }) deep ∙ ap (λ (n : ℕ). record {
     id = types.id;
     depth = (within_trees K).depth;
     zeros = n;
     lenient = types.lenient;
-  })) many;
+  }) many;
 }
 
-pub lines_behind : (K : Bounds) (types : Types) (w : LineWriter) (old mid : Option (List ℕ)) {most : ℕ}
+pub texts_behind : (K : Bounds) (types : Types) (w : PlainWriter) (old mid : Option (List ℕ)) {most : ℕ}
     {bytes : List ℕ} {new : Option (List ℕ)} {r : Result (Unit {0}) LinesFault}
     → WroteFront (of_plain (within_trees K) types) types.definitions.items w old mid
-    → ((S : Saying) (start : Option (List ℕ)) → IsWithinTrees S → HasWrittenLines S w S.items S.bytes S.table
-    → Appends start mid S.bytes → WriteLinesAnswers S most bytes start new r)
+    → ((S : Saying) (start : Option (List ℕ)) → IsWithinTrees S → HasWrittenTexts S w S.items S.bytes S.table
+    → Appends start mid S.bytes → WriteTextsAnswers S most bytes start new r)
     → MakeAnswers (within_trees K) types most bytes old new r
-lines_behind K types w old mid h lines =
+texts_behind K types w old mid h texts =
     let S = record (of_plain (within_trees K) types)
     { items = definitions_of types.definitions.items; bytes = h.bytes; table = h.table } in
     let front = subst (λ (M : Bounds). Stream base_table M S.items S.bytes S.table) h.written.limits
     h.written.written.stream in
-    behind_front S (record { form = refl; bounds = refl; items = refl; front = front }) (lines S old (K, refl)
-    (record { written = h.written.written; limits = h.written.limits; depth = h.written.depth; form = h.written.form })
+    behind_front S (record { making = refl; bounds = refl; items = refl; front = front }) (texts S old (K, refl)
+    (record { written = h.written.written; limits = h.written.limits; making = h.written.making })
     h.out)
 
 pub front_stops : (K : Bounds) (types : Types) {most : ℕ} {bytes : List ℕ} {old new : Option (List ℕ)}
@@ -226,7 +220,7 @@ flushed_made L types most bytes old now now' r k (behind_front S made h) =
 flushed_made L types most bytes old now now' r k (within_front place g is h) =
     within_front place g is (stopped_kept L (definitions_of types.definitions.items) place old now now' g k h)
 
--- and one that fails behind all lines is a failed write
+-- and one that fails behind all values is a failed write
 pub unflushed_made : (L : Bounds) (types : Types) (most : ℕ) (bytes : List ℕ) (old now now' : Option (List ℕ))
     (u : Unit {0}) → Keeps now now' → MakeAnswers L types most bytes old now (Ok u)
     → MakeAnswers L types most bytes old now' (Err fault.Write)

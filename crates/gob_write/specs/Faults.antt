@@ -1,10 +1,12 @@
 -- What the faults of the run are. (docs/FORMAT.md, The program: this project's own.)
-use Rattle.std.specs.Prelude.{◌≡◌, ◌⊎◌, ℕ, Result, Ok, Err}
+use Rattle.std.specs.Prelude.{◌≡◌, ◌⊎◌, ℕ, List, Result, Ok, Err}
 use Rattle.gob_stream.specs.Devices.{counts_up}
 use Rattle.gob_stream.specs.declared.fault.Fault.{Fault}
 use Rattle.gob_stream.specs.declared.fault.Fault.TheVariants as reading
 use Rattle.gob_stream.specs.declared.fault.WriteFault.{WriteFault}
 use Rattle.gob_stream.specs.declared.fault.WriteFault.TheVariants as writing
+use Rattle.gob_write.specs.Place.{IsPlaceIn}
+use Rattle.gob_write.specs.declared.place.Place.{Place}
 use Rattle.gob_write.specs.declared.fault.LinesFault.{LinesFault}
 use Rattle.gob_write.specs.declared.fault.LinesFault.TheVariants as fault
 
@@ -39,6 +41,18 @@ abbrev pub IsWrongAt : ℕ → LinesFault → Type 0
 IsWrongAt number (fault.Wrong line column path due) = line ≡ number
 IsWrongAt number fault.Memory = Unit {0}
 IsWrongAt number _ = ⊥
+
+-- something is due at this place, or there was no memory to say so
+abbrev pub IsDueAt : Place → LinesFault → Type 0
+IsDueAt place (fault.Wrong line column path due) = place ≡ record { line = line; column = column }
+IsDueAt place fault.Memory = Unit {0}
+IsDueAt place _ = ⊥
+
+-- in the text that begins at this place something is wrong, or there was no memory to say so
+abbrev pub IsWrongIn : (start : Place) → (text : List ℕ) → LinesFault → Type 0
+IsWrongIn start text (fault.Wrong line column path due) = IsPlaceIn start text line column
+IsWrongIn start text fault.Memory = Unit {0}
+IsWrongIn start text _ = ⊥
 
 -- a read failed exactly where the fault says so
 abbrev pub CountsReads : {A : Type 0} → (failures failures' : ℕ) → Result A LinesFault → Type 0

@@ -1,8 +1,12 @@
+pub mod Place
 pub mod Faults
 pub mod Lines
+pub mod Texts
 pub mod Says
 pub mod Running
 pub mod Making
 pub mod Types
 pub mod Source
-pub mod Go
+pub mod Grammar
+pub mod Shown
+pub mod Exact

@@ -12,38 +12,37 @@ use Rattle.gob_stream.specs.Stream.{Stream}
 use Rattle.gob_stream.specs.declared.fault.WriteFault.{WriteFault}
 use Rattle.gob_make.specs.declared.plain.Making.{Making}
 use Rattle.gob_write.specs.Faults.{writing_fault}
-use Rattle.gob_write.specs.Running.{WriteLinesAnswers}
-use Rattle.gob_write.specs.Says.{HasWrittenLines, Saying, in_form}
+use Rattle.gob_write.specs.Running.{WriteTextsAnswers}
+use Rattle.gob_write.specs.Says.{HasWrittenTexts, Saying, of_values}
 use Rattle.gob_write.specs.declared.fault.LinesFault.{LinesFault}
 use Rattle.gob_write.specs.declared.types.Definition.{Definition}
 use Rattle.gob_write.specs.declared.types.Types.{Types}
-use Rattle.gob_write.specs.declared.writer.LineForm.TheVariants as form
-use Rattle.gob_write.specs.declared.writer.LineWriter.{LineWriter}
+use Rattle.gob_write.specs.declared.writer.PlainWriter.{PlainWriter}
 
 -- the definitions, in order, as they are described
 abbrev pub definitions_of : List Definition → List StreamItem
 definitions_of ds = map (λ d. defines d.id (view d.described)) ds
 
--- as what the lines are read under these limits: values of the wanted type
+-- as what the texts are read under these limits: values of the wanted type
 abbrev pub making_of : Bounds → Types → Making
 making_of L types = record { id = types.id; depth = L.depth; zeros = L.item; lenient = types.lenient }
 
 -- they say values of it, with nothing in front
 abbrev pub of_plain : Bounds → Types → Saying
-of_plain L types = in_form (form.Plain (making_of L types)) L
+of_plain L types = of_values (making_of L types) L
 
--- lines of plain JSON say values of the wanted type, behind the stream of all definitions of the types
+-- texts of plain JSON say values of the wanted type, behind the stream of all definitions of the types
 pub record AreMade (L : Bounds) (types : Types) (S : Saying) : Type 0 where
-  pub form : S.form ≡ form.Plain (making_of L types)
+  pub making : S.making ≡ making_of L types
   pub bounds : S.bounds ≡ L
   pub items : S.items ≡ definitions_of types.definitions.items
   pub front : Stream base_table L S.items S.bytes S.table
 
--- how the run ends: behind all definitions, where the lines are written as far as they say values; or before one of
+-- how the run ends: behind all definitions, where the values are written as far as the texts say them; or before one of
 -- them, of which no more than a prefix is out
 pub data MakeAnswers (L : Bounds) (types : Types) (most : ℕ) (bytes : List ℕ) (old new : Option (List ℕ))
     (result : Result (Unit {0}) LinesFault) : Type 0 where
-  behind_front : (S : Saying) → AreMade L types S → WriteLinesAnswers S most bytes old new result
+  behind_front : (S : Saying) → AreMade L types S → WriteTextsAnswers S most bytes old new result
       → MakeAnswers L types most bytes old new result
   within_front : (place : ℕ) (f : WriteFault) → result ≡ Err (writing_fault 0 f)
       → StoppedAt L (definitions_of types.definitions.items) place old new f
@@ -56,10 +55,10 @@ ending (Err f) = Err f
 
 -- ---- for private clauses
 -- all definitions went out, and the writer stands behind them
-pub record WroteFront (S : Saying) (ds : List Definition) (w' : LineWriter) (old new : Option (List ℕ)) : Type 0 where
+pub record WroteFront (S : Saying) (ds : List Definition) (w' : PlainWriter) (old new : Option (List ℕ)) : Type 0 where
   pub bytes : List ℕ
   pub table : Table
-  pub written : HasWrittenLines S w' (definitions_of ds) bytes table
+  pub written : HasWrittenTexts S w' (definitions_of ds) bytes table
   pub out : Appends old new bytes
 
 -- or they stopped at one of them
@@ -69,7 +68,7 @@ pub record StopsWithin (S : Saying) (ds : List Definition) (old new : Option (Li
   pub is : f ≡ writing_fault 0 fault
   pub stopped : StoppedAt S.bounds (definitions_of ds) place old new fault
 
-abbrev pub FrontAnswers : Saying → List Definition → LineWriter → (old new : Option (List ℕ))
+abbrev pub FrontAnswers : Saying → List Definition → PlainWriter → (old new : Option (List ℕ))
     → Result (Unit {0}) LinesFault → Type 0
 FrontAnswers S ds w' old new (Ok _) = WroteFront S ds w' old new
 FrontAnswers S ds w' old new (Err f) = StopsWithin S ds old new f

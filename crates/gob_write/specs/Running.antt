@@ -1,78 +1,94 @@
--- How the run ends that writes the stream of some lines. (docs/FORMAT.md, The JSON lines.)
+-- How the run ends that writes the stream of what texts say, and of runs over lines what is left.
+-- (docs/FORMAT.md, Plain JSON as input.)
 use Rattle.std.specs.Prelude.{◌≡◌, ◌⊎◌, ◌≢◌, ◌+◌, ◌<◌, ℕ, List, [], ◌∷◌, ◌++◌, length, Option, Result, Ok, Err}
 use Rattle.std.specs.Io.KnownBytes.{Appends, Keeps}
-use Rattle.std.specs.Str.{IsUtf8}
 use Rattle.json.specs.Lex.{tokens}
 use Rattle.gob_types.specs.Base.{base_table}
 use Rattle.gob_types.specs.declared.reason.Reason.{Reason}
 use Rattle.gob_types.specs.Table.{Table}
 use Rattle.gob_stream.specs.Item.{StreamItem}
 use Rattle.gob_stream.specs.Stream.{IsItem, Stream}
-use Rattle.gob_write.specs.Lines.{AreLines, first_line}
-use Rattle.gob_write.specs.Says.{Saying, SaysItem, SaysNoItem, RefusesLine, WroteSome}
+use Rattle.gob_write.specs.Lines.{first_line}
+use Rattle.gob_write.specs.Place.{IsLineIn, IsPlaceIn, place_behind}
+use Rattle.gob_write.specs.Says.{Saying, SaysItem, RefusesText, WroteSome}
+use Rattle.gob_write.specs.Texts.{AreTexts, first_text}
 use Rattle.gob_write.specs.declared.fault.LinesFault.{LinesFault}
 use Rattle.gob_write.specs.declared.fault.LinesFault.TheVariants as fault
 
--- behind the stream in front the lines say these items one by one, each by the types of those before, and the bytes are
--- the stream of the items; a line without tokens says none
+-- behind the stream in front the texts say these values one by one, and the bytes are the stream of the items; a text
+-- without tokens says none
 pub data SayStream (S : Saying) : List (List ℕ) → List StreamItem → List ℕ → Table → Type 0 where
   say_nothing : SayStream S [] S.items S.bytes S.table
-  say_no_more : {lines : List (List ℕ)} (line : List ℕ) {items : List StreamItem} {b : List ℕ} {T : Table}
-      → SayStream S lines items b T → tokens line ≡ [] → SayStream S (lines ++ line ∷ []) items b T
-  say_one_more : {lines : List (List ℕ)} (line : List ℕ) {items : List StreamItem} {i : StreamItem} {b c : List ℕ}
-      {T U : Table} → SayStream S lines items b T → SaysItem T line S.form i
-      → IsItem base_table S.bounds T (length b) i c U → SayStream S (lines ++ line ∷ []) (items ++ i ∷ []) (b ++ c) U
+  say_no_more : {texts : List (List ℕ)} (text : List ℕ) {items : List StreamItem} {b : List ℕ} {T : Table}
+      → SayStream S texts items b T → tokens text ≡ [] → SayStream S (texts ++ text ∷ []) items b T
+  say_one_more : {texts : List (List ℕ)} (text : List ℕ) {items : List StreamItem} {i : StreamItem} {b c : List ℕ}
+      {T U : Table} → SayStream S texts items b T → SaysItem S.making T text i
+      → IsItem base_table S.bounds T (length b) i c U → SayStream S (texts ++ text ∷ []) (items ++ i ∷ []) (b ++ c) U
 
--- these lines stand in front of the rest, what they say went out as one stream, and this holds of how many they are,
--- the types and the bytes behind them, and the rest
-pub record WroteLines (S : Saying) (most : ℕ) (bytes : List ℕ) (old mid : Option (List ℕ))
-    (P : ℕ → Table → List ℕ → List ℕ → Type 0) : Type 0 where
-  pub lines : List (List ℕ)
+-- these texts stand in front of the rest, what they say went out as one stream, and this holds of their bytes, the
+-- types and the bytes of the stream behind them, and the rest
+pub record WroteTexts (S : Saying) (most : ℕ) (bytes : List ℕ) (old mid : Option (List ℕ))
+    (P : List ℕ → Table → List ℕ → List ℕ → Type 0) : Type 0 where
+  pub texts : List (List ℕ)
+  pub front : List ℕ
   pub rest : List ℕ
   pub items : List StreamItem
   pub out : List ℕ
   pub table : Table
-  pub cut : AreLines most bytes lines rest
-  pub say : SayStream S lines items out table
+  pub whole : bytes ≡ front ++ rest
+  pub cut : AreTexts most bytes texts rest
+  pub say : SayStream S texts items out table
   pub stream : Stream base_table S.bounds items out table
   pub sent : Appends old mid out
-  pub holds : P (length lines) table out rest
+  pub holds : P front table out rest
 
--- the next line is the one of this number, and it is no text, or says no item that goes on the stream
-abbrev pub IsWrongNext : Saying → ℕ → ℕ → Table → List ℕ → List ℕ → Type 0
-IsWrongNext S n count T out rest = (rest ≢ []) × (n ≡ count + 1)
-    × (IsUtf8 (first_line rest) → SaysNoItem S T (length out) (first_line rest))
+-- something is wrong in the next text, at this line and column of the whole input
+abbrev pub IsWrongNext : ℕ → ℕ → List ℕ → Table → List ℕ → List ℕ → Type 0
+IsWrongNext n column front T out rest = (rest ≢ []) × IsPlaceIn (place_behind front) (first_text rest) n column
 
 -- or no stream goes on with it for this reason
-abbrev pub RefusesNext : Saying → ℕ → Reason → ℕ → Table → List ℕ → List ℕ → Type 0
-RefusesNext S n r count T out rest = (rest ≢ []) × (n ≡ count + 1) × RefusesLine S T (length out) (first_line rest) r
+abbrev pub RefusesNext : Saying → ℕ → Reason → List ℕ → Table → List ℕ → List ℕ → Type 0
+RefusesNext S n r front T out rest = (rest ≢ []) × IsLineIn (place_behind front) (first_text rest) n
+    × RefusesText S T (length out) (first_text rest) r
 
--- or it is longer than a line may be
+-- or it begins at this line, and is longer than a text may be
+abbrev pub IsLongText : (most : ℕ) → ℕ → List ℕ → Table → List ℕ → List ℕ → Type 0
+IsLongText most n front T out rest = (n ≡ (place_behind front).line) × (most < length (first_text rest))
+
+-- a write or a flush failed: of the next text's item a prefix is out, or nothing more
+abbrev pub CutsNext : Saying → (mid new : Option (List ℕ)) → List ℕ → Table → List ℕ → List ℕ → Type 0
+CutsNext S mid new front T out rest = Keeps mid new ⊎ WroteSome S T (length out) (first_text rest) mid new
+
+abbrev pub IsWhole : List ℕ → Table → List ℕ → List ℕ → Type 0
+IsWhole front T out rest = rest ≡ []
+
+abbrev pub IsPart : List ℕ → Table → List ℕ → List ℕ → Type 0
+IsPart front T out rest = Unit {0}
+
+-- how the run ends, over an input with these bytes left and an output with the old bytes: what was written is the one
+-- stream of what the texts before the fault say, or of all
+abbrev pub WriteTextsAnswers : Saying → (most : ℕ) → (bytes : List ℕ) → (old new : Option (List ℕ))
+    → Result (Unit {0}) LinesFault → Type 0
+WriteTextsAnswers S most bytes old new (Ok _) = WroteTexts S most bytes old new IsWhole
+WriteTextsAnswers S most bytes old new (Err (fault.Wrong n column path due)) =
+    WroteTexts S most bytes old new (IsWrongNext n column)
+WriteTextsAnswers S most bytes old new (Err (fault.Refused n r)) =
+    WroteTexts S most bytes old new (RefusesNext S n r)
+WriteTextsAnswers S most bytes old new (Err (fault.TooLong n m)) =
+    (m ≡ most) × WroteTexts S most bytes old new (IsLongText most n)
+WriteTextsAnswers S most bytes old new (Err fault.Read) = WroteTexts S most bytes old new IsPart
+WriteTextsAnswers S most bytes old new (Err fault.Memory) = WroteTexts S most bytes old new IsPart
+WriteTextsAnswers S most bytes old new (Err fault.Write) =
+    (mid : Option (List ℕ)) × WroteTexts S most bytes old mid (CutsNext S mid new)
+
+-- ---- of runs over lines
+
+-- the next line is longer than a line may be
 abbrev pub IsLongNext : (most : ℕ) → ℕ → ℕ → Table → List ℕ → List ℕ → Type 0
 IsLongNext most n count T out rest = (n ≡ count + 1) × (most < length (first_line rest))
-
--- a write or a flush failed: of the next line's item a prefix is out, or nothing more
-abbrev pub CutsNext : Saying → (mid new : Option (List ℕ)) → ℕ → Table → List ℕ → List ℕ → Type 0
-CutsNext S mid new count T out rest = Keeps mid new ⊎ WroteSome S T (length out) (first_line rest) mid new
 
 abbrev pub IsAll : ℕ → Table → List ℕ → List ℕ → Type 0
 IsAll count T out rest = rest ≡ []
 
 abbrev pub IsSome : ℕ → Table → List ℕ → List ℕ → Type 0
 IsSome count T out rest = Unit {0}
-
--- how the run ends, over an input with these bytes left and an output with the old bytes: what was written is the one
--- stream of what the lines before the fault say, or of all
-abbrev pub WriteLinesAnswers : Saying → (most : ℕ) → (bytes : List ℕ) → (old new : Option (List ℕ))
-    → Result (Unit {0}) LinesFault → Type 0
-WriteLinesAnswers S most bytes old new (Ok _) = WroteLines S most bytes old new IsAll
-WriteLinesAnswers S most bytes old new (Err (fault.Wrong n column path due)) =
-    WroteLines S most bytes old new (IsWrongNext S n)
-WriteLinesAnswers S most bytes old new (Err (fault.Refused n r)) =
-    WroteLines S most bytes old new (RefusesNext S n r)
-WriteLinesAnswers S most bytes old new (Err (fault.TooLong n m)) =
-    (m ≡ most) × WroteLines S most bytes old new (IsLongNext most n)
-WriteLinesAnswers S most bytes old new (Err fault.Read) = WroteLines S most bytes old new IsSome
-WriteLinesAnswers S most bytes old new (Err fault.Memory) = WroteLines S most bytes old new IsSome
-WriteLinesAnswers S most bytes old new (Err fault.Write) =
-    (mid : Option (List ℕ)) × WroteLines S most bytes old mid (CutsNext S mid new)

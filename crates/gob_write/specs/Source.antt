@@ -8,8 +8,6 @@ use Rattle.gob_go_source.specs.declared.go_type.Declaration.{Declaration}
 use Rattle.gob_go_source.specs.declared.source.SourceFault.{SourceFault}
 use Rattle.gob_go_source.specs.declared.source.SourceFault.TheVariants as source
 use Rattle.gob_go_types.specs.Types.{AreTypesOf}
-use Rattle.gob_go_types.specs.declared.fault.TypesFault.{TypesFault as DeclaredFault}
-use Rattle.gob_go_types.specs.declared.fault.TypesFault.TheVariants as declared
 use Rattle.gob_go_types.specs.declared.numbers.Defined.{Defined}
 use Rattle.gob_stream.specs.Item.{StreamItem, defines}
 use Rattle.gob_words.specs.Words.{IsNumber}
@@ -53,11 +51,7 @@ pub record IsOfSource (text : List ℕ) (named : Option (List ℕ)) (lenient : B
   pub definitions : definitions_of types.definitions.items ≡ defines_each given
   pub leniency : types.lenient ≡ lenient
 
--- the fault of source that isn't read, or of what it declares
+-- the fault of source that isn't read
 abbrev pub source_fault : SourceFault → SourceTypesFault
 source_fault source.Memory = fault.Memory
 source_fault given = fault.Source given
-
-abbrev pub declared_fault : DeclaredFault → SourceTypesFault
-declared_fault declared.Memory = fault.Memory
-declared_fault given = fault.Types given

@@ -1,9 +1,10 @@
 //! What stops the run.
 
 ghost use Rattle.std.specs.Prelude.{◌≡◌};
-ghost use Rattle.gob_write.specs.Faults.{fault_status, IsWrongAt};
+ghost use Rattle.gob_write.specs.Faults.{IsDueAt, IsWrongAt, IsWrongIn, fault_status};
 
-use gob_lines::{Due, Wrong, path_text};
+use crate::place::Place;
+use gob_lines::{Due, PathStep, Wrong, path_text};
 use gob_num::Memory;
 use gob_stream::{Fault, WriteFault};
 use gob_types::Reason;
@@ -54,6 +55,23 @@ impl LinesFault {
     {
         let Wrong { at, due, path } = wrong;
         let column = (at as u64).saturating_add(1);
+        LinesFault::due(alloc, Place { line, column }, due, path)
+    }
+
+    /// That of the text that begins at this place with which this is wrong.
+    pub(crate) fn wrong_in(alloc: Global, start: Place, text: &[u8], wrong: Wrong) -> LinesFault
+        ensures { IsWrongIn start text.now result }
+    {
+        let Wrong { at, due, path } = wrong;
+        let front = &text[..at.min(text.len())];
+        LinesFault::due(alloc, start.behind(front), due, path)
+    }
+
+    // That of a place where this is due, behind these steps.
+    fn due(alloc: Global, place: Place, due: Due, path: Vec<PathStep>) -> LinesFault
+        ensures { IsDueAt place result }
+    {
+        let Place { line, column } = place;
         match path_text(alloc, &path) {
             Ok(path) => LinesFault::Wrong {
                 line,

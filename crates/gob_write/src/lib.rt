@@ -7,15 +7,17 @@
 #![tactic(auto)]
 
 mod fault;
-mod go;
 mod lines;
+mod place;
 mod run;
+mod shown;
 mod source;
+mod texts;
 mod types;
 mod writer;
 
 pub use fault::LinesFault;
-pub use go::run_write_go;
-pub use run::{run_make, run_write};
+pub use run::run_make;
+pub use shown::{ShownLines, run_write};
 pub use source::{SourceTypesFault, types_of_source};
 pub use types::{Definition, Types, TypesFault, read_types};

@@ -43,8 +43,8 @@ pub(crate) fn next_line<R: Read, W: Write>(
     }
 }
 
-/// The count, where a line may have so many bytes.
-fn within(count: usize, most: u64, number: u64) -> Result<usize, LinesFault>
+/// The count, where a line or a text may have so many bytes.
+pub(crate) fn within(count: usize, most: u64, number: u64) -> Result<usize, LinesFault>
     ensures count { IfOk result (λ n. (n ≡ count) × (count ≤ most)) }
     ensures long { IfErr result (λ f. (f ≡ LinesFault.TooLong number most) × (most < count)) }
 {
@@ -56,7 +56,7 @@ fn within(count: usize, most: u64, number: u64) -> Result<usize, LinesFault>
 
 /// Reads behind the bytes that wait, and answers how many came. What was written is flushed before, where the input
 /// may have to be waited for.
-fn read_on<R: Read, W: Write>(
+pub(crate) fn read_on<R: Read, W: Write>(
     input: &mut Input<R>,
     buffered: &mut Waiting,
     output: &mut Output<W>,

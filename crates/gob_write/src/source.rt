@@ -9,7 +9,9 @@ ghost use Rattle.gob_write.specs.Making.{definitions_of};
 ghost use Rattle.gob_write.specs.Source.{Asks, IsAsked, IsDescribable, IsOfSource, defines_each, defines_one};
 
 use crate::types::{Definition, Types};
-use gob_go_source::{Declaration, SourceFault, declared_in};
+use gob_go_source::{
+    Declaration, Position, SourceFault, Token, declared_in, position_of, tokens_in,
+};
 use gob_go_types::{Defined, TypesFault as DeclaredFault, types_of};
 use gob_num::Memory;
 use gob_value::describe;
@@ -25,8 +27,8 @@ const LONGEST_SHOWN: usize = 100;
 pub enum SourceTypesFault<'a> {
     /// The source isn't read.
     Source(SourceFault),
-    /// What it declares has no definitions.
-    Types(DeclaredFault<'a>),
+    /// What it declares has no definitions; where that is put down to a name, this is the first place that has it.
+    Types(DeclaredFault<'a>, Option<Position>),
     /// No memory was had.
     Memory,
 }
@@ -35,7 +37,13 @@ impl fmt::Display for SourceTypesFault<'_> {
     fn fmt<W: fmt::Write>(&self, f: &mut fmt::Formatter<W>) -> fmt::Result {
         match self {
             SourceTypesFault::Source(fault) => write!(f, "gob: types: {fault}"),
-            SourceTypesFault::Types(fault) => write_undefined(*fault, f),
+            SourceTypesFault::Types(fault, place) => {
+                write!(f, "gob: types: ")?;
+                if let Some(place) = place {
+                    write!(f, "line {}, column {}: ", place.line, place.column)?;
+                }
+                write_undefined(*fault, f)
+            }
             SourceTypesFault::Memory => write!(f, "gob: out of memory"),
         }
     }
@@ -47,26 +55,19 @@ fn write_undefined<W: fmt::Write>(
     f: &mut fmt::Formatter<W>,
 ) -> fmt::Result {
     match fault {
-        DeclaredFault::Twice(name) => write!(f, "gob: types: {} is declared twice", front(name)),
-        DeclaredFault::Undeclared(name) => write!(f, "gob: types: {} isn't declared", front(name)),
+        DeclaredFault::Twice(name) => write!(f, "{} is declared twice", front(name)),
+        DeclaredFault::Undeclared(name) => write!(f, "{} isn't declared", front(name)),
         DeclaredFault::Unknown(package, name) => {
-            write!(
-                f,
-                "gob: types: {}.{} isn't known",
-                front(package),
-                front(name)
-            )
+            write!(f, "{}.{} isn't known", front(package), front(name))
         }
         DeclaredFault::Methodless(package, name) => write!(
             f,
-            "gob: types: a type declared by {}.{} doesn't encode itself",
+            "a type declared by {}.{} doesn't encode itself",
             front(package),
             front(name)
         ),
-        DeclaredFault::Long(count) => {
-            write!(f, "gob: types: an array of {count} elements is too long")
-        }
-        other => write!(f, "gob: types: {}", words(other)),
+        DeclaredFault::Long(count) => write!(f, "an array of {count} elements is too long"),
+        other => f.write_str(words(other)),
     }
 }
 
@@ -105,20 +106,6 @@ impl<'a> From<SourceFault> for SourceTypesFault<'a> {
     }
 }
 
-impl<'a> From<DeclaredFault<'a>> for SourceTypesFault<'a> {
-    ghost use Rattle.std.specs.Prelude.{◌≡◌};
-    ghost use Rattle.gob_write.specs.Source.{declared_fault};
-
-    ghost from_gives = { λ given fault. fault ≡ declared_fault given };
-
-    fn from(fault: DeclaredFault<'a>) -> SourceTypesFault<'a> {
-        match fault {
-            DeclaredFault::Memory => SourceTypesFault::Memory,
-            other => SourceTypesFault::Types(other),
-        }
-    }
-}
-
 impl<'a> From<Memory> for SourceTypesFault<'a> {
     ghost use Rattle.std.specs.Prelude.{◌≡◌};
     ghost use Rattle.gob_write.specs.declared.source.SourceTypesFault.TheVariants.{Memory};
@@ -143,13 +130,41 @@ pub fn types_of_source<'a>(
 {
     let source = declared_in(alloc, text)?;
     let name = name_in(&source.declarations, named);
-    let found = types_of(alloc, &source, name)?;
+    let found = match types_of(alloc, &source, name) {
+        Ok(found) => found,
+        Err(fault) => return Err(undefined(alloc, text, fault)),
+    };
     let definitions = described(alloc, &found.definitions)?;
     Ok(Types {
         definitions,
         id: found.id,
         lenient,
     })
+}
+
+// Why what the text declares has no definitions, and where.
+fn undefined<'a>(alloc: Global, text: &'a [u8], fault: DeclaredFault<'a>) -> SourceTypesFault<'a> {
+    match fault {
+        DeclaredFault::Memory => SourceTypesFault::Memory,
+        DeclaredFault::Twice(name)
+        | DeclaredFault::Undeclared(name)
+        | DeclaredFault::Unknown(_, name)
+        | DeclaredFault::Methodless(_, name) => {
+            SourceTypesFault::Types(fault, place_of(alloc, text, name))
+        }
+        _ => SourceTypesFault::Types(fault, None),
+    }
+}
+
+// Where the text first has the name as a token. None: nowhere, or no memory was had to look for it.
+fn place_of(alloc: Global, text: &[u8], name: &[u8]) -> Option<Position> {
+    let lexed = tokens_in(alloc, text).ok()?;
+    for (token, offset) in lexed.tokens.iter().zip(&lexed.offsets) {
+        if matches!(token, Token::Name(found) if *found == name) {
+            return Some(position_of(text, *offset));
+        }
+    }
+    None
 }
 
 // The name of the type that is asked for, where a word asks for one.
@@ -204,7 +219,7 @@ fn definition_of<'a>(alloc: Global, defined: &Defined) -> Result<Definition, Sou
     ensures { IfOk result (λ d. defines d.id (view d.described) ≡ defines_one defined.now) }
 {
     if !is_describable(defined) {
-        return Err(SourceTypesFault::Types(DeclaredFault::Broken));
+        return Err(SourceTypesFault::Types(DeclaredFault::Broken, None));
     }
     let described = describe(alloc, defined.id, &defined.shape)?;
     Ok(Definition {

@@ -4,17 +4,22 @@ use crate::devices::{ByteReader, ByteWriter};
 use crate::runs::{MOST, ends_so};
 use gob_stream::{Input, Limits, Output};
 use gob_test_rows::bytes_of;
-use gob_write::{LinesFault, run_write_go};
+use gob_write::{LinesFault, ShownLines, run_write};
 use std::alloc::Global;
 use std::io::{Read, Write};
 use std::test::*;
 
 // Lines, their stream, and the line of the fault, empty where there is none.
-const ROWS: [(&str, &str, &str); 12] = [
+const ROWS: [(&str, &str, &str); 13] = [
     ("\n{\"type\":2,\"value\":3}\n", "03 04 00 06", ""),
     ("{\"type\":8,\"value\":null}\n", "03 10 00 00", ""),
     (
         "{\"type\":8,\"value\":{\"interface\":{\"name\":\"int\",\"type\":2,\"value\":3}}}\n",
+        "0a 10 00 03 69 6e 74 04 02 00 06",
+        "",
+    ),
+    (
+        "{\"type\":\"8\",\"value\":{\"interface\":{\"name\":\"int\",\"type\":\"2\",\"value\":\"3\"}}}\n",
         "0a 10 00 03 69 6e 74 04 02 00 06",
         "",
     ),
@@ -82,7 +87,11 @@ fn run_go<R: Read + Drop, W: Write + Drop>(
 ) -> Result<(), LinesFault> {
     let mut input = Input::new(reader);
     let mut output = Output::new(writer);
-    run_write_go(alloc, &mut input, &mut output, Limits::standard(), MOST)
+    let lines = ShownLines {
+        most: MOST,
+        holds: true,
+    };
+    run_write(alloc, &mut input, &mut output, Limits::standard(), lines)
 }
 
 // Whether a run over this reader writes this, and ends by a fault with this line, or without one where it is empty.

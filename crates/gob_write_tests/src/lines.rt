@@ -6,7 +6,7 @@ use std::alloc::Global;
 use std::test::*;
 
 // Lines, their stream, and the line of the fault, empty where there is none.
-const ROWS: [(&str, &str, &str); 24] = [
+const ROWS: [(&str, &str, &str); 31] = [
     ("", "", ""),
     ("\n \t\r\n", "", ""),
     ("{\"type\":2,\"value\":3}", "03 04 00 06", ""),
@@ -20,6 +20,7 @@ const ROWS: [(&str, &str, &str); 24] = [
         "0b 04 00 f8 ff ff ff ff ff ff ff ff",
         "",
     ),
+    ("{\"type\":\"2\",\"value\":\"-3\"}\n", "03 04 00 05", ""),
     (
         "{\"type\":7,\"value\":[\"4031000000000000\",\"0000000000000000\"]}\n",
         "06 0e 00 fe 31 40 00",
@@ -65,7 +66,7 @@ const ROWS: [(&str, &str, &str); 24] = [
         "",
     ),
     (
-        "{\"type\":2,\"value\":3}\n{\"type\":2,\"value\":\"3\"}\n",
+        "{\"type\":2,\"value\":3}\n{\"type\":2,\"value\":\"3a\"}\n",
         "03 04 00 06",
         "gob: line 2, column 19: a whole number of 64 bits is due",
     ),
@@ -110,6 +111,37 @@ const ROWS: [(&str, &str, &str); 24] = [
         "{\"define\":63,\"elem\":2,\"kind\":\"slice\",\"name\":\"\"}\n",
         "",
         "gob: line 1: refused 7 ReservedType(63)",
+    ),
+    (
+        "{\"define\":\"65\",\"name\":\"\",\"len\":\"2\",\"kind\":\"array\",\"elem\":\"2\"}\n\
+            {\"type\":65,\"value\":[1,2]}\n",
+        "0e ff 81 01 01 02 ff 82 00 01 04 01 04 00 00 06 ff 82 00 02 02 04",
+        "",
+    ),
+    (
+        "{\"define\":65,\"name\":\"Point\",\"kind\":\"struct\",\"fields\":[[\"X\",\"2\"],[\"Y\",2]]}\n",
+        "POINT",
+        "",
+    ),
+    (
+        "{\"define\":65,\"elem\":2,\"elem\":2,\"kind\":\"slice\",\"name\":\"\"}\n",
+        "",
+        "gob: line 1, column 23: another key is due",
+    ),
+    (
+        "{\"define\":65,\"elem\":2,\"kind\":\"slice\",\"len\":1,\"name\":\"\"}\n",
+        "",
+        "gob: line 1, column 55: a definition of its kind without the key \"len\" is due",
+    ),
+    (
+        "{\"define\":65,\"elem\":2,\"kind\":\"map\",\"name\":\"\"}\n",
+        "",
+        "gob: line 1, column 45: the key \"key\" is due",
+    ),
+    (
+        "{\"define\":65,\"id\":3}\n",
+        "",
+        "gob: line 1, column 14: elem, fields, key, kind, len, name or the end of the object is due",
     ),
 ];
 

@@ -9,7 +9,7 @@ use std::test::*;
 
 // The stream of the types, JSON, what is written behind the definitions, and the line of the fault, empty where there
 // is none.
-const ROWS: [(&str, &str, &str, &str); 16] = [
+const ROWS: [(&str, &str, &str, &str); 22] = [
     ("POINT 07 ff 82 01 2c 01 42 00", "", "", ""),
     (
         "POINT 07 ff 82 01 2c 01 42 00",
@@ -91,11 +91,42 @@ const ROWS: [(&str, &str, &str, &str); 16] = [
         "gob: line 2, column 1: a string of base64 with padding is due",
     ),
     ("03 10 00 00", "null\n", "03 10 00 00", ""),
+    ("03 04 00 06", "3 4\n", "03 04 00 06 03 04 00 08", ""),
     (
         "03 04 00 06",
-        "3 4\n",
+        "3 4,5\n",
+        "03 04 00 06",
+        "gob: line 1, column 5: the end of the line is due",
+    ),
+    (
+        "POINT 07 ff 82 01 2c 01 42 00",
+        "{\"X\":0,\n \"Y\":33\n} {\"X\":22,\"Y\":33}{\"X\":null}",
+        "05 ff 82 02 42 00 07 ff 82 01 2c 01 42 00 03 ff 82 00",
         "",
-        "gob: line 1, column 3: the end of the line is due",
+    ),
+    (
+        "POINT 07 ff 82 01 2c 01 42 00",
+        "{} {}\n{\n  \"X\": 22,\n  \"Y\": 1.0\n}\n{}",
+        "03 ff 82 00 03 ff 82 00",
+        "gob: line 4, column 8, at .Y: a whole number of 64 bits is due",
+    ),
+    (
+        "POINT 07 ff 82 01 2c 01 42 00",
+        "{} {\"X\":1,\n\"Y\":2\n{}\n",
+        "03 ff 82 00",
+        "gob: line 3, column 1: the end of the object is due",
+    ),
+    (
+        "MAP 0a ff 82 00 02 01 61 02 01 61 04",
+        "{\"}\\\"{[\":1}\n{\"a",
+        "0a ff 82 00 01 04 7d 22 7b 5b 02",
+        "gob: line 2, column 2: the end of the object is due",
+    ),
+    (
+        "MAP 0a ff 82 00 02 01 61 02 01 61 04",
+        "{\"a\":1,\"a\":2}}{}",
+        "0a ff 82 00 02 01 61 02 01 61 04",
+        "gob: line 1, column 14: an object, or an array of [key,element] is due",
     ),
 ];
 

@@ -1,7 +1,7 @@
 //! Runs, and how they end.
 
 use gob_stream::{Input, Limits, Output};
-use gob_write::{LinesFault, run_write};
+use gob_write::{LinesFault, ShownLines, run_write};
 use std::alloc::Global;
 use std::io::{Read, Write};
 
@@ -22,7 +22,8 @@ pub(crate) fn run<R: Read + Drop, W: Write + Drop>(
 ) -> Result<(), LinesFault> {
     let mut input = Input::new(reader);
     let mut output = Output::new(writer);
-    run_write(alloc, &mut input, &mut output, Limits::standard(), most)
+    let lines = ShownLines { most, holds: false };
+    run_write(alloc, &mut input, &mut output, Limits::standard(), lines)
 }
 
 /// Whether a run ended by a fault with this line, or without one where the line is empty.

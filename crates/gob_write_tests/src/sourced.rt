@@ -53,13 +53,17 @@ const FAULTS: [(&str, &str, &str); 9] = [
     (
         "type T int; type T uint",
         "",
-        "gob: types: T is declared twice",
+        "gob: types: line 1, column 6: T is declared twice",
     ),
-    ("type T struct { A U }", "", "gob: types: U isn't declared"),
+    (
+        "type T struct { A U }",
+        "",
+        "gob: types: line 1, column 19: U isn't declared",
+    ),
     (
         "type T struct { A other.U }",
         "",
-        "gob: types: other.U isn't known",
+        "gob: types: line 1, column 25: other.U isn't known",
     ),
     (
         "type T chan int",

@@ -1,5 +1,5 @@
 pub mod FeedLaws
 pub mod CutLaws
 pub mod SayLaws
-pub mod OneShapeLaws
 pub mod OnceLaws
+pub mod ExactLaws

@@ -13,8 +13,8 @@ use Rattle.gob_stream.specs.Stream.{Stream}
 use Rattle.gob_lines.specs.Laws.{HaveFewFields}
 use Rattle.gob_tool.specs.Line.{line, lines}
 use Rattle.gob_write.specs.Lines.{AreLines}
-use Rattle.gob_write.specs.Running.{SayStream}
-use Rattle.gob_write.specs.Says.{as_shown}
+use Rattle.gob_write.specs.Exact.{exact_lines}
+use Rattle.gob_write.specs.Grammar.{SayItems}
 
 -- the second item is the first, with the description that a writer makes of its shape
 pub data IsMadeOf (T : Table) : StreamItem → StreamItem → Type 0 where
@@ -42,9 +42,9 @@ AreShort most (l ∷ rest) = (length l ≤ most) × AreShort most rest
 pub record SaysStream (L : Bounds) (most : ℕ) (text : List ℕ) (lines : List (List ℕ)) (items : List StreamItem)
     (bytes : List ℕ) (T : Table) : Type 0 where
   pub cut : AreLines most text lines []
-  pub say : SayStream (as_shown L) lines items bytes T
+  pub say : SayItems (exact_lines L) lines items bytes T
   pub only : (others : List StreamItem) (c : List ℕ) (U : Table) → AreBytes bytes → AreBytes c
-      → SayStream (as_shown L) lines others c U → (others ≡ items) × (c ≡ bytes)
+      → SayItems (exact_lines L) lines others c U → (others ≡ items) × (c ≡ bytes)
 
 -- the text that `show` prints of a stream says the stream of its items, each description as a writer makes it
 abbrev pub ShownStreamsAreWrittenBack : Type 0

@@ -6,20 +6,19 @@ use Rattle.serde_json.specs.Data.{Data, array}
 use Rattle.gob_num.specs.Unsigned.{IsUnsigned}
 use Rattle.gob_num.specs.Spelled.{Appends}
 use Rattle.gob_num.proofs.PublicLaws.{unsigned_unique}
-use Rattle.gob_types.specs.Defined.{types}
 use Rattle.gob_types.specs.declared.id.TypeId.{TypeId}
 use Rattle.gob_types.specs.declared.basic.Basic.TheVariants as basic
 use Rattle.gob_types.specs.declared.kind.Field.{Field}
 use Rattle.gob_types.specs.declared.kind.Kind.TheVariants as kind
 use Rattle.gob_json.specs.Json.{pair_json, text_json}
 use Rattle.gob_lines.specs.Reads.{Reads}
-use Rattle.gob_lines.proofs.PartLaws.{natural_it}
+use Rattle.gob_lines.proofs.PartLaws.{natural_once}
 use Rattle.gob_lines.proofs.UniqueLaws.{J, JS, behind, number_small}
 use Rattle.gob_lines.proofs.WholeLaws.{fault_reads, field_known}
 use Rattle.gob_go_lines.specs.Says.{Says, SaysAs, SaysEach, SaysFields, SaysPairs, SaysTop, element, items_of}
 use Rattle.gob_go_lines.specs.Says.{no_element, no_entry, of_map, of_slice, of_struct}
 use Rattle.gob_go_lines.specs.declared.put.Parts.{Parts}
-use Rattle.gob_go_lines.specs.Lines.{PutsIt, PutsSaid, SpellsHeld}
+use Rattle.gob_go_lines.specs.Lines.{PutsIt, PutsSaid, SpellsHeld, known}
 use Rattle.gob_go_lines.proofs.HeldLaws.{held_said, held_stands_there, held_top, held_was_put, nil_said}
 use Rattle.gob_go_lines.proofs.HeldLaws.{nil_stands_there}
 use Rattle.gob_go_lines.proofs.HeldLaws.{one_stands_there, signed_small}
@@ -39,7 +38,7 @@ use Rattle.gob_go_lines.proofs.value.+depth.Goals as goal
 pub read_elements-elements-init : goal.read_elements-elements-init
 read_elements-elements-init t c =
     let none : c.new-bytes.result.items ≡ [] = search rules in
-    let Is = SaysEach (types c.args.table.now) c.args.id c.args.depth in
+    let Is = SaysEach (known c.args.reading.now) c.args.reading.now.holds c.args.id c.args.depth in
     let at = c.in_ok-take_array.ensures.ok in
     record {
       says = rw none (none_said Is c.args.tokens.now c.take_array.new.tokens [] at);
@@ -85,7 +84,8 @@ read_elements-elements-smaller t c =
 pub read_entries-entries-init : goal.read_entries-entries-init
 read_entries-entries-init t c =
     let none : c.new-bytes.result.items ≡ [] = search rules in
-    let Is = SaysPairs (types c.args.table.now) c.args.entry.key c.args.entry.elem c.args.depth in
+    let Is = SaysPairs (known c.args.reading.now) c.args.reading.now.holds c.args.entry.key c.args.entry.elem
+    c.args.depth in
     let at = c.in_ok-take_array.ensures.ok in
     record {
       says = rw none (none_said Is c.args.tokens.now c.take_array.new.tokens [] at);
@@ -166,7 +166,7 @@ read_entries-returns-clause-whole t c = λ js b rest h s.
 
 pub put_fields-present-init : goal.put_fields-present-init
 put_fields-present-init t c =
-    let Is = SaysFields (types c.args.table.now) c.args.fields.now 0 c.args.depth in
+    let Is = SaysFields (known c.args.reading.now) c.args.reading.now.holds c.args.fields.now 0 c.args.depth in
     let at = c.in_ok-take_array.ensures.ok in
     record {
       says = (0, none_said Is c.args.tokens.now c.take_array.new.tokens c.args.out.now.items at);
@@ -175,7 +175,7 @@ put_fields-present-init t c =
 
 pub put_fields-present-preserved : goal.put_fields-present-preserved
 put_fields-present-preserved t c =
-    let T = types c.args.table.now in
+    let T = known c.args.reading.now in
     let fields = c.args.fields.now in
     let number = c.in_ok-number.number in
     let same = c.present-test.ensures in
@@ -183,15 +183,16 @@ put_fields-present-preserved t c =
     let p = c.in-Ok.ensures.says in
     let delta = c.in_ok-write_uint.ensures.ok in
     let name = rw c.as_bytes.ensures at c.in_ok-take_name.ensures.read in
-    let tokens = field_tokens number found.name p.json c.present.tokens c.take_array-in-present.new.tokens
+    let got = c.in_ok-number.ensures.ok in
+    let tokens = field_tokens got.json found.name p.json c.present.tokens c.take_array-in-present.new.tokens
     c.read_uint.new.tokens c.take_name.new.tokens c.put_value.new.tokens c.take_array_end.new.tokens
-    (sym same.1 ∙ c.in_ok-take_array-2.ensures.ok) c.in_ok-number.ensures.ok name p.reads
-    c.in_ok-take_array_end.ensures.ok in
+    (sym same.1 ∙ c.in_ok-take_array-2.ensures.ok) got.reads name p.reads c.in_ok-take_array_end.ensures.ok in
     record {
       says = (
         c.present.invariant.says.0 + 1,
-        one_field_said c.take_array_end.new.tokens c.put_value.new.out.items number found p.json delta.bytes p.bytes
-            c.present.invariant.says.1 tokens c.in-Some.ensures.order c.in-Some.ensures.found delta.spelled p.says
+        one_field_said c.take_array_end.new.tokens c.put_value.new.out.items number found got.json p.json delta.bytes
+            p.bytes c.present.invariant.says.1 tokens c.in-Some.ensures.order c.in-Some.ensures.found delta.spelled
+            got.is p.says
             (p.appended ∙ ap (λ (l : List ℕ). l ++ p.bytes) delta.appended),
       );
       leaves = (
@@ -203,13 +204,15 @@ put_fields-present-preserved t c =
             let at = ap behind (sym c.in_ok-take_array-2.ensures.ok ∙ same.1 ∙ n.stand) in
             let few : length fields < 2 ^ 64 = omega arith in
             let small = number_small fields n.at n.named few n.there in
-            let it = natural_it number n.at c.take_array-in-present.new.tokens c.read_uint.new.tokens
-            (J (text_json n.named.name) ++ whole) c.in_ok-number.ensures.fits small c.in_ok-number.ensures.ok at in
+            let got = c.in_ok-number.ensures.ok in
+            let it = natural_once c.take_array-in-present.new.tokens c.read_uint.new.tokens
+            (J (text_json n.named.name) ++ whole) c.in_ok-number.ensures.fits small got.is got.reads n.numbered at in
             let one = field_known fields it.0 c.in-Some.ensures.found n.there in
             let stands = subst (λ (l : List ℕ). Reads (text_json l) c.read_uint.new.tokens whole)
             (sym (c.as_bytes.ensures ∙ ap (λ (f : Field). f.name) one)) it.1 in
             let named = c.in_ok-take_name.ensures.whole whole stands in
-            let says = subst (λ (f : Field). Says T f.id c.args.depth n.json n.bytes) (sym one) n.says in
+            let says = subst (λ (f : Field). Says T c.args.reading.now.holds f.id c.args.depth n.json n.bytes)
+            (sym one) n.says in
             let value = c.in-Ok.ensures.whole n.json n.bytes last says named in
             let front : delta.bytes ≡ n.delta =
             unsigned_unique delta.spelled (subst (λ (k : ℕ). IsUnsigned (k + 1 - c.present.next) n.delta) (sym it.0)
@@ -217,7 +220,8 @@ put_fields-present-preserved t c =
             in
             let put = value.1 ∙ ap (λ (l : List ℕ). l ++ n.bytes)
             (delta.appended ∙ ap (λ (l : List ℕ). c.present.out.items ++ l) front) in
-            subst (λ (k : ℕ). HasLeft (SaysFields T fields (k + 1) c.args.depth) c.take_array_end.new.tokens rest
+            subst (λ (k : ℕ). HasLeft (SaysFields T c.args.reading.now.holds fields (k + 1) c.args.depth)
+            c.take_array_end.new.tokens rest
             (c.present.invariant.leaves.0 + 1) (length js) c.put_value.new.out.items (c.args.out.now.items ++ b)) (sym
             it.0)
             (field_read c.take_array_end.new.tokens c.put_value.new.out.items n
@@ -245,7 +249,7 @@ put_fields-returns-in_err-number-clause-whole t c = λ js b rest h s.
     let small = number_small fields n.at n.named few n.there in
     fault_puts c.from_residual-in_err-number.result c.in_err-number.field-0.0 c.read_uint.new.tokens rest
     c.args.out.now.items c.present.out.items b c.from_residual-in_err-number.ensures.1
-    (λ w. c.in_err-number.ensures.none w n.at (J (text_json n.named.name) ++ whole) small at)
+    (λ w. c.in_err-number.ensures.none w n.at n.number (J (text_json n.named.name) ++ whole) small n.numbered at)
 
 pub put_fields-returns-in_default-clause-whole : goal.put_fields-returns-in_default-clause-whole
 put_fields-returns-in_default-clause-whole t c = λ js b rest h s w.
@@ -258,8 +262,9 @@ put_fields-returns-in_default-clause-whole t c = λ js b rest h s w.
     let at = ap behind (sym c.in_ok-take_array-2.ensures.ok ∙ same.1 ∙ n.stand) in
     let few : length fields < 2 ^ 64 = omega arith in
     let small = number_small fields n.at n.named few n.there in
-    let it = natural_it number n.at c.take_array-in-present.new.tokens c.read_uint.new.tokens
-    (J (text_json n.named.name) ++ whole) c.in_ok-number.ensures.fits small c.in_ok-number.ensures.ok at in
+    let got = c.in_ok-number.ensures.ok in
+    let it = natural_once c.take_array-in-present.new.tokens c.read_uint.new.tokens
+    (J (text_json n.named.name) ++ whole) c.in_ok-number.ensures.fits small got.is got.reads n.numbered at in
     let later = subst (λ (k : ℕ). c.present.next ≤ k) (sym it.0) n.later in
     let lost : slice_get fields number ≡ None = c.field_from.ensures.lost c.in_default.is later in
     let both = sym lost ∙ ap (λ (k : ℕ). slice_get fields k) it.0 ∙ n.there in
@@ -276,8 +281,9 @@ put_fields-returns-in_err-take_name-clause-whole t c = λ js b rest h s.
     let at = ap behind (sym c.in_ok-take_array-2.ensures.ok ∙ same.1 ∙ n.stand) in
     let few : length fields < 2 ^ 64 = omega arith in
     let small = number_small fields n.at n.named few n.there in
-    let it = natural_it number n.at c.take_array-in-present.new.tokens c.read_uint.new.tokens
-    (J (text_json n.named.name) ++ whole) c.in_ok-number.ensures.fits small c.in_ok-number.ensures.ok at in
+    let got = c.in_ok-number.ensures.ok in
+    let it = natural_once c.take_array-in-present.new.tokens c.read_uint.new.tokens
+    (J (text_json n.named.name) ++ whole) c.in_ok-number.ensures.fits small got.is got.reads n.numbered at in
     let one = field_known fields it.0 c.in-Some.ensures.found n.there in
     let stands = subst (λ (l : List ℕ). Reads (text_json l) c.read_uint.new.tokens whole)
     (sym (c.as_bytes.ensures ∙ ap (λ (f : Field). f.name) one)) it.1 in
@@ -287,7 +293,7 @@ put_fields-returns-in_err-take_name-clause-whole t c = λ js b rest h s.
 
 pub put_fields-returns-in-Err-clause-whole : goal.put_fields-returns-in-Err-clause-whole
 put_fields-returns-in-Err-clause-whole t c = λ js b rest h s w.
-    let T = types c.args.table.now in
+    let T = known c.args.reading.now in
     let fields = c.args.fields.now in
     let number = c.in_ok-number.number in
     let same = c.present-test.ensures in
@@ -297,18 +303,20 @@ put_fields-returns-in-Err-clause-whole t c = λ js b rest h s w.
     let at = ap behind (sym c.in_ok-take_array-2.ensures.ok ∙ same.1 ∙ n.stand) in
     let few : length fields < 2 ^ 64 = omega arith in
     let small = number_small fields n.at n.named few n.there in
-    let it = natural_it number n.at c.take_array-in-present.new.tokens c.read_uint.new.tokens
-    (J (text_json n.named.name) ++ whole) c.in_ok-number.ensures.fits small c.in_ok-number.ensures.ok at in
+    let got = c.in_ok-number.ensures.ok in
+    let it = natural_once c.take_array-in-present.new.tokens c.read_uint.new.tokens
+    (J (text_json n.named.name) ++ whole) c.in_ok-number.ensures.fits small got.is got.reads n.numbered at in
     let one = field_known fields it.0 c.in-Some.ensures.found n.there in
     let stands = subst (λ (l : List ℕ). Reads (text_json l) c.read_uint.new.tokens whole)
     (sym (c.as_bytes.ensures ∙ ap (λ (f : Field). f.name) one)) it.1 in
     let named = c.in_ok-take_name.ensures.whole whole stands in
-    let says = subst (λ (f : Field). Says T f.id c.args.depth n.json n.bytes) (sym one) n.says in
+    let says = subst (λ (f : Field). Says T c.args.reading.now.holds f.id c.args.depth n.json n.bytes)
+    (sym one) n.says in
     c.in-Err.ensures.whole n.json n.bytes last says named (c.within_field.ensures w)
 
 pub put_fields-returns-in_err-take_array_end-clause-whole : goal.put_fields-returns-in_err-take_array_end-clause-whole
 put_fields-returns-in_err-take_array_end-clause-whole t c = λ js b rest h s.
-    let T = types c.args.table.now in
+    let T = known c.args.reading.now in
     let fields = c.args.fields.now in
     let number = c.in_ok-number.number in
     let same = c.present-test.ensures in
@@ -318,13 +326,15 @@ put_fields-returns-in_err-take_array_end-clause-whole t c = λ js b rest h s.
     let at = ap behind (sym c.in_ok-take_array-2.ensures.ok ∙ same.1 ∙ n.stand) in
     let few : length fields < 2 ^ 64 = omega arith in
     let small = number_small fields n.at n.named few n.there in
-    let it = natural_it number n.at c.take_array-in-present.new.tokens c.read_uint.new.tokens
-    (J (text_json n.named.name) ++ whole) c.in_ok-number.ensures.fits small c.in_ok-number.ensures.ok at in
+    let got = c.in_ok-number.ensures.ok in
+    let it = natural_once c.take_array-in-present.new.tokens c.read_uint.new.tokens
+    (J (text_json n.named.name) ++ whole) c.in_ok-number.ensures.fits small got.is got.reads n.numbered at in
     let one = field_known fields it.0 c.in-Some.ensures.found n.there in
     let stands = subst (λ (l : List ℕ). Reads (text_json l) c.read_uint.new.tokens whole)
     (sym (c.as_bytes.ensures ∙ ap (λ (f : Field). f.name) one)) it.1 in
     let named = c.in_ok-take_name.ensures.whole whole stands in
-    let says = subst (λ (f : Field). Says T f.id c.args.depth n.json n.bytes) (sym one) n.says in
+    let says = subst (λ (f : Field). Says T c.args.reading.now.holds f.id c.args.depth n.json n.bytes)
+    (sym one) n.says in
     let value = c.in-Ok.ensures.whole n.json n.bytes last says named in
     fault_puts c.from_residual-in_err-take_array_end.result c.in_err-take_array_end.field-0.0
     c.take_array_end.new.tokens rest c.args.out.now.items c.put_value.new.out.items b
@@ -367,7 +377,7 @@ put_interface-returns-in_err-take_nil-clause-whole t c = λ j b rest h s.
 
 pub put_interface-returns-in_err-held-clause-whole : goal.put_interface-returns-in_err-held-clause-whole
 put_interface-returns-in_err-held-clause-whole t c = λ j b rest h s.
-    let it = held_stands_there (interface_stands h) s (c.in_ok-take_nil.ensures.held (search rules)) in
+    let it = held_stands_there (interface_stands h) s (c.in_ok-take_nil.ensures.held (search rules)).0 in
     let k = it.stands in
     fault_puts c.from_residual-in_err-held.result c.in_err-held.field-0.0 c.take_held.new.tokens rest
     c.args.out.now.items c.args.out.now.items b c.from_residual-in_err-held.ensures.1
@@ -376,12 +386,12 @@ put_interface-returns-in_err-held-clause-whole t c = λ j b rest h s.
 
 pub put_interface-returns-in_err-put_top-clause-whole : goal.put_interface-returns-in_err-put_top-clause-whole
 put_interface-returns-in_err-put_top-clause-whole t c = λ j b rest h s.
-    let it = held_stands_there (interface_stands h) s (c.in_ok-take_nil.ensures.held (search rules)) in
+    let it = held_stands_there (interface_stands h) s (c.in_ok-take_nil.ensures.held (search rules)).0 in
     let k = it.stands in
     let last = Token.end_object ∷ (Token.end_object ∷ rest) in
     let front = c.in_ok-held.ensures.whole k.name k.held (J k.json ++ last) k.holds k.some k.may (signed_small k.typed)
     it.tokens in
-    let says = held_top (types c.args.table.now) c.args.depth c.in_ok-held.held.id k
+    let says = held_top (known c.args.reading.now) c.args.depth c.in_ok-held.held.id k
     (ap (λ (p : List ℕ × TypeId). p.1) front.0) in
     fault_puts c.from_residual-in_err-put_top.result c.in_err-put_top.field-0.0 c.put_top.new.tokens rest
     c.args.out.now.items c.args.out.now.items b c.from_residual-in_err-put_top.ensures.1
@@ -390,12 +400,12 @@ put_interface-returns-in_err-put_top-clause-whole t c = λ j b rest h s.
 pub put_interface-returns-in_err-take_held_end-clause-whole :
     goal.put_interface-returns-in_err-take_held_end-clause-whole
 put_interface-returns-in_err-take_held_end-clause-whole t c = λ j b rest h s.
-    let it = held_stands_there (interface_stands h) s (c.in_ok-take_nil.ensures.held (search rules)) in
+    let it = held_stands_there (interface_stands h) s (c.in_ok-take_nil.ensures.held (search rules)).0 in
     let k = it.stands in
     let last = Token.end_object ∷ (Token.end_object ∷ rest) in
     let front = c.in_ok-held.ensures.whole k.name k.held (J k.json ++ last) k.holds k.some k.may (signed_small k.typed)
     it.tokens in
-    let says = held_top (types c.args.table.now) c.args.depth c.in_ok-held.held.id k
+    let says = held_top (known c.args.reading.now) c.args.depth c.in_ok-held.held.id k
     (ap (λ (p : List ℕ × TypeId). p.1) front.0) in
     let value = c.in_ok-put_top.ensures.whole k.json k.value last says front.1 in
     fault_puts c.from_residual-in_err-take_held_end.result c.in_err-take_held_end.field-0.0
@@ -406,7 +416,8 @@ pub put_interface-returns-clause-says : goal.put_interface-returns-clause-says
 put_interface-returns-clause-says t c =
     let none : c.new-body.result.items ≡ [] = search rules in
     let held = c.in_ok-held.held in
-    let body = subst (λ (b : List ℕ). PutsSaid (SaysTop (types c.args.table.now) held.id c.args.depth)
+    let body = subst (λ (b : List ℕ). PutsSaid
+    (SaysTop (known c.args.reading.now) c.args.reading.now.holds held.id c.args.depth)
     c.take_held.new.tokens c.put_top.new.tokens b c.put_top.new.out.items) none c.in_ok-put_top.ensures.says in
     let put = subst (λ (b : List ℕ). OnOk c.put_held.result (Appends (SpellsHeld held.name.items held.id b)
     c.args.out.now.items c.put_held.new.out.items)) c.deref.ensures.value c.put_held.ensures.ok in
@@ -418,12 +429,12 @@ put_interface-returns-clause-says t c =
 pub put_interface-returns-clause-whole : goal.put_interface-returns-clause-whole
 put_interface-returns-clause-whole t c = λ j b rest h s.
     let none : c.new-body.result.items ≡ [] = search rules in
-    let it = held_stands_there (interface_stands h) s (c.in_ok-take_nil.ensures.held (search rules)) in
+    let it = held_stands_there (interface_stands h) s (c.in_ok-take_nil.ensures.held (search rules)).0 in
     let k = it.stands in
     let last = Token.end_object ∷ (Token.end_object ∷ rest) in
     let front = c.in_ok-held.ensures.whole k.name k.held (J k.json ++ last) k.holds k.some k.may (signed_small k.typed)
     it.tokens in
-    let says = held_top (types c.args.table.now) c.args.depth c.in_ok-held.held.id k
+    let says = held_top (known c.args.reading.now) c.args.depth c.in_ok-held.held.id k
     (ap (λ (p : List ℕ × TypeId). p.1) front.0) in
     let value = c.in_ok-put_top.ensures.whole k.json k.value last says front.1 in
     let end = c.in_ok-take_held_end.ensures.whole rest value.0 in
@@ -445,7 +456,8 @@ put_top-returns-then-has_structs-clause-whole t c = λ j b rest h s.
 
 pub put_top-returns-clause-says : goal.put_top-returns-clause-says
 put_top-returns-clause-says t c =
-    tag_said c.args.depth c.put_value-2.result c.args.tokens.now c.put_value-2.new.tokens c.args.out.now.items
+    tag_said c.args.reading.now.holds c.args.depth c.put_value-2.result c.args.tokens.now c.put_value-2.new.tokens
+    c.args.out.now.items
     c.push.new.self.items
     c.put_value-2.new.out.items (λ h. let yes = c.has_structs.ensures.1 h in grind (arith, yes)) (search rules)
     c.put_value-2.ensures.says
@@ -464,8 +476,8 @@ put_value-returns-then-depth-eq0-clause-whole t c = λ j b rest h s w.
 
 pub put_value-returns-in_default-clause-whole : goal.put_value-returns-in_default-clause-whole
 put_value-returns-in_default-clause-whole t c = λ j b rest h s w.
-    let known = is_known h in
-    let both = c.shape_of.ensures ∙ known.1 in grind (arith, both)
+    let there = is_known h in
+    let both = c.shape_of.ensures ∙ there.1 in grind (arith, both)
 
 pub put_value-returns-in_err-elements-in-Array-clause-whole :
     goal.put_value-returns-in_err-elements-in-Array-clause-whole
@@ -481,7 +493,8 @@ put_value-returns-in_err-elements-in-Array-clause-whole t c = λ j b rest h s.
 pub put_value-returns-in_ok-elements-in-Array-clause-says : goal.put_value-returns-in_ok-elements-in-Array-clause-says
 put_value-returns-in_ok-elements-in-Array-clause-says t c =
     let parts = c.in_ok-elements-in-Array.elements in
-    kind_said (types c.args.table.now) c.args.id c.put_array.result c.args.tokens.now c.read_elements.new.tokens
+    kind_said (known c.args.reading.now) c.args.reading.now.holds c.args.id c.put_array.result c.args.tokens.now
+    c.read_elements.new.tokens
     c.args.out.now.items
     c.put_array.new.out.items
     (sym c.in-Some.ensures) c.in-Array.is (omega arith)
@@ -514,7 +527,7 @@ put_value-returns-in_err-elements-in-Slice-clause-whole t c = λ j b rest h s.
 pub put_value-returns-in_ok-elements-in-Slice-clause-says : goal.put_value-returns-in_ok-elements-in-Slice-clause-says
 put_value-returns-in_ok-elements-in-Slice-clause-says t c =
     let parts = c.in_ok-elements-in-Slice.elements in
-    kind_said (types c.args.table.now) c.args.id c.put_parts.result c.args.tokens.now
+    kind_said (known c.args.reading.now) c.args.reading.now.holds c.args.id c.put_parts.result c.args.tokens.now
     c.read_elements-in-Slice.new.tokens c.args.out.now.items
     c.put_parts.new.out.items
     (sym c.in-Some.ensures) c.in-Slice.is (omega arith)
@@ -545,7 +558,8 @@ put_value-returns-in_err-entries-in-Map-clause-whole t c = λ j b rest h s.
 pub put_value-returns-in_ok-entries-in-Map-clause-says : goal.put_value-returns-in_ok-entries-in-Map-clause-says
 put_value-returns-in_ok-entries-in-Map-clause-says t c =
     let parts = c.in_ok-entries-in-Map.entries in
-    kind_said (types c.args.table.now) c.args.id c.put_parts-in-Map.result c.args.tokens.now c.read_entries.new.tokens
+    kind_said (known c.args.reading.now) c.args.reading.now.holds c.args.id c.put_parts-in-Map.result c.args.tokens.now
+    c.read_entries.new.tokens
     c.args.out.now.items
     c.put_parts-in-Map.new.out.items
     (sym c.in-Some.ensures) c.in-Map.is (omega arith)
@@ -565,13 +579,15 @@ put_value-returns-in_ok-entries-in-Map-clause-whole t c = λ j b rest h s.
 
 pub put_value-returns-in-Struct-clause-says : goal.put_value-returns-in-Struct-clause-says
 put_value-returns-in-Struct-clause-says t c =
-    let T = types c.args.table.now in
-    kind_said (types c.args.table.now) c.args.id c.put_fields.result c.args.tokens.now c.put_fields.new.tokens
+    let T = known c.args.reading.now in
+    kind_said (known c.args.reading.now) c.args.reading.now.holds c.args.id c.put_fields.result c.args.tokens.now
+    c.put_fields.new.tokens
     c.args.out.now.items
     c.put_fields.new.out.items (sym c.in-Some.ensures)
     (c.in-Struct.is ∙ ap kind.Struct (sym c.as_slice.ensures)) (omega arith)
     (says_put c.put_fields.result c.args.tokens.now c.put_fields.new.tokens c.args.out.now.items
-    c.put_fields.new.out.items (λ j b k. subst (λ (d : Data). SaysAs T (kind.Struct c.as_slice.result.now)
+    c.put_fields.new.out.items (λ j b k. subst
+    (λ (d : Data). SaysAs T c.args.reading.now.holds (kind.Struct c.as_slice.result.now)
     c.args.depth d b) (sym k.is) (of_struct k.says)) c.put_fields.ensures.says)
 
 pub put_value-returns-in-Struct-clause-whole : goal.put_value-returns-in-Struct-clause-whole
@@ -582,7 +598,8 @@ put_value-returns-in-Struct-clause-whole t c = λ j b rest h s.
 
 pub put_value-returns-in-Opaque-clause-says : goal.put_value-returns-in-Opaque-clause-says
 put_value-returns-in-Opaque-clause-says t c =
-    opaque_kind (types c.args.table.now) c.args.id c.put_opaque.result c.args.tokens.now c.put_opaque.new.tokens
+    opaque_kind (known c.args.reading.now) c.args.reading.now.holds c.args.id c.put_opaque.result c.args.tokens.now
+    c.put_opaque.new.tokens
     c.args.out.now.items
     c.put_opaque.new.out.items (sym c.in-Some.ensures) c.in-Opaque.is (omega arith) c.put_opaque.ensures.says
 
@@ -595,7 +612,8 @@ put_value-returns-in-Opaque-clause-whole t c = λ j b rest h s.
 
 pub put_value-returns-in-Basic-clause-says : goal.put_value-returns-in-Basic-clause-says
 put_value-returns-in-Basic-clause-says t c =
-    basic_kind (types c.args.table.now) c.args.id c.put_basic.result c.args.tokens.now c.put_basic.new.tokens
+    basic_kind (known c.args.reading.now) c.args.reading.now.holds c.args.id c.put_basic.result c.args.tokens.now
+    c.put_basic.new.tokens
     c.args.out.now.items
     c.put_basic.new.out.items (sym c.in-Some.ensures) c.in-Basic.is (omega arith) c.put_basic.ensures.says
 
@@ -604,11 +622,13 @@ put_value-put_basic-requires t c = (c.in-Some.shape.now, sym c.in-Some.ensures, 
 
 pub put_value-returns-in-Basic-Interface-clause-says : goal.put_value-returns-in-Basic-Interface-clause-says
 put_value-returns-in-Basic-Interface-clause-says t c =
-    let T = types c.args.table.now in
+    let T = known c.args.reading.now in
     let one : c.args.depth - 1 + 1 ≡ c.args.depth = omega arith in
     let is : c.in-Some.shape.now.kind ≡ kind.Basic basic.Interface = search rules in
-    let put = subst (λ (l : ℕ). OnOk c.put_interface.result (PutsSaid (SaysAs T (kind.Basic basic.Interface) l)
+    let put = subst (λ (l : ℕ). OnOk c.put_interface.result
+    (PutsSaid (SaysAs T c.args.reading.now.holds (kind.Basic basic.Interface) l)
     c.args.tokens.now c.put_interface.new.tokens c.args.out.now.items c.put_interface.new.out.items)) one
     c.put_interface.ensures.says in
-    kind_said T c.args.id c.put_interface.result c.args.tokens.now c.put_interface.new.tokens c.args.out.now.items
+    kind_said T c.args.reading.now.holds c.args.id c.put_interface.result c.args.tokens.now c.put_interface.new.tokens
+    c.args.out.now.items
     c.put_interface.new.out.items (sym c.in-Some.ensures) is (omega arith) put

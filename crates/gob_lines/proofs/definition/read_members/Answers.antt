@@ -1,58 +1,44 @@
-use Rattle.std.proofs.Common.{◌∷◌, ◌∙◌, ap, codes, sym}
-use Rattle.json.specs.Token.{Token}
-use Rattle.json.specs.Tree.{json_tokens}
-use Rattle.serde_json.specs.Written.{outline}
-use Rattle.gob_types.specs.declared.kind.Shape.{Shape}
-use Rattle.gob_json.specs.Json.{text_json}
-use Rattle.gob_lines.proofs.ReadLaws.{between}
-use Rattle.gob_lines.proofs.ShapeLaws.{name_stands, shape_is}
-use Rattle.gob_lines.proofs.UniqueLaws.{are_bytes, behind}
-use Rattle.gob_lines.proofs.WholeLaws.{fault_reads}
+use Rattle.std.proofs.Common.{◌++◌}
+use Rattle.serde_json.specs.Data.{no_members}
+use Rattle.gob_lines.specs.Definition.{no_more}
+use Rattle.gob_lines.proofs.DefinitionLaws.{JM, fault_fills, part_before, part_behind, part_readable, part_stands}
+use Rattle.gob_lines.proofs.DefinitionLaws.{parts_begin, parts_end}
 use Rattle.gob_lines.proofs.definition.read_members.Goals as goal
 
-pub returns-clause-read : goal.returns-clause-read
-returns-clause-read c =
-    rw c.new.ensures (c.in_ok-kind.ensures.read c.in_ok-name.name.items c.take_object_end.new.tokens
-    (between (Token.key (codes "name")) Token.end_object (json_tokens (outline (text_json c.in_ok-name.name.items)))
-    _ _ _ _ c.in_ok-take_key.ensures.ok c.in_ok-name.ensures.read c.in_ok-take_object_end.ensures.ok))
+pub members-preserved : goal.members-preserved
+members-preserved c =
+    let stands = rw c.in-Some.is at c.in_ok-key.ensures.ok in
+    record {
+      read = λ all rest said.
+          c.members.invariant.read all rest (part_before stands c.in_ok-read_member-in-Some.ensures.read said);
+      leaves = λ all rest readable said.
+          let n = part_stands c.in-Some.key.now (c.members.invariant.leaves all rest readable said) stands in
+          part_behind n (c.in_ok-read_member-in-Some.ensures.whole n.part (JM n.members ++ rest)
+          (part_readable n readable) n.same n.fresh n.value);
+    }
 
-pub returns-in_err-kind-clause-whole : goal.returns-in_err-kind-clause-whole
-returns-in_err-kind-clause-whole c = λ s rest readable name said.
-    fault_reads (λ (x : Shape). x) c.from_residual.result c.in_err-kind.field-0.0 c.read_kind.new.tokens s rest
-    c.from_residual.ensures.1 (c.in_err-kind.ensures.whole s.kind s.name rest readable said)
+pub returns-in-None-clause-read : goal.returns-in-None-clause-read
+returns-in-None-clause-read c =
+    let stands = rw c.in-None.is at c.in_ok-key.ensures.ok in
+    c.members.invariant.read c.members.parts c.take_next_key.new.tokens
+    (record { members = no_members; says = no_more; reads = stands })
 
-pub returns-in_err-take_key-clause-whole : goal.returns-in_err-take_key-clause-whole
-returns-in_err-take_key-clause-whole c = λ s rest readable name said.
-    let kind = c.in_ok-kind.ensures.whole s.kind s.name rest readable said in
-    fault_reads (λ (x : Shape). x) c.from_residual-in_err-take_key.result c.in_err-take_key.field-0.0
-    c.take_key.new.tokens s rest c.from_residual-in_err-take_key.ensures.1
-    (λ w. c.in_err-take_key.ensures.none w _ kind.1)
+pub returns-in-None-clause-whole : goal.returns-in-None-clause-whole
+returns-in-None-clause-whole c = λ all rest readable said.
+    let stands = rw c.in-None.is at c.in_ok-key.ensures.ok in
+    parts_end (c.members.invariant.leaves all rest readable said) stands
 
-pub returns-in_err-name-clause-whole : goal.returns-in_err-name-clause-whole
-returns-in_err-name-clause-whole c = λ s rest readable name said.
-    let kind = c.in_ok-kind.ensures.whole s.kind s.name rest readable said in
-    let stands = name_stands s.name c.read_kind.new.tokens c.take_key.new.tokens rest kind.1
-    c.in_ok-take_key.ensures.ok in
-    fault_reads (λ (x : Shape). x) c.from_residual-in_err-name.result c.in_err-name.field-0.0 c.read_text.new.tokens s
-    rest c.from_residual-in_err-name.ensures.1
-    (c.in_err-name.ensures.whole s.name (Token.end_object ∷ rest) (are_bytes s.name name) stands)
+pub returns-in_err-key-clause-whole : goal.returns-in_err-key-clause-whole
+returns-in_err-key-clause-whole c = λ all rest readable said.
+    fault_fills c.from_residual.result c.in_err-key.field-0.0 c.members.parts all
+    c.take_next_key.new.tokens rest c.from_residual.ensures.1
+    (λ w. c.in_err-key.ensures.none (parts_begin (c.members.invariant.leaves all rest readable said)))
 
-pub returns-in_err-take_object_end-clause-whole : goal.returns-in_err-take_object_end-clause-whole
-returns-in_err-take_object_end-clause-whole c = λ s rest readable name said.
-    let kind = c.in_ok-kind.ensures.whole s.kind s.name rest readable said in
-    let stands = name_stands s.name c.read_kind.new.tokens c.take_key.new.tokens rest kind.1
-    c.in_ok-take_key.ensures.ok in
-    let text = c.in_ok-name.ensures.whole s.name (Token.end_object ∷ rest) (are_bytes s.name name) stands in
-    fault_reads (λ (x : Shape). x) c.from_residual-in_err-take_object_end.result
-    c.in_err-take_object_end.field-0.0 c.take_object_end.new.tokens s rest
-    c.from_residual-in_err-take_object_end.ensures.1 (λ w. c.in_err-take_object_end.ensures.none w rest text.1)
-
-pub returns-clause-whole : goal.returns-clause-whole
-returns-clause-whole c = λ s rest readable name said.
-    let kind = c.in_ok-kind.ensures.whole s.kind s.name rest readable said in
-    let stands = name_stands s.name c.read_kind.new.tokens c.take_key.new.tokens rest kind.1
-    c.in_ok-take_key.ensures.ok in
-    let text = c.in_ok-name.ensures.whole s.name (Token.end_object ∷ rest) (are_bytes s.name name) stands in (
-      shape_is s kind.0 (c.new.ensures ∙ text.0),
-      ap behind (sym c.in_ok-take_object_end.ensures.ok ∙ text.1),
-    )
+pub returns-in_err-read_member-in-Some-clause-whole : goal.returns-in_err-read_member-in-Some-clause-whole
+returns-in_err-read_member-in-Some-clause-whole c = λ all rest readable said.
+    let stands = rw c.in-Some.is at c.in_ok-key.ensures.ok in
+    let n = part_stands c.in-Some.key.now (c.members.invariant.leaves all rest readable said) stands in
+    fault_fills c.from_residual-in_err-read_member-in-Some.result c.in_err-read_member-in-Some.field-0.0
+    c.read_member.new.parts all c.read_member.new.tokens rest c.from_residual-in_err-read_member-in-Some.ensures.1
+    (c.in_err-read_member-in-Some.ensures.whole n.part (JM n.members ++ rest) (part_readable n readable) n.same
+    n.fresh n.value)

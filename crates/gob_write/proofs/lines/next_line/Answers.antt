@@ -1,24 +1,17 @@
 use Rattle.std.proofs.Common.{◌≡◌, ◌∙◌, refl, sym, ap, arith, subst}
-use Rattle.std.proofs.Common.{length, take, drop, ◌-◌, ◌≤◌, ℕ, List, Result, Ok, Err}
+use Rattle.std.proofs.Common.{length, take, drop, ◌-◌, ◌≤◌, ℕ, List}
 use Rattle.std.proofs.KnownBytes.{Keeps-refl, Keeps-trans}
 use Rattle.std.proofs.lemmas.List.{length-drop}
 use Rattle.gob_stream.specs.Calls.Ends.{reader_of}
 use Rattle.gob_stream.specs.Calls.Waiting.{waiting, Brings}
 use Rattle.gob_write.proofs.LineLaws.{HasNoFeed, no_feed, all_behind, none_waits, one_waits, line_waits, too_long}
-use Rattle.gob_write.proofs.LineLaws.{left_there, last_line, searched_there, longer_there}
-use Rattle.std.specs.Prelude.{IfOk}
-use Rattle.gob_write.specs.declared.fault.LinesFault.{LinesFault}
+use Rattle.gob_write.proofs.LineLaws.{if_ok_le, left_there, last_line, searched_there, longer_there}
 use Rattle.gob_write.specs.Lines.{first_line, Waits}
 use Rattle.gob_write.proofs.lines.next_line.Goals as goal
 
 -- what is searched are the bytes that wait behind those that were searched
 searched : (s : ℕ) (b w : List ℕ) → b ≡ w → take (length b - s) (drop s b) ≡ drop s w
 searched s b w e = ap (λ (l : List ℕ). take (length l - s) (drop s l)) e ∙ all_behind s w
-
-if_ok_le : (count most n : ℕ) (r : Result ℕ LinesFault) → IfOk r (λ m. (m ≡ count) × (count ≤ most)) → count ≤ n
-    → IfOk r (λ m. m ≤ n)
-if_ok_le count most n (Ok m) h le = omega (arith, h.0, le)
-if_ok_le count most n (Err f) h le = tt
 
 pub loop-place-init : goal.loop-place-init
 loop-place-init g c = record {

@@ -1,6 +1,5 @@
-use Rattle.gob_write.proofs.GoRunLaws.{flushed_filled, unflushed_filled}
+use Rattle.gob_write.proofs.ShownRunLaws.{flushed_shown, unflushed_shown}
 use Rattle.gob_write.proofs.MakeLaws.{flushed_made, unflushed_made}
-use Rattle.gob_write.proofs.RunLaws.{flushed_answers}
 use Rattle.gob_write.proofs.run.end_lines.Goals as goal
 
 pub returns-in-Ok-clause-made : goal.returns-in-Ok-clause-made
@@ -11,22 +10,18 @@ pub returns-in_default-answer-clause-made : goal.returns-in_default-answer-claus
 returns-in_default-answer-clause-made g c = λ L types most bytes old h.
     flushed_made L types most bytes old _ _ c.args.answer c.flush-flushed.ensures.bytes h
 
-pub returns-in_default-answer-2-clause-written : goal.returns-in_default-answer-2-clause-written
-returns-in_default-answer-2-clause-written g c = λ S most bytes old h.
-    flushed_answers S most bytes old _ _ c.args.answer c.flush-flushed.ensures.bytes h
-
 pub returns-in_default-answer-2-clause-made : goal.returns-in_default-answer-2-clause-made
 returns-in_default-answer-2-clause-made g c = λ L types most bytes old h.
     flushed_made L types most bytes old _ _ c.args.answer c.flush-flushed.ensures.bytes h
 
-pub returns-in-Ok-clause-filled : goal.returns-in-Ok-clause-filled
-returns-in-Ok-clause-filled g c = λ L most bytes old h.
-    unflushed_filled L most bytes old _ _ c.flush-flushed.ensures.bytes (rw c.in-Ok.is at h)
+pub returns-in-Ok-clause-shown : goal.returns-in-Ok-clause-shown
+returns-in-Ok-clause-shown g c = λ H L most bytes old h.
+    unflushed_shown H L most bytes old _ _ c.flush-flushed.ensures.bytes (rw c.in-Ok.is at h)
 
-pub returns-in_default-answer-clause-filled : goal.returns-in_default-answer-clause-filled
-returns-in_default-answer-clause-filled g c = λ L most bytes old h.
-    flushed_filled L most bytes old _ _ c.args.answer c.flush-flushed.ensures.bytes h
+pub returns-in_default-answer-clause-shown : goal.returns-in_default-answer-clause-shown
+returns-in_default-answer-clause-shown g c = λ H L most bytes old h.
+    flushed_shown H L most bytes old _ _ c.args.answer c.flush-flushed.ensures.bytes h
 
-pub returns-in_default-answer-2-clause-filled : goal.returns-in_default-answer-2-clause-filled
-returns-in_default-answer-2-clause-filled g c = λ L most bytes old h.
-    flushed_filled L most bytes old _ _ c.args.answer c.flush-flushed.ensures.bytes h
+pub returns-in_default-answer-2-clause-shown : goal.returns-in_default-answer-2-clause-shown
+returns-in_default-answer-2-clause-shown g c = λ H L most bytes old h.
+    flushed_shown H L most bytes old _ _ c.args.answer c.flush-flushed.ensures.bytes h

@@ -28,8 +28,7 @@ loop-definition-preserved g c = record {
       one_written c.write_definition-written.new.self c.definition-item.result g.W.Write.contents
       c.loop-definition.output c.write_definition-written.new.output c.write_definition-written.result tt within
       (c.loop-definition.invariant.wrote S within h) c.definition-item.is c.loop-definition-test.true
-      c.write_definition-written.ensures.answers c.in_ok-told.ensures.told c.write_definition-written.ensures.depth
-      c.write_definition-written.ensures.form;
+      c.write_definition-written.ensures.answers c.in_ok-told.ensures.told c.write_definition-written.ensures.making;
   writes = c.in_ok-told.ensures.counted _ _ c.write_definition-written.ensures.answers.effects.counted
       ∙ c.loop-definition.invariant.writes;
 }

@@ -3,7 +3,7 @@ use Rattle.gob_stream.specs.Bounds.{within_trees}
 use Rattle.gob_stream.specs.Calls.Ends.{writer_of}
 use Rattle.gob_write.specs.Making.{StopsWithin, WroteFront, of_plain}
 use Rattle.gob_write.specs.declared.types.Definition.{Definition}
-use Rattle.gob_write.proofs.MakeLaws.{front_stops, lines_behind}
+use Rattle.gob_write.proofs.MakeLaws.{front_stops, texts_behind}
 use Rattle.gob_write.proofs.run.write_made.Goals as goal
 
 pub returns-in_err-write_definitions-clause-written : goal.returns-in_err-write_definitions-clause-written
@@ -21,6 +21,6 @@ returns-clause-written g c = λ K bytes h e.
     let old = g.W.Write.contents (writer_of c.args.output.now) in
     let mid = g.W.Write.contents (writer_of c.write_definitions.new.output) in
     let w = c.write_definitions.new.writer in
-    lines_behind K c.args.types.now w old mid (subst (λ (ds : List Definition). WroteFront S ds w old mid)
+    texts_behind K c.args.types.now w old mid (subst (λ (ds : List Definition). WroteFront S ds w old mid)
     c.deref.ensures.value (c.in_ok-write_definitions.ensures.written S (K, refl) h))
-    (λ R start within h sent. c.write_lines.ensures.written R start bytes within h sent e)
+    (λ R start within h sent. c.write_texts.ensures.written R start bytes within h sent e)

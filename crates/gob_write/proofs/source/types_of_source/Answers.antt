@@ -10,11 +10,11 @@ pub returns : goal.returns
 returns c = record {
   source = c.in_ok-source.source;
   name = option_copied c.name_in-name.result;
-  given = c.in_ok-found.found.definitions.items;
+  given = c.in-Ok.found.definitions.items;
   says = c.in_ok-source.ensures;
   asked = subst (λ (ds : List Declaration). Asks ds (text_of c.args.named) (option_copied c.name_in-name.result))
       c.deref.ensures.value c.name_in-name.ensures;
-  are = c.in_ok-found.ensures.types;
+  are = c.in-Ok.ensures.types;
   definitions = c.in_ok-definitions.ensures ∙ ap defines_each c.deref-2.ensures.value;
   leniency = refl;
 }

@@ -27,9 +27,11 @@ returns-in_err-head-clause-writes g c = λ items bytes T value h spelled.
     let p = err_from_is_err_and c.from_residual-in_err-head.result c.from_residual-in_err-head.ensures.1 in
     let w = c.args.self.now in
     let why = c.in_err-head.field-0.0 in
+    let may = subst (λ (K : known.Table). MayPut K c.args.id) h.table c.in_ok-judge_type.ensures.judged in
     let refused = rw (c.up_to-limits.ensures, h.offset) at c.in_err-head.ensures.err in
     rw (p.1, p.2) (denied (within_trees w.limits) w items bytes T (putting c.args.id value) _ why
-    (denial_weaker why (λ r. value_refused spelled (omega (arith, ints, c.in_ok-judge_type.ensures.small))) refused))
+    (denial_weaker why
+    (λ r. value_refused may spelled (omega (arith, ints, c.in_ok-judge_type.ensures.small))) refused))
 
 pub returns-clause-writes : goal.returns-clause-writes
 returns-clause-writes g c = λ items bytes T value h spelled.

@@ -1,7 +1,0 @@
-use Rattle.gob_write.proofs.GoSaidLaws.{none_read}
-use Rattle.gob_write.proofs.go.GoLineWriter.said.Goals as goal
-
-pub returns-in-Ok-clause-none : goal.returns-in-Ok-clause-none
-returns-in-Ok-clause-none c =
-    let whole = rw (c.table.ensures, c.in-Ok.ensures.cases.0) at c.read_go_line.ensures.whole in
-    none_read c.read_go_line.result _ whole

@@ -1,0 +1,4 @@
+pub mod Laws
+pub mod Out
+pub mod Texts
+pub mod Writer
