@@ -319,6 +319,111 @@ gob_status gob_check_exact(const void *bytes, size_t count, const gob_limits *li
     return checked(bytes, count, asked_of(limits, true), counts, fault);
 }
 
+/* ---- writing */
+
+struct gob_writer {
+    void *raw;
+    unsigned char *bytes; /* what was handed out last */
+    size_t room;
+};
+
+/* One of the exports that make a writer. */
+typedef void writer_making(const unsigned char *types, size_t count, const unsigned char *name, size_t name_count,
+                           void **writer, struct raw_written *told, unsigned char *room, size_t size);
+
+/* How a call of a writer ended, whose words stand in the fault already. */
+static gob_status ended_so(const struct raw_written *told, gob_writer_fault *fault) {
+    static const char lacking[] = "gob: out of memory";
+    size_t end = sizeof fault->text - 1;
+    if (told->length < end) end = told->length;
+    /* (no character is cut in two) */
+    else while (end != 0 && ((unsigned char)fault->text[end] & 0xC0) == 0x80) end--;
+    fault->text[end] = 0;
+    /* (there may have been none for these words either) */
+    if (told->status == GOB_NO_MEMORY) memcpy(fault->text, lacking, sizeof lacking);
+    fault->status = told->status;
+    fault->reason = told->reason;
+    fault->column = told->column;
+    return fault->status;
+}
+
+static gob_writer *opened_writer(writer_making *made, const void *types, size_t count, const char *name,
+                                 gob_writer_fault *fault) {
+    gob_writer_fault unseen;
+    if (fault == NULL) fault = &unseen;
+    struct raw_written told = {.status = GOB_MISUSED};
+    *fault = (gob_writer_fault){.status = GOB_OK};
+    gob_writer *writer = NULL;
+    if (types != NULL || count == 0) {
+        size_t length = name != NULL ? strlen(name) : 0;
+        writer = calloc(1, sizeof *writer);
+        told.status = GOB_NO_MEMORY;
+        if (writer != NULL) {
+            made(some_bytes(types, count), count, some_bytes(name, length), length, &writer->raw, &told,
+                 (unsigned char *)fault->text, sizeof fault->text);
+        }
+    }
+    if (ended_so(&told, fault) == GOB_OK) return writer;
+    free(writer);
+    return NULL;
+}
+
+gob_writer *gob_writer_open(const char *source, size_t count, const char *name, gob_writer_fault *fault) {
+    return opened_writer(gob_raw_writer_open, source, count, name, fault);
+}
+
+gob_writer *gob_writer_open_like(const void *stream, size_t count, const char *name, gob_writer_fault *fault) {
+    return opened_writer(gob_raw_writer_open_like, stream, count, name, fault);
+}
+
+gob_status gob_writer_put_json(gob_writer *writer, const char *text, size_t count, gob_writer_fault *fault) {
+    gob_writer_fault unseen;
+    if (fault == NULL) fault = &unseen;
+    struct raw_written told = {.status = GOB_MISUSED};
+    *fault = (gob_writer_fault){.status = GOB_OK};
+    if (writer != NULL && (text != NULL || count == 0)) {
+        gob_raw_writer_put(&writer->raw, some_bytes(text, count), count, &told, (unsigned char *)fault->text,
+                           sizeof fault->text);
+    }
+    return ended_so(&told, fault);
+}
+
+/* How much is written and not taken. It is in the room then, where that is enough. */
+static uint64_t taken(gob_writer *writer) {
+    uint64_t count = 0;
+    gob_raw_writer_take(&writer->raw, writer->room != 0 ? writer->bytes : &nowhere, writer->room, &count);
+    return count;
+}
+
+int gob_writer_take(gob_writer *writer, const void **bytes, size_t *count) {
+    if (writer == NULL || bytes == NULL || count == NULL) return -1;
+    *bytes = NULL;
+    *count = 0;
+    if (writer->room > (size_t)LARGE * BYTES) {
+        free(writer->bytes);
+        writer->bytes = NULL;
+        writer->room = 0;
+    }
+    uint64_t some = taken(writer);
+    if (some > writer->room) {
+        unsigned char *grown = some <= SIZE_MAX ? realloc(writer->bytes, (size_t)some) : NULL;
+        if (grown == NULL) return -1;
+        writer->bytes = grown;
+        writer->room = (size_t)some;
+        if (taken(writer) > writer->room) return -1;
+    }
+    *bytes = writer->bytes;
+    *count = (size_t)some;
+    return some != 0;
+}
+
+void gob_writer_close(gob_writer *writer) {
+    if (writer == NULL) return;
+    gob_raw_writer_close(writer->raw);
+    free(writer->bytes);
+    free(writer);
+}
+
 /* ---- texts */
 
 /* The room that the archive is given of a caller's: all of it but the byte for the 0. */

@@ -1,4 +1,4 @@
-/* gob.h: gob streams, as Go's encoding/gob writes them, read exactly and without the Go types.
+/* gob.h: gob streams, as Go's encoding/gob writes them, read exactly and without the Go types, and written from JSON.
  *
  * Bytes are fed as they come, and items are taken as they are whole: definitions of types, and values. A value is a
  * flat array of nodes and the raw bytes of all its parts. Where the bytes are no gob stream, a fault says why, at which
@@ -16,27 +16,29 @@
  *     gob_close(reader);
  *
  * Behind it fault.status says how that ended: GOB_OK exactly where all of the bytes are a stream and each item was
- * used.
+ * used. Writing is below, from gob_writer on.
  *
- * Ownership. The caller owns the reader and lets it go by gob_close, once, and so a check by gob_check_close. The
- * library keeps no pointer that it is given: a piece may be reused as soon as gob_feed returns. What it hands out it
- * owns: see gob_next, gob_take and gob_type for how long that stands. All memory comes from malloc.
+ * Ownership. The caller owns the reader and lets it go by gob_close, once, and so a check by gob_check_close and a
+ * writer by gob_writer_close. The library keeps no pointer that it is given: a piece may be reused as soon as gob_feed
+ * returns. What it hands out it owns: see gob_next, gob_take, gob_type and gob_writer_take for how long that stands.
+ * All memory comes from malloc.
  *
  * Memory. A reader takes 1.3 MB, and of an item its bytes and 24 bytes for each of its parts; for an interface that
  * holds a number, all in all 260 bytes. An item of 64 MiB, the standard limit, may have as many parts as bytes, and
  * takes 1.7 GB then, or of interfaces 2.2 GB. A server sets gob_limits.item to what it can spare: 1048576 makes that
  * 35 MB.
  *
- * Misuse. NULL for a reader or a check, as gob_close leaves none, and NULL for a piece that has a length are answered:
- * GOB_MISUSED, -1 or NULL. Nothing can tell a reader that was let go, one that another thread is in, a piece that is
- * shorter than its length says, or an item whose time is over.
+ * Misuse. NULL for a reader, a check or a writer, as gob_close leaves none, and NULL for a piece that has a length are
+ * answered: GOB_MISUSED, -1 or NULL. Nothing can tell a reader that was let go, one that another thread is in, a piece
+ * that is shorter than its length says, or an item whose time is over.
  *
- * Threads. A reader stays on the thread that opened it, and so does a check. Different readers may be used in different
- * threads at once. No call may be made from a signal handler.
+ * Threads. A reader stays on the thread that opened it, and so do a check and a writer. Different readers may be used
+ * in different threads at once. No call may be made from a signal handler.
  *
  * Stack. A call takes less than 32 KB of it however deep a value is. Where interfaces hold others in one another, 999
  * at the most, it takes up to 1 KB for each of them: 1 MB in all. With a reader of gob_open_exact it never does. A call
- * for a text takes up to 1 KB for each level of a value, of which there are 1000 at the most.
+ * for a text takes up to 1 KB for each level of a value, and one of a writer up to 2 KB, of which there are 1000 at the
+ * most.
  *
  * x86-64 Linux, from x86-64-v2 on. Link with -lgob, or take flags from pkg-config's gob.
  */
@@ -73,9 +75,9 @@ typedef enum gob_status {
     GOB_OK = 0,
     GOB_REFUSED = 1,    /* the bytes are no gob stream: reason, place and seen say why */
     GOB_NO_MEMORY = 2,  /* malloc had none */
-    GOB_FAILED = 3,     /* a fault was met in a call before, and no more is read */
+    GOB_FAILED = 3,     /* a fault was met in a call before, and no more is read or written */
     GOB_BAD_LIMITS = 4, /* the depth is 0 or above 65536, or the stream above 2^63 - 1 */
-    GOB_MISUSED = 5     /* NULL was given for a reader or a check, or for bytes that have a length; nothing was done */
+    GOB_MISUSED = 5     /* NULL was given for a reader or its like, or for bytes that have a length; nothing was done */
 } gob_status;
 
 /* How a call ended. Offsets are those of the stream, in bytes from 0, whatever pieces it came in. Each call that takes
@@ -391,6 +393,66 @@ GOB_API gob_status gob_check_finish(gob_checker *checker, gob_counts *counts, go
 
 /* Lets the check go. NULL is let pass. */
 GOB_API void gob_check_close(gob_checker *checker);
+
+/* ---- Writing
+ *
+ * A writer makes the stream of values of one type, each given as plain JSON: an object of the fields of a struct, of
+ * which those that are zero may be left out; an array; a number, a string, true, false or null; base64 for []byte; a
+ * time as in RFC 3339. So gob_values_text prints them, and so people write them. The types are Go source, or those of
+ * another stream.
+ *
+ *     const char *source = "type Point struct { X, Y int }";
+ *     gob_writer_fault fault;
+ *     gob_writer *writer = gob_writer_open(source, strlen(source), NULL, &fault);
+ *     gob_writer_put_json(writer, "{\"X\":22,\"Y\":33}", 15, &fault);
+ *     if (gob_writer_take(writer, &bytes, &count) == 1) fwrite(bytes, 1, count, file);
+ *     gob_writer_close(writer);
+ *
+ * Behind each call fault.status says how that ended, and fault.text why in words. What is taken, one behind another, is
+ * the stream of the definitions of the types and of the values of all texts that were answered GOB_OK, in order.
+ *
+ * A value may be as deep as 1000, and an item, as a stream, as long as the standard limits say: what is longer is
+ * refused, as it would be read. */
+
+/* How a call of a writer ended. Each call that takes one writes all of it; NULL may stand for it. `text` says why in
+ * UTF-8, as the program says it: "gob: column 6, at .X: a whole number of 64 bits is due". It is one line, which ends
+ * with a 0, and is cut where it is long or memory is wanting. Behind GOB_OK and GOB_MISUSED it is empty. */
+typedef struct gob_writer_fault {
+    uint32_t status; /* a gob_status */
+    uint32_t reason; /* where no stream goes on with the value or a definition: why, as GOB_REASON_TOO_DEEP; else 0 */
+    uint64_t column; /* where the text says no value of the type: at which of its bytes, from 1; else 0 */
+    char text[496];
+} gob_writer_fault;
+
+/* A writer of one stream. */
+typedef struct gob_writer gob_writer;
+
+/* A new writer under the types that this Go source declares, `count` bytes of it: `type` declarations, as `gob types`
+ * prints them or as they stand in a program. Its values are of the type of this name, or where `name` is NULL or has no
+ * bytes of the first that is declared. That type and all that it leads to are defined in the stream. NULL where there
+ * is no memory, where the source isn't read or declares no such type, or where gob has no values of it: `fault` says
+ * which. */
+GOB_API gob_writer *gob_writer_open(const char *source, size_t count, const char *name, gob_writer_fault *fault);
+
+/* A new writer under the types of a whole stream that is held in memory, of the format that Go documents. Its values
+ * are of the type of this name or id there, or where `name` is NULL or has no bytes of that of the stream's first
+ * value. All definitions of that stream are written, and none of its values. NULL as by gob_writer_open. */
+GOB_API gob_writer *gob_writer_open_like(const void *stream, size_t count, const char *name, gob_writer_fault *fault);
+
+/* Writes the value that the text says, which is plain JSON in UTF-8; of a text of white space alone nothing. Where it
+ * says no value of the type, or one that the stream can't go on with, that is GOB_REFUSED: then nothing is written, and
+ * the writer goes on as if it hadn't been asked. So it is behind GOB_NO_MEMORY, unless memory was wanting for what is
+ * to be taken: then the writer answers GOB_FAILED to each value from here on, and what it wrote before can be taken.
+ * The answer is fault->status. */
+GOB_API gob_status gob_writer_put_json(gob_writer *writer, const char *text, size_t count, gob_writer_fault *fault);
+
+/* What is written and wasn't taken. 1: it is in `bytes`, which stand until the next gob_writer_take or gob_writer_close
+ * of this writer, and `count` is how many they are. 0: there is nothing. -1: there is no memory for it, and it is kept;
+ * so it is where NULL was given. What isn't taken takes memory. */
+GOB_API int gob_writer_take(gob_writer *writer, const void **bytes, size_t *count);
+
+/* Lets the writer go, with what it handed out. NULL is let pass. */
+GOB_API void gob_writer_close(gob_writer *writer);
 
 /* ---- Texts */
 

@@ -50,6 +50,22 @@ void gob_raw_types_text(const unsigned char *bytes, size_t count, const struct r
 void gob_raw_values_text(const unsigned char *bytes, size_t count, const struct raw_asked *asked, unsigned char *room,
                          size_t size, struct raw_text *told);
 
+/* A writer of values that are given as plain JSON. It stands behind a pointer as a reader does. Of a fault its words
+ * stand in the room, as much of them as there is room for; `length` is how long they are. */
+struct raw_written {
+    uint32_t status, reason;
+    uint64_t column, length;
+};
+void gob_raw_writer_open(const unsigned char *source, size_t count, const unsigned char *name, size_t name_count,
+                         void **writer, struct raw_written *told, unsigned char *room, size_t size);
+void gob_raw_writer_open_like(const unsigned char *stream, size_t count, const unsigned char *name, size_t name_count,
+                              void **writer, struct raw_written *told, unsigned char *room, size_t size);
+void gob_raw_writer_put(void **writer, const unsigned char *text, size_t count, struct raw_written *told,
+                        unsigned char *room, size_t size);
+/* It is taken where there is room for all of it, and else it is only told how much it is. */
+void gob_raw_writer_take(void **writer, unsigned char *room, size_t size, uint64_t *count);
+void gob_raw_writer_close(void *writer);
+
 /* What the archive asks of its caller: memory. A block that isn't had is told by `ok`, and its pointer isn't NULL. */
 struct raw_block {
     bool ok;

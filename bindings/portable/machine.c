@@ -1,5 +1,6 @@
 /* What the translated code runs on: a memory that grows, from which it can't get out, and the operations of WebAssembly
  * that C has otherwise. Nothing here is proved. */
+#include <math.h>
 #include <stdint.h>
 #include <stdlib.h>
 #include <string.h>

@@ -253,3 +253,57 @@ void gob_raw_values_text(const unsigned char *bytes, size_t count, const struct 
     code_gob_raw_values_text(&box->wasm, box->bytes.at, count, box->piece, box->heads.at, size, box->told);
     say(box, room, size, told);
 }
+
+/* One of the exports that make a writer. */
+typedef void writer_opening(code *, u64 types, u64 count, u64 name, u64 name_count, u64 handle, u64 told, u64 room,
+                            u64 size);
+
+/* Copies out what a call of a writer told and said. */
+static void hear_written(sandbox *box, struct raw_written *told, unsigned char *room, size_t size) {
+    hear(box, told, sizeof *told);
+    get(box, room, size, box->heads.at, at_most(told->length, size));
+}
+
+static void open_writer(writer_opening *made, const unsigned char *types, size_t count, const unsigned char *name,
+                        size_t name_count, void **writer, struct raw_written *told, unsigned char *room, size_t size) {
+    sandbox *box = begun();
+    *told = (struct raw_written){.status = GOB_NO_MEMORY};
+    if (box != NULL && lent(box, &box->bytes, types, count) && lent(box, &box->nodes, name, name_count) &&
+        room_in(box, &box->heads, size) == size) {
+        made(&box->wasm, box->bytes.at, count, box->nodes.at, name_count, box->handle, box->told, box->heads.at, size);
+        hear_written(box, told, room, size);
+    }
+    if (told->status == GOB_OK) *writer = box;
+    else end(box);
+}
+
+void gob_raw_writer_open(const unsigned char *source, size_t count, const unsigned char *name, size_t name_count,
+                         void **writer, struct raw_written *told, unsigned char *room, size_t size) {
+    open_writer(code_gob_raw_writer_open, source, count, name, name_count, writer, told, room, size);
+}
+
+void gob_raw_writer_open_like(const unsigned char *stream, size_t count, const unsigned char *name, size_t name_count,
+                              void **writer, struct raw_written *told, unsigned char *room, size_t size) {
+    open_writer(code_gob_raw_writer_open_like, stream, count, name, name_count, writer, told, room, size);
+}
+
+void gob_raw_writer_put(void **writer, const unsigned char *text, size_t count, struct raw_written *told,
+                        unsigned char *room, size_t size) {
+    sandbox *box = *writer;
+    *told = (struct raw_written){.status = GOB_NO_MEMORY};
+    if (!lent(box, &box->bytes, text, count)) return;
+    code_gob_raw_writer_put(&box->wasm, box->handle, box->bytes.at, count, box->told, box->heads.at, size);
+    hear_written(box, told, room, size);
+}
+
+/* (where the translated code has too little room for what there is room for, more is asked for than there can be) */
+void gob_raw_writer_take(void **writer, unsigned char *room, size_t size, uint64_t *count) {
+    sandbox *box = *writer;
+    u64 some = room_in(box, &box->nodes, size);
+    code_gob_raw_writer_take(&box->wasm, box->handle, box->nodes.at, some, box->told);
+    get(box, count, sizeof *count, box->told, sizeof *count);
+    if (*count <= some) get(box, room, size, box->nodes.at, *count);
+    else if (*count <= size) *count = UINT64_MAX;
+}
+
+void gob_raw_writer_close(void *writer) { end(writer); }

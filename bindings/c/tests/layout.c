@@ -56,5 +56,10 @@ int main(void) {
     MEMBER(gob_counts, types);
     MEMBER(gob_counts, values);
     MEMBER(gob_counts, bytes);
+    STRUCT(gob_writer_fault);
+    MEMBER(gob_writer_fault, status);
+    MEMBER(gob_writer_fault, reason);
+    MEMBER(gob_writer_fault, column);
+    MEMBER(gob_writer_fault, text);
     return 0;
 }

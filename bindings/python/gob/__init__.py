@@ -1,4 +1,4 @@
-"""Gob streams (Go's encoding/gob) as Python values, read exactly and without the Go types.
+"""Gob streams (Go's encoding/gob) as Python values, read exactly and without the Go types, and written.
 
     import gob
 
@@ -7,14 +7,15 @@
     points = gob.load("points.gob")           # a list, with points.types
     frame = pandas.DataFrame(gob.iter_values("points.gob", zeros=True))
     gob.check("points.gob")                   # Summary(values=1, types=1, bytes=40), or Refused
+    gob.dump([{"X": 22, "Y": 33}], "points.gob", types="type Point struct { X, Y int }")
 
 Structs are dicts by field name (or namedtuples), maps are dicts, floats are floats, `[]byte` is bytes, strings are str
 (bytes that aren't UTF-8 as surrogates, which `s.encode("utf-8", "surrogateescape")` gives back), an interface is what
 it holds, or None, and what a Go type encoded itself is an `Opaque`. A field that the stream doesn't have is absent;
 with `zeros` it has its zero value, as Go's decoder would leave it.
 
-The bytes are read by a library whose reader is proved; this package and what explains opaque values are not. Values are
-made by recursion: one deeper than Python's recursion limit allows raises RecursionError.
+The bytes are read and written by a library that is proved; this package and what explains opaque values are not. Values
+are made, and told, by recursion: one deeper than Python's recursion limit allows raises RecursionError.
 """
 from __future__ import annotations
 
@@ -27,12 +28,15 @@ from threading import get_ident
 from typing import Any, BinaryIO, Callable, Iterable, Iterator, Mapping, NamedTuple, Union
 
 from ._decode import Decoder, Held, Opaque, Options, Pairs
+from ._errors import BadTypes, BadValue, Error
 from ._library import Batch, Counts, Fault, Head, Limits as _Limits, Node, library
 from ._types import Field, Type, type_of
+from ._writer import Writer, dump, dumps
 from . import _texts, go
 
-__all__ = ["Field", "Held", "Item", "Limits", "Opaque", "Pairs", "Reader", "Reason", "Refused", "Summary", "Type",
-           "check", "go", "iter_items", "iter_values", "load", "loads", "source", "types", "why"]
+__all__ = ["BadTypes", "BadValue", "Error", "Field", "Held", "Item", "Limits", "Opaque", "Pairs", "Reader", "Reason",
+           "Refused", "Summary", "Type", "Writer", "check", "dump", "dumps", "go", "iter_items", "iter_values", "load",
+           "loads", "source", "types", "why"]
 
 Source = Union[str, "os.PathLike[str]", bytes, bytearray, memoryview, BinaryIO, Iterable[bytes]]
 # makes of values of one type, and of where their items begin and end, what is given of them
@@ -83,7 +87,7 @@ class Limits(NamedTuple):
     stream: int = 64 << 30
 
 
-class Refused(ValueError):
+class Refused(Error):
     """The bytes are no gob stream.
 
     `reason` says why, `what` the same in a sentence, `place` is the offset of the first refused byte, and `seen` how

@@ -62,6 +62,13 @@ class Item(ctypes.Structure):
                 ("begin", ctypes.c_uint64), ("end", ctypes.c_uint64)]
 
 
+class WriterFault(ctypes.Structure):
+    """gob_writer_fault."""
+
+    _fields_ = [("status", ctypes.c_uint32), ("reason", ctypes.c_uint32), ("column", ctypes.c_uint64),
+                ("text", ctypes.c_char * 496)]
+
+
 def _candidates() -> Iterator[str]:
     named = os.environ.get("GOB_LIBRARY")
     if named:
@@ -94,6 +101,7 @@ def _load() -> ctypes.CDLL:
 
 library = _load()
 _reader, _checker, _counts, _fault = ctypes.c_void_p, ctypes.c_void_p, ctypes.POINTER(Counts), ctypes.POINTER(Fault)
+_writer, _writer_fault = ctypes.c_void_p, ctypes.POINTER(WriterFault)
 _calls: list[tuple[Any, ...]] = [
     ("gob_open", _reader, ctypes.POINTER(Limits), _fault),
     ("gob_open_exact", _reader, ctypes.POINTER(Limits), _fault),
@@ -112,6 +120,11 @@ _calls: list[tuple[Any, ...]] = [
     ("gob_reason_text", ctypes.c_char_p, ctypes.c_uint32),
     ("gob_why_text", ctypes.c_int64, ctypes.c_void_p, ctypes.c_size_t, ctypes.POINTER(Limits), ctypes.c_char_p,
      ctypes.c_char_p, ctypes.c_size_t),
+    ("gob_writer_open", _writer, ctypes.c_char_p, ctypes.c_size_t, ctypes.c_char_p, _writer_fault),
+    ("gob_writer_open_like", _writer, ctypes.c_char_p, ctypes.c_size_t, ctypes.c_char_p, _writer_fault),
+    ("gob_writer_put_json", ctypes.c_int, _writer, ctypes.c_char_p, ctypes.c_size_t, _writer_fault),
+    ("gob_writer_take", ctypes.c_int, _writer, ctypes.POINTER(ctypes.c_void_p), ctypes.POINTER(ctypes.c_size_t)),
+    ("gob_writer_close", None, _writer),
     ("gob_types_text", ctypes.c_int64, ctypes.c_void_p, ctypes.c_size_t, ctypes.POINTER(Limits), ctypes.c_char_p,
      ctypes.c_size_t),
 ]

@@ -705,12 +705,12 @@ class Layout(unittest.TestCase):
     def test_structures_are_those_of_the_header(self):
         due = pathlib.Path(os.environ["GOB_LAYOUT"]).read_text().splitlines()
         said = []
-        for name in ("Fault", "Limits", "Node", "Item", "Head", "Batch", "Counts"):
+        for name in ("Fault", "Limits", "Node", "Item", "Head", "Batch", "Counts", "WriterFault"):
             made = getattr(gob._library, name)
-            said.append(f"gob_{name.lower()} {ctypes.sizeof(made)}")
+            said.append(f"{made.__doc__[:-1]} {ctypes.sizeof(made)}")
             for field, _ in made._fields_:
                 place = getattr(made, field)
-                said.append(f"gob_{name.lower()}.{field} {place.offset} {place.size}")
+                said.append(f"{made.__doc__[:-1]}.{field} {place.offset} {place.size}")
         self.assertEqual(said, due)
 
 

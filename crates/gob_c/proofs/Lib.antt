@@ -1,5 +1,6 @@
 pub mod AsBox
 pub mod AsCounterBox
+pub mod AsWriterBox
 pub mod CountsLaws
 pub mod HeldLaws
 pub mod TextLaws

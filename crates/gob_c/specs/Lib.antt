@@ -5,3 +5,4 @@ pub mod Asked
 pub mod Told
 pub mod Calls
 pub mod Texts
+pub mod Writing

@@ -1,9 +1,10 @@
-//! The reader of gob streams for C: a static library. Only the layer of C in bindings/c calls its exports. That layer
-//! has the memory functions, the room for items and the public header.
+//! The reader and the writer of gob streams for C: a static library. Only the layer of C in bindings/c calls its
+//! exports. That layer has the memory functions, the room for items and the public header.
 //!
 //! A reader stands behind a pointer that C keeps, its [`Handle`]. Each call is lent the handle, takes the reader out of
-//! it, and leaves there the one that it tells of. The counter of a check in pieces stands so behind a handle of its
-//! own. What is said of a stream is text, put into room that C gives.
+//! it, and leaves there the one that it tells of. The counter of a check in pieces and a writer stand so behind handles
+//! of their own, since no export may take a struct with type arguments. What is said of a stream is text, put into room
+//! that C gives.
 #![tactic(auto)]
 
 ghost use Rattle.std.specs.Prelude.{◌≡◌, IfSome, IsSome};
@@ -21,6 +22,8 @@ mod limits;
 mod parts;
 mod texts;
 mod told;
+mod writer_handle;
+mod writing;
 
 use check::check;
 use counts::Counts;

@@ -121,8 +121,8 @@ fn put_said(said: &Result<Said, Memory>, room: &mut [u8]) -> TextTold
     }
 }
 
-// Puts as much of the text at the front of the room as there is room for.
-fn put_front(text: &[u8], room: &mut [u8])
+/// Puts as much of the text at the front of the room as there is room for.
+pub(crate) fn put_front(text: &[u8], room: &mut [u8])
     ensures { room.new ≡ put_in text.now room.old }
 {
     let count = text.len().min(room.len());
