@@ -221,10 +221,13 @@ fn numbers_as_text<'a>(alloc: Global, names: &'a [&'a str]) -> Result<bool, Exit
     numbers_are_texts(alloc, names).map_err(|fault| Exit::Words(fault))
 }
 
-// Opens the file that has the wanted type, if the command wants one.
+// Opens the file that has the wanted type, if the command wants one, which of `convert` may be Go source itself.
 fn run_for(rt: &HostRuntime, order: &Order) -> Result<(), Exit> {
     match order.wanted {
         None => run_on(rt, order, b"".as_slice(), false),
+        Some(word) if order.command == Chosen::Convert && is_declaration(word) => {
+            run_declared(rt, order, word.as_bytes())
+        }
         Some(path) => {
             let wanted = opened(File::open(rt, path))?;
             run_wanting(rt, order, wanted)
@@ -239,11 +242,19 @@ fn run_wanting(rt: &HostRuntime, order: &Order, wanted: File) -> Result<(), Exit
     }
     match TypesFile::begun(rt.alloc(), wanted)? {
         TypesFile::Stream(first, rest) => run_on(rt, order, first.as_slice().chain(rest), false),
-        TypesFile::Source(text) => {
-            let stream = wanted_of(rt.alloc(), &text)?;
-            run_on(rt, order, stream.as_slice(), false)
-        }
+        TypesFile::Source(text) => run_declared(rt, order, &text),
     }
+}
+
+// Runs with the first type that Go source declares as the wanted one.
+fn run_declared(rt: &HostRuntime, order: &Order, source: &[u8]) -> Result<(), Exit> {
+    let stream = wanted_of(rt.alloc(), source)?;
+    run_on(rt, order, stream.as_slice(), false)
+}
+
+// Whether a word is the declaration of a type, and names no file: a file of such a name has its folder before it.
+fn is_declaration(word: &str) -> bool {
+    word.starts_with("type ")
 }
 
 // Opens the input, then runs, with texts in place of the numbers of its lines or without.
