@@ -30,7 +30,7 @@ impl<W: Write + Drop> LinesOut<W> {
 }
 
 impl<W: Write> Write for LinesOut<W> {
-    ghost use Rattle.std.specs.Prelude.{◌≡◌, ◌++◌, List, MatchResult, take, ℕ};
+    ghost use Rattle.std.specs.Prelude.{◌≡◌, ◌++◌, IfOk, List, MatchResult, length, min, take, true, ℕ};
     ghost use Rattle.std.specs.Io.{WritesAtMost};
     ghost use Rattle.std.specs.Io.KnownBytes.{Keeps, WriteAppends};
     ghost use Rattle.json_number_texts.specs.Out.{HasGiven, PutsLines, has_texts, plain_contents};
@@ -41,6 +41,7 @@ impl<W: Write> Write for LinesOut<W> {
         ensures bound { WritesAtMost result buf.now }
         ensures bytes { WriteAppends (plain_contents W.contents self.old)
             (plain_contents W.contents self.new) result buf.now }
+        ensures count { has_texts self.old ≡ true → IfOk result (λ n. n ≡ min (length buf.now) 65536) }
         ensures texts { has_texts self.new ≡ has_texts self.old }
         ensures given { (before given : List ℕ) → HasGiven W.contents self.old before given → MatchResult result
             (λ n. HasGiven W.contents self.new before (given ++ take n buf.now))
