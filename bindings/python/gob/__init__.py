@@ -8,6 +8,7 @@
     frame = pandas.DataFrame(gob.iter_values("points.gob", zeros=True))
     gob.check("points.gob")                   # Summary(values=1, types=1, bytes=40), or Refused
     gob.dump([{"X": 22, "Y": 33}], "points.gob", types="type Point struct { X, Y int }")
+    gob.dump([Point(22, 33)], "points.gob", types=Point)    # a dataclass, by its annotations
 
 Structs are dicts by field name (or namedtuples), maps are dicts, floats are floats, `[]byte` is bytes, strings are str
 (bytes that aren't UTF-8 as surrogates, which `s.encode("utf-8", "surrogateescape")` gives back), an interface is what
@@ -27,6 +28,7 @@ from itertools import groupby, repeat
 from threading import get_ident
 from typing import Any, BinaryIO, Callable, Iterable, Iterator, Mapping, NamedTuple, Union
 
+from ._annotations import go_source
 from ._decode import Decoder, Held, Opaque, Options, Pairs
 from ._errors import BadTypes, BadValue, Error
 from ._library import Batch, Counts, Fault, Head, Limits as _Limits, Node, library
@@ -35,8 +37,8 @@ from ._writer import Writer, dump, dumps
 from . import _texts, go
 
 __all__ = ["BadTypes", "BadValue", "Error", "Field", "Held", "Item", "Limits", "Opaque", "Pairs", "Reader", "Reason",
-           "Refused", "Summary", "Type", "Writer", "check", "dump", "dumps", "go", "iter_items", "iter_values", "load",
-           "loads", "source", "types", "why"]
+           "Refused", "Summary", "Type", "Writer", "check", "dump", "dumps", "go", "go_source", "iter_items",
+           "iter_values", "load", "loads", "source", "types", "why"]
 
 Source = Union[str, "os.PathLike[str]", bytes, bytearray, memoryview, BinaryIO, Iterable[bytes]]
 # makes of values of one type, and of where their items begin and end, what is given of them

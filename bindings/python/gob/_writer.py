@@ -8,12 +8,13 @@ import re
 from threading import RLock
 from typing import Any, BinaryIO, Iterable, Union
 
+from ._annotations import go_source
 from ._encode import json_of
 from ._errors import BadTypes, BadValue
 from ._library import WriterFault, library
 
-# Go source of types, the path of a file of it (`.go`) or of a stream, or the bytes of a stream
-Types = Union[str, "os.PathLike[str]", bytes, bytearray, memoryview]
+# Go source of types, the path of a file of it (`.go`) or of a stream, the bytes of a stream, or a class with annotations
+Types = Union[str, "os.PathLike[str]", bytes, bytearray, memoryview, type[Any]]
 _WORDS = re.compile(r"gob: (?:column \d+(?:, at (?P<path>.*?))?: )?(?P<what>.*)", re.S)
 
 
@@ -23,9 +24,10 @@ class Writer:
         with gob.Writer("logins.gob", types="type Login struct { User string; Tries int }") as writer:
             writer.put({"User": "ann", "Tries": 3})
 
-    `types` is Go source, the path of a file of Go source, whose name ends in `.go`, or of a gob stream, or the bytes of
-    a stream; a path is an os.PathLike, such as pathlib.Path. The values are of the type of the name `type`, or else of
-    the first that the source declares, or that of the stream's first value. Raises `BadTypes` where there is none.
+    `types` is Go source, the path of a file of Go source, whose name ends in `.go`, or of a gob stream, the bytes of a
+    stream, or a dataclass, a NamedTuple or a TypedDict, of which `go_source` makes Go source; a path is an os.PathLike,
+    such as pathlib.Path. The values are of the type of the name `type`, or else of the first that the source declares,
+    the class itself, or that of the stream's first value. Raises `BadTypes` where there is none.
 
     The file is a path, or a binary file, which stays open. The definitions are written at once, and each value as soon
     as it is put. What was written is a whole stream at any time.
@@ -121,6 +123,8 @@ def _write_all(file: BinaryIO, data: bytes) -> None:
 
 def _given(types: Types) -> tuple[bool, bytes]:
     """Whether the types are Go source, and the bytes of it or of a stream."""
+    if isinstance(types, type):
+        types = go_source(types)
     if isinstance(types, str):
         return True, types.encode("utf-8", "surrogateescape")
     if isinstance(types, os.PathLike):
