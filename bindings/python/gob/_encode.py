@@ -15,7 +15,7 @@ from typing import Any, Callable, Mapping
 from . import go
 from ._decode import Opaque, Pairs
 
-_TEXTS = (ipaddress.IPv4Address, ipaddress.IPv6Address, uuid.UUID)
+_TEXTS = (Fraction, ipaddress.IPv4Address, uuid.UUID)
 
 
 def json_of(value: Any) -> bytes:
@@ -100,8 +100,10 @@ def _zone(offset: timedelta) -> str:
     return f"{'-' if offset < timedelta(0) else '+'}{minutes // 60:02}:{minutes % 60:02}"
 
 
-def _fraction(value: Fraction) -> str:
-    return f"{value.numerator}/{value.denominator}"
+def _address(value: ipaddress.IPv6Address) -> str:
+    """An address as Go writes it: one that stands for an address of version 4 ends with that."""
+    zone = f"%{value.scope_id}" if value.scope_id else ""
+    return f"::ffff:{value.ipv4_mapped}{zone}" if value.ipv4_mapped else str(value)
 
 
 def _opaque(value: Opaque) -> Any:
@@ -116,5 +118,5 @@ _MADE: dict[type, Callable[[Any], Any]] = {
     complex: lambda value: [_float(value.real), _float(value.imag)],
     bytes: _base64, bytearray: _base64, memoryview: _base64,
     dict: _mapping, Pairs: _pairs, list: _list, tuple: _list,
-    datetime: _time, Fraction: _fraction, Opaque: _opaque, **dict.fromkeys(_TEXTS, str),
+    datetime: _time, ipaddress.IPv6Address: _address, Opaque: _opaque, **dict.fromkeys(_TEXTS, str),
 }

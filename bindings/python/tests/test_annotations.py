@@ -168,8 +168,8 @@ class AnnotationsTest(unittest.TestCase):
 
     def test_what_has_no_type(self):
         for annotation, shown in [
-                (set, "set"), (object, "object"), (Any, "(typing.)?Any"), (list, "list"), (Dict, r"typing\.Dict"), (1, "1"),
-                (datetime.date, "date"), (datetime.timedelta, "timedelta"), (Optional[None], "NoneType"),
+                (set, "set"), (object, "object"), (Any, "(typing.)?Any"), (list, "list"), (Dict, r"typing\.Dict"),
+                (1, "1"), (datetime.date, "date"), (datetime.timedelta, "timedelta"), (Optional[None], "NoneType"),
                 (List[set], r"set, in typing\.List\[set\]"), (Tuple[int, str], r"typing\.Tuple\[int, str\]"),
                 (Union[int, str], r".*int.*str.*"), (Optional[Union[int, str]], ".*int.*str.*None.*"),
                 (typing.Callable[[], int], r"typing\.Callable.*")]:

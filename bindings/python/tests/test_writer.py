@@ -3,6 +3,7 @@ import dataclasses
 import datetime
 import enum
 import io
+import ipaddress
 import math
 import os
 import pathlib
@@ -15,6 +16,7 @@ import threading
 import unittest
 from collections import namedtuple
 from datetime import timedelta, timezone
+from fractions import Fraction
 
 import gob
 
@@ -145,12 +147,14 @@ import (
 	"encoding/gob"
 	"io"
 	"math/big"
+	"net/netip"
 	"os"
 	"time"
 )
 
 var _ time.Time
 var _ big.Int
+var _ netip.Addr
 
 func again[T any](name string) {
 	in, err := os.Open(name)
@@ -206,6 +210,12 @@ class WriterTest(unittest.TestCase):
         nanos = gob.go.Time(2026, 1, 2, 3, 4, 5, tzinfo=timezone.utc, nanosecond=123456789)
         again, = gob.loads(gob.dumps([{"At": nanos}], types=LOGIN), opaque=gob.go.known)
         self.assertEqual((again["At"].nanosecond, again["At"].utcoffset()), (123456789, timedelta(0)))
+
+    def test_fractions_and_addresses(self):
+        values = [Fraction(0), Fraction(-5), Fraction(3, 4)]
+        self.assertEqual(read(gob.dumps([values], types="type L []big.Rat")), [values])
+        values = [ipaddress.ip_address(text) for text in ("::ffff:1.2.3.4", "::ffff:0:0%eth0", "fe80::1%1", "1.2.3.4")]
+        self.assertEqual(read(gob.dumps([values], types="type L []netip.Addr")), [values])
 
     def test_files(self):
         with tempfile.TemporaryDirectory() as room:
