@@ -1,47 +1,40 @@
 -- Fields that are put among others, and those that a struct leaves out.
-use Rattle.std.proofs.Common.{◌≡◌, ◌<◌, ◌≤◌, ◌+◌, ℕ, zero, suc, List, [], ◌∷◌, ◌++◌, refl, ap, sym, subst, take, drop}
-use Rattle.std.proofs.Common.{arith, length, get_or, inl, inr, ◌∙◌, Bool, IsTrue, false}
-use Rattle.std.specs.Prelude.{◌↔◌}
-use Rattle.std.proofs.lemmas.Bool.{cases_lt, false≢true}
-use Rattle.std.proofs.lemmas.Option.{get_or_from_slice_get}
+use Rattle.std.proofs.Common.{◌≡◌, ◌<◌, ◌≤◌, ◌+◌, ℕ, List, [], ◌∷◌, ◌++◌, refl, ap, sym, subst, arith, cond}
+use Rattle.std.proofs.Common.{Some, None}
+use Rattle.std.specs.BTreeMap.{insert_entry, is_at}
+use Rattle.std.specs.Map.{lookup}
+use Rattle.std.specs.Ordering.{is_eq, match_ordering, nat_cmp}
+use Rattle.std.specs.declared.cmp.Ordering.{Ordering}
+use Rattle.std.specs.declared.cmp.Ordering.TheVariants.{Less, Equal, Greater}
+use Rattle.std.proofs.lemmas.Cmp.{ranked}
+use Rattle.std.proofs.lemmas.Option.{none-some}
 use Rattle.gob_types.specs.declared.kind.Field.{Field}
 use Rattle.gob_types.specs.Table.{Table}
 use Rattle.gob_value.specs.Tree.{Fields, no_field, field}
 use Rattle.gob_value.specs.View.{view, field_views}
 use Rattle.gob_value.specs.declared.value.Value.{Value}
-use Rattle.gob_plain.specs.Plain.{name_text}
-use Rattle.gob_make.specs.Plain.{HasName, IsBelow, Puts, here, further}
+use Rattle.gob_make.specs.Plain.{Puts, here, further}
 use Rattle.gob_make.specs.Zero.{AreKept, IsLeftOut, no_more, left_out, kept}
-
--- ---- one is looked for by its name
-
--- the field at this number has another name, as those before it
-pub none_so_far : (types : List Field) (number : ℕ) (f : Field) (name : List ℕ) (is : Bool) → f ≡ get_or types number f
-    → IsTrue is ↔ (name_text f.name ≡ name) → is ≡ false → ((k : ℕ) → k < number → ¬ HasName types k name)
-    → (k : ℕ) → k < number + 1 → HasName types k name → ⊥
-none_so_far types number f name is at iff other before k l h = elim (cases_lt k number) [
-  | inl less ↦ before k less h
-  | inr up ↦
-      let same : k ≡ number = omega arith in
-      let found : h.0 ≡ f = sym (get_or_from_slice_get types k h.0 f h.1.field) ∙ ap (λ n. get_or types n f) same
-      ∙ sym at in
-      false≢true (sym other ∙ iff.1 (ap (λ (e : Field). name_text e.name) (sym found) ∙ h.1.named))
-]
 
 -- ---- one is put in its place
 
--- the fields behind the place have greater numbers, and the one before it has a lesser one
-pub puts_at : (xs : List (ℕ × Value)) (place f least : ℕ) (v d : Value) → place ≤ length xs
-    → (place ≡ 0 → least ≤ f) → ((j : ℕ) → place ≡ suc j → (get_or xs j (0, d)).0 < f)
-    → IsBelow f (field_views (drop place xs))
-    → Puts f (view v) least (field_views xs) (field_views (take place xs ++ (f, v) ∷ drop place xs))
-puts_at xs zero f least v d within first before above = here (first refl) above
-puts_at [] (suc p) f least v d within first before above = let never : ⊥ = omega arith in absurd never
-puts_at (x ∷ xs) (suc zero) f least v d within first before above =
-    let lesser : x.0 < f = before 0 refl in further (here (omega (arith, lesser)) above)
-puts_at (x ∷ xs) (suc (suc p)) f least v d within first before above =
-    further (puts_at xs (suc p) f (x.0 + 1) v d (omega arith)
-    (λ e. let never : ⊥ = omega (arith, e) in absurd never) (λ j e. before (suc j) (ap suc e)) above)
+-- none of the fields has its number
+pub puts_entry : (es : List (ℕ × Value)) (f least : ℕ) (v : Value) → least ≤ f → lookup (is_at (nat_cmp f)) es ≡ None
+    → Puts f (view v) least (field_views es) (field_views (insert_entry nat_cmp es f v))
+puts_entry [] f least v low none = here low tt
+puts_entry (e ∷ es) f least v low none =
+    at (nat_cmp f e.0) refl none (λ above rest. puts_entry es f (e.0 + 1) v above rest)
+  where
+    at : (r : Ordering) → r ≡ nat_cmp f e.0 → cond (is_eq r) (Some e.1) (lookup (is_at (nat_cmp f)) es) ≡ None
+        → (e.0 + 1 ≤ f → lookup (is_at (nat_cmp f)) es ≡ None
+        → Puts f (view v) (e.0 + 1) (field_views es) (field_views (insert_entry nat_cmp es f v)))
+        → Puts f (view v) least (field_views (e ∷ es))
+        (field_views (match_ordering r ((f, v) ∷ e ∷ es) ((e.0, v) ∷ es) (e ∷ insert_entry nat_cmp es f v)))
+    at Less is none further_on = here low (ranked f e.0 Less is)
+    at Equal is none further_on = absurd (none-some _ (sym none))
+    at Greater is none further_on =
+        let above : e.0 < f = ranked f e.0 Greater is in
+        further (further_on (omega arith) none)
 
 -- ---- those that a struct leaves out
 

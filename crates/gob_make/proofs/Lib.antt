@@ -1,5 +1,6 @@
 mod ReadLaws
 mod FieldLaws
+mod NameLaws
 mod ZeroLaws
 mod SkipLaws
 mod SaidLaws

@@ -2,3 +2,4 @@ pub mod Leaf
 pub mod Zero
 pub mod Plain
 pub mod Tells
+pub mod Names

@@ -1,6 +1,5 @@
 -- What tokens say, as they are taken one by one.
-use Rattle.std.specs.Prelude.{◌≡◌, ◌≤◌, ◌<◌, ◌+◌, ◌++◌, ◌∷◌, ℕ, List, [], length, drop, get_or, Bool, Option, Some}
-use Rattle.std.specs.Prelude.{None}
+use Rattle.std.specs.Prelude.{◌≡◌, ◌++◌, ◌∷◌, ℕ, List, [], Bool, Option, Some, None}
 use Rattle.json.specs.Json.{Json, Items, Members}
 use Rattle.json.specs.Json as json
 use Rattle.json.specs.Lex.{tokens}
@@ -13,10 +12,8 @@ use Rattle.gob_types.specs.declared.kind.Field.{Field}
 use Rattle.gob_types.specs.Table.{Table}
 use Rattle.gob_value.specs.Tree.{Tree, Trees, Pairs, Fields, no_field}
 use Rattle.gob_value.specs.Tree as Value
-use Rattle.gob_value.specs.View.{field_views}
-use Rattle.gob_value.specs.declared.value.Value.{Value as Held}
 use Rattle.gob_make.specs.Leaf.{IsNamed, ReadsFloat}
-use Rattle.gob_make.specs.Plain.{ReadsPlain, ReadsEach, ReadsPairs, ReadsEntries, ReadsMembers, IsBelow}
+use Rattle.gob_make.specs.Plain.{ReadsPlain, ReadsEach, ReadsPairs, ReadsEntries, ReadsMembers}
 use Rattle.gob_make.specs.Zero.{AreFilled, AreKept}
 use Rattle.gob_make.specs.declared.said.Said.{Said}
 use Rattle.gob_make.specs.declared.time.Parts.{Parts}
@@ -94,12 +91,6 @@ pub record AddsMember (lenient : Bool) (T : Table) (types : List Field) (number 
   pub stands : old ≡ json_tokens value ++ new
   pub adds : (name : List ℕ) (e : Field) → IsNamed types number name e → (ms : Members) (gs : Fields)
       → ReadsMembers lenient T types more ms gs → ReadsMembers lenient T types fs (json.member name value ms) gs
-
--- behind the field in front of this place, which has a lesser number, and before those of greater ones
-pub record IsPlace (number place : ℕ) (fs : List (ℕ × Held)) : Type 0 where
-  pub within : place ≤ length fs
-  pub behind : (j : ℕ) (d : ℕ × Held) → place ≡ j + 1 → (get_or fs j d).0 < number
-  pub before : IsBelow number (field_views (drop place fs))
 
 -- no token was taken
 pub record SameText (old new : Said) : Type 0 where

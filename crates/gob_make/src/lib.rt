@@ -11,6 +11,7 @@ mod float;
 mod integer;
 mod known;
 mod leaf;
+mod names;
 mod opaque;
 mod plain;
 mod said;

@@ -9,8 +9,9 @@ ghost use Rattle.gob_make.specs.Plain.{ReadsPlain, ReadsPairs, ReadsEntries, Rea
 ghost use Rattle.gob_make.specs.Tells.{AddsMember, Begins, BeginsItems, BeginsMembers, from_token};
 ghost use Rattle.gob_make.specs.Tells.{ReadsArray, ReadsElements, ReadsMap, ReadsStruct};
 
-use crate::fields::{field_named, put_field, without_zeros};
+use crate::fields::{put_field, without_zeros};
 use crate::leaf::read_basic;
+use crate::names::FieldNames;
 use crate::opaque::read_opaque;
 use crate::said::Said;
 use crate::zero::{fill, zero_value};
@@ -19,6 +20,7 @@ use gob_num::Memory;
 use gob_types::{Basic, Field, Kind, Shapes, TypeId};
 use gob_value::Value;
 use json::Token;
+use std::collections::BTreeMap;
 
 /// Reads a value of this type, which begins with the token, and no part of which is deeper than `depth`.
 #[cycle(depth)]
@@ -239,20 +241,17 @@ fn read_members<'t, S: Shapes>(
     types: &[Field],
     depth: u64,
     said: &mut Said<'t>,
-) -> Result<Vec<(u64, Value)>, LineFault>
+) -> Result<BTreeMap<u64, Value>, LineFault>
     ensures read { IfOk result (λ fs. BeginsMembers
-        (λ ms. ReadsMembers said.old.lenient (S.table table.now) types.now no_field ms (field_views fs.items))
+        (λ ms. ReadsMembers said.old.lenient (S.table table.now) types.now no_field ms (field_views fs.entries))
         said.old.tokens said.new.tokens) }
     ensures lenient { said.new.lenient ≡ said.old.lenient }
 {
-    let mut fields = Vec::new(said.alloc);
-    let mut next = 0;
+    let mut fields = BTreeMap::new(said.alloc);
+    let mut names = FieldNames::new(said.alloc, types);
     'members: while let Some(name) = said.next_key()? {
-        match field_named(said.alloc, types, next, name)? {
-            Some(number) => {
-                read_member(table, types, number, depth, &mut fields, said)?;
-                next = number + 1;
-            }
+        match names.number_of(name)? {
+            Some(number) => read_member(table, types, number, depth, &mut fields, said)?,
             None => said.pass_member(name)?,
         }
     }
@@ -266,11 +265,11 @@ fn read_member<'t, S: Shapes>(
     types: &[Field],
     number: usize,
     depth: u64,
-    fields: &mut Vec<(u64, Value)>,
+    fields: &mut BTreeMap<u64, Value>,
     said: &mut Said<'t>,
 ) -> Result<(), LineFault>
     ensures added { OnOk result (AddsMember said.old.lenient (S.table table.now) types.now number
-        (field_views fields.old.items) (field_views fields.new.items) said.old.tokens said.new.tokens) }
+        (field_views fields.old.entries) (field_views fields.new.entries) said.old.tokens said.new.tokens) }
     ensures lenient { said.new.lenient ≡ said.old.lenient }
 {
     let at = said.at;

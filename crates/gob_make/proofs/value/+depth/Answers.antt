@@ -185,17 +185,19 @@ read_value-returns-in_ok-read_opaque-in-Opaque-clause-read g t c =
 
 -- ---- members
 
-pub read_members-members-preserved-in-Some-2 : goal.read_members-members-preserved-in-Some-2
-read_members-members-preserved-in-Some-2 g t c =
+pub read_members-members-preserved-in-Continue-branch-5 : goal.read_members-members-preserved-in-Continue-branch-5
+read_members-members-preserved-in-Continue-branch-5 g t c =
     let T = g.S.Shapes.table c.args.table.now in
     let at = rw c.in-Some.is at c.in_ok-name.ensures.key in
     let l0 = c.in_ok-name.ensures.lenient ∙ c.members.invariant.lenient in
-    let named = rw c.in-Some-2.is at c.in_ok-number.ensures.found in
+    let found = rw c.members.invariant.types at c.in_ok-number.ensures.found in
+    let named = rw c.in-Some-2.is at found in
     let added = adds_leniently l0 c.in_ok-read_member-in-Some-2.ensures.added in
     record {
       goes = one_more_member c.args.said.now.lenient T c.args.types.now c.in-Some-2.number named.0 _ _ _ _ _ _ _
           c.members.invariant.goes at named.1 added;
       lenient = c.in_ok-read_member-in-Some-2.ensures.lenient ∙ l0;
+      types = c.in_ok-number.ensures.types ∙ c.members.invariant.types;
     }
 
 pub read_members-members-preserved : goal.read_members-members-preserved
@@ -204,10 +206,12 @@ read_members-members-preserved g t c =
     let at = rw c.in-Some.is at c.in_ok-name.ensures.key in
     let l0 = c.in_ok-name.ensures.lenient ∙ c.members.invariant.lenient in
     let passed = c.in_ok-pass_member-in-None.ensures.passed in
+    let none = rw c.members.invariant.types at c.in_ok-number.ensures.none in
     record {
       goes = one_left_out c.args.said.now.lenient T c.args.types.now _ _ passed.0 _ _ _ _ c.members.invariant.goes at
-          (sym l0 ∙ c.in_ok-pass_member-in-None.ensures.may) (c.in_ok-number.ensures.none c.in-None.is) passed.1;
+          (sym l0 ∙ c.in_ok-pass_member-in-None.ensures.may) (none c.in-None.is) passed.1;
       lenient = c.in_ok-pass_member-in-None.ensures.lenient ∙ l0;
+      types = c.in_ok-number.ensures.types ∙ c.members.invariant.types;
     }
 
 pub read_entries-returns-clause-read : goal.read_entries-returns-clause-read
@@ -220,7 +224,7 @@ pub read_members-returns-clause-read : goal.read_members-returns-clause-read
 read_members-returns-clause-read g t c =
     let end = rw c.in_default.is at c.in_ok-name.ensures.key in
     all_members c.args.said.now.lenient (g.S.Shapes.table c.args.table.now) c.args.types.now
-    (field_views c.members.fields.items) _ _ _ c.members.invariant.goes end
+    (field_views c.members.fields.entries) _ _ _ c.members.invariant.goes end
 
 pub read_member-returns-then-is_null-clause-added : goal.read_member-returns-then-is_null-clause-added
 read_member-returns-then-is_null-clause-added g t c =

@@ -63,9 +63,10 @@ decreases-read_entries-entries g l = length l.said.tokens
 
 abbrev pub invariant-read_members-members : goal.invariant-read_members-members
 invariant-read_members-members g l = record {
-  goes : MembersGoOn l.fn.said.lenient (g.S.Shapes.table l.table) l.types (field_views l.fields.items) l.fn.said.tokens
-      l.said.tokens;
+  goes : MembersGoOn l.fn.said.lenient (g.S.Shapes.table l.table) l.types (field_views l.fields.entries)
+      l.fn.said.tokens l.said.tokens;
   lenient : l.said.lenient ≡ l.fn.said.lenient;
+  types : l.names.types.now ≡ l.types;
 }
 
 abbrev pub decreases-read_members-members : goal.decreases-read_members-members

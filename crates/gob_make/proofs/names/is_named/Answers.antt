@@ -1,20 +1,8 @@
-use Rattle.std.proofs.Common.{◌≡◌, ◌∙◌, ◌++◌, List, ℕ, Bool, true, false, IsTrue, codes, refl, rules, sym}
-use Rattle.std.specs.Prelude.{◌↔◌, if◌then◌else◌}
-use Rattle.std.specs.Str.{IsUtf8, is_utf8}
-use Rattle.std.proofs.lemmas.Str.{IsUtf8-from_is_utf8, is_utf8-from_IsUtf8}
-use Rattle.hex.specs.Hex.{encode_lower}
+use Rattle.std.proofs.Common.{◌≡◌, ◌∙◌, List, ℕ, Bool, IsTrue, rules, sym}
+use Rattle.std.specs.Prelude.{◌↔◌}
 use Rattle.gob_plain.specs.Plain.{name_text}
-use Rattle.gob_make.proofs.fields.is_named.Goals as goal
-
-utf8_name : (b : List ℕ) → IsUtf8 b → name_text b ≡ b
-utf8_name b h = rw (is_utf8-from_IsUtf8 b h) refl
-
-chosen_by : (test : Bool) (d e : List ℕ) → (test ≡ true → ⊥) → (if test then d else e) ≡ e
-chosen_by true d e h = absurd (h refl)
-chosen_by false d e h = refl
-
-bytes_name : (b : List ℕ) → (IsUtf8 b → ⊥) → name_text b ≡ codes "0x" ++ encode_lower b
-bytes_name b h = chosen_by (is_utf8 b) b (codes "0x" ++ encode_lower b) (λ e. h (IsUtf8-from_is_utf8 b e))
+use Rattle.gob_make.proofs.NameLaws.{bytes_name, utf8_name}
+use Rattle.gob_make.proofs.names.is_named.Goals as goal
 
 named : (b name text found : List ℕ) (r : Bool) → name_text b ≡ found → text ≡ found → IsTrue r ↔ (text ≡ name)
     → IsTrue r ↔ (name_text b ≡ name)
