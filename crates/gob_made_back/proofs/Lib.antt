@@ -1,0 +1,9 @@
+mod LeafLaws
+mod DigitLaws
+mod FloatLaws
+mod ContentLaws
+mod KeyLaws
+mod MapLaws
+mod ZeroLaws
+mod FieldLaws
+mod ValueLaws
