@@ -146,6 +146,6 @@ pub content_same : {c : Content} {j : Json} {b : List ℕ} (k : Json) → ReadsC
     → IsSameOpaque c j k
 content_same {c = c} {b = b} k (as_shown {j = j} s) t =
     subst (λ i. IsSameOpaque c j i) (content_once c b j k s t) (alike.same b s)
-content_same {c = c} {b = b} k (with_zeros {text = text} {trimmed = trimmed} z s) t =
+content_same {c = c} {b = b} k (with_zeros {text = text} {trimmed = trimmed} m z s) t =
     subst (λ i. IsSameOpaque c (json.string text) i) (content_once c b (json.string trimmed) k s t)
-    (alike.trimmed b z s)
+    (alike.trimmed b m z s)

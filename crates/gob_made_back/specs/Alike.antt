@@ -1,7 +1,7 @@
 -- Two plain JSONs that say one value of a type: one as `make` reads it, and the one that `values` prints of that value.
 -- Neither the value nor the code is spoken of. (docs/FORMAT.md, Plain JSON as input; Plain values.)
 use Rattle.std.specs.Prelude.{◌≡◌, ◌≢◌, ◌==◌, ◌&&◌, ◌||◌, ◌<◌, ◌≤◌, ◌++◌, ◌+◌, not, ⊤, ℕ, List, [], ◌∷◌, Bool, true}
-use Rattle.std.specs.Prelude.{false, Some, codes, if◌then◌else◌, slice_get}
+use Rattle.std.specs.Prelude.{false, IsTrue, Some, codes, if◌then◌else◌, slice_get}
 use Rattle.std.specs.Float.{float_is_finite, float_zero}
 use Rattle.std.specs.Float.Ieee.{Float, binary64}
 use Rattle.ryu.specs.Parse.{parse_float}
@@ -27,7 +27,7 @@ use Rattle.gob_plain.specs.Plain.{SaysBoth, SaysPattern, all_differ, gives_names
 use Rattle.gob_plain.specs.Plain.{said_key}
 use Rattle.gob_plain.specs.declared.opaque.Content.{Content}
 use Rattle.gob_plain.specs.declared.style.Style.{Style}
-use Rattle.gob_make.specs.Leaf.{IsNamed, IsTrimmed}
+use Rattle.gob_make.specs.Leaf.{IsNamed, IsTrimmed, may_be_time}
 use Rattle.gob_make.specs.Plain.{IsUnknown, ReadsPlain}
 
 -- ---- values without parts
@@ -53,12 +53,12 @@ pub data IsSameBasic : Basic → Json → Json → Type 0 where
   same_bytes : {base64 : List ℕ} → IsSameBasic basic.Bytes (json.string base64) (json.string base64)
   same_text : (text : List ℕ) → IsSameBasic basic.Str (outline (text_json text)) (outline (text_json text))
 
--- What is shown of some bytes of this content, but that there may be zeros at the end of the digits of a second. As in
--- what `make` is proved to read, a content that is no time may have a text of that form too.
+-- what is shown of some bytes of this content, but that there may be zeros at the end of the digits of a second where
+-- they may be a time
 pub data IsSameOpaque (c : Content) : Json → Json → Type 0 where
   same : (b : List ℕ) {j : Json} → SaysContent c b j → IsSameOpaque c j j
-  trimmed : (b : List ℕ) {text shown : List ℕ} → IsTrimmed text shown → SaysContent c b (json.string shown)
-      → IsSameOpaque c (json.string text) (json.string shown)
+  trimmed : (b : List ℕ) {text shown : List ℕ} → IsTrue (may_be_time c) → IsTrimmed text shown
+      → SaysContent c b (json.string shown) → IsSameOpaque c (json.string text) (json.string shown)
 
 -- ---- maps: their entries as [key,element], which an object has too, by the names of its members
 

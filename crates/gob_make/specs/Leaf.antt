@@ -1,5 +1,6 @@
 -- What plain JSON says of values without parts, and of names. (docs/FORMAT.md, Plain JSON as input.)
-use Rattle.std.specs.Prelude.{◌≡◌, ◌<◌, ◌^◌, ◌++◌, ℕ, ℤ, List, Bool, true, Some, codes, slice_get, FitsSigned}
+use Rattle.std.specs.Prelude.{◌≡◌, ◌<◌, ◌^◌, ◌++◌, ℕ, ℤ, List, Bool, true, false, IsTrue, Some, codes, slice_get}
+use Rattle.std.specs.Prelude.{FitsSigned}
 use Rattle.std.specs.Int.{w64}
 use Rattle.std.specs.Fmt.{decimal, signed_decimal}
 use Rattle.std.specs.List.{All}
@@ -21,6 +22,7 @@ use Rattle.gob_plain.specs.FloatText.{pointed}
 use Rattle.gob_plain.specs.OpaqueText.{SaysBytes, SaysContent}
 use Rattle.gob_plain.specs.Plain.{name_text}
 use Rattle.gob_plain.specs.declared.opaque.Content.{Content}
+use Rattle.gob_plain.specs.declared.opaque.Content.TheVariants as content
 
 -- ---- floats
 
@@ -59,11 +61,18 @@ pub record IsTrimmed (text trimmed : List ℕ) : Type 0 where
   pub are_zeros : All (λ digit. digit ≡ 48) zeros
   pub rest : trimmed ≡ clock ++ pointed part ++ zone
 
--- the bytes have the JSON that is shown of them, but that there may be zeros at the end of the digits of a second
+-- what is taken for this may be a time
+abbrev pub may_be_time : Content → Bool
+may_be_time content.Time = true
+may_be_time content.TimeOrInt = true
+may_be_time _ = false
+
+-- the bytes have the JSON that is shown of them, but that there may be zeros at the end of the digits of a second where
+-- they may be a time
 pub data ReadsContent (c : Content) : Json → List ℕ → Type 0 where
   as_shown : {j : Json} {b : List ℕ} → SaysContent c b j → ReadsContent c j b
-  with_zeros : {text trimmed b : List ℕ} → IsTrimmed text trimmed → SaysContent c b (json.string trimmed)
-      → ReadsContent c (json.string text) b
+  with_zeros : {text trimmed b : List ℕ} → IsTrue (may_be_time c) → IsTrimmed text trimmed
+      → SaysContent c b (json.string trimmed) → ReadsContent c (json.string text) b
 
 -- ---- names
 

@@ -1,11 +1,11 @@
 //! Values of opaque types, by the JSON that is shown of them.
 
-ghost use Rattle.std.specs.Prelude.{◌≡◌, IfOk, IfSome};
+ghost use Rattle.std.specs.Prelude.{◌≡◌, IfOk, IfSome, IsTrue};
 ghost use Rattle.json.specs.Json as json;
 ghost use Rattle.base64.specs.Engines.{standard};
 ghost use Rattle.base64.specs.GeneralPurpose.{encode_of};
 ghost use Rattle.gob_plain.specs.OpaqueText.{content_by};
-ghost use Rattle.gob_make.specs.Leaf.{ReadsContent};
+ghost use Rattle.gob_make.specs.Leaf.{ReadsContent, may_be_time};
 ghost use Rattle.gob_make.specs.Tells.{Begins, from_token};
 
 use crate::integer::integer_bytes;
@@ -94,7 +94,9 @@ fn bytes_of(alloc: Global, content: Content, text: &str) -> Result<Option<Vec<u8
 }
 
 // Whether values that are taken for this may be times.
-fn may_be_time(content: Content) -> bool {
+fn may_be_time(content: Content) -> bool
+    ensures { result ≡ may_be_time content }
+{
     matches!(content, Content::Time | Content::TimeOrInt)
 }
 
@@ -114,6 +116,7 @@ fn bytes_by(alloc: Global, content: Content, text: &str) -> Result<Option<Vec<u8
 
 // The bytes of the time that this text is.
 fn moment_of(alloc: Global, content: Content, text: &str) -> Result<Option<Vec<u8>>, Memory>
+    requires { IsTrue (may_be_time content) }
     ensures { IfOk result (λ found. IfSome found (λ b. ReadsContent content (json.string text.now) b.items)) }
 {
     let Some(parts) = parts_of(text) else {
