@@ -13,7 +13,7 @@ from ._encode import json_of
 from ._errors import BadTypes, BadValue
 from ._library import WriterFault, library
 
-# Go source of types, the path of a file of it (`.go`) or of a stream, the bytes of a stream, or a class with annotations
+# Go source of types, the path of a file of it (`.go`) or of a stream, the bytes of a stream, or an annotated class
 Types = Union[str, "os.PathLike[str]", bytes, bytearray, memoryview, type[Any]]
 _WORDS = re.compile(r"gob: (?:column \d+(?:, at (?P<path>.*?))?: )?(?P<what>.*)", re.S)
 
