@@ -468,6 +468,67 @@ int64_t gob_values_text(const void *bytes, size_t count, const gob_limits *limit
     return texted(told, out, size);
 }
 
+int64_t gob_lines_text(const void *bytes, size_t count, const gob_limits *limits, char *out, size_t size) {
+    struct raw_text told;
+    struct raw_asked asked = asked_of(limits, false);
+    if (is_misused(bytes, count, out, size)) return -GOB_MISUSED;
+    gob_raw_lines_text(some_bytes(bytes, count), count, &asked, room_of(out, size), room_for(size), &told);
+    return texted(told, out, size);
+}
+
+/* ---- streams */
+
+/* Tells how the making of a stream ended, whose words stand in the fault already, and answers how long it is. */
+static int64_t streamed(const struct raw_stream *told, gob_writer_fault *fault) {
+    struct raw_written said = {told->status, told->reason, told->column, told->words};
+    gob_status status = ended_so(&said, fault);
+    return status == GOB_OK || status == GOB_REFUSED ? (int64_t)told->length : -(int64_t)status;
+}
+
+int64_t gob_lines_stream(const char *lines, size_t count, void *out, size_t size, gob_writer_fault *fault) {
+    gob_writer_fault unseen;
+    struct raw_stream told = {.status = GOB_MISUSED};
+    if (fault == NULL) fault = &unseen;
+    *fault = (gob_writer_fault){.status = GOB_OK};
+    if (!is_misused(lines, count, out, size)) {
+        gob_raw_lines_stream(some_bytes(lines, count), count, size != 0 ? out : &nowhere, size, &told,
+                             (unsigned char *)fault->text, sizeof fault->text);
+    }
+    return streamed(&told, fault);
+}
+
+/* One of the exports that convert a stream. */
+typedef void converting(const unsigned char *bytes, size_t count, const struct raw_asked *asked,
+                        const unsigned char *types, size_t types_count, const unsigned char *name, size_t name_count,
+                        unsigned char *room, size_t size, struct raw_stream *told, unsigned char *said,
+                        size_t said_size);
+
+static int64_t converted(converting *made, const void *bytes, size_t count, const gob_limits *limits, const void *types,
+                         size_t types_count, const char *name, void *out, size_t size, gob_writer_fault *fault) {
+    gob_writer_fault unseen;
+    struct raw_stream told = {.status = GOB_MISUSED};
+    struct raw_asked asked = asked_of(limits, false);
+    if (fault == NULL) fault = &unseen;
+    *fault = (gob_writer_fault){.status = GOB_OK};
+    if (!is_misused(bytes, count, out, size) && (types != NULL || types_count == 0)) {
+        size_t length = name != NULL ? strlen(name) : 0;
+        made(some_bytes(bytes, count), count, &asked, some_bytes(types, types_count), types_count,
+             some_bytes(name, length), length, size != 0 ? out : &nowhere, size, &told, (unsigned char *)fault->text,
+             sizeof fault->text);
+    }
+    return streamed(&told, fault);
+}
+
+int64_t gob_convert(const void *bytes, size_t count, const gob_limits *limits, const char *source, size_t source_count,
+                    const char *name, void *out, size_t size, gob_writer_fault *fault) {
+    return converted(gob_raw_convert, bytes, count, limits, source, source_count, name, out, size, fault);
+}
+
+int64_t gob_convert_like(const void *bytes, size_t count, const gob_limits *limits, const void *stream,
+                         size_t stream_count, const char *name, void *out, size_t size, gob_writer_fault *fault) {
+    return converted(gob_raw_convert_like, bytes, count, limits, stream, stream_count, name, out, size, fault);
+}
+
 /* ---- the rest */
 
 uint32_t gob_abi(void) { return GOB_ABI; }

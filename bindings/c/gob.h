@@ -37,8 +37,8 @@
  *
  * Stack. A call takes less than 32 KB of it however deep a value is. Where interfaces hold others in one another, 999
  * at the most, it takes up to 1 KB for each of them: 1 MB in all. With a reader of gob_open_exact it never does. A call
- * for a text takes up to 1 KB for each level of a value, and one of a writer up to 2 KB, of which there are 1000 at the
- * most.
+ * for a text takes up to 1 KB for each level of a value, and one of a writer or for a stream up to 2 KB, of which there
+ * are 1000 at the most.
  *
  * x86-64 Linux, from x86-64-v2 on. Link with -lgob, or take flags from pkg-config's gob.
  */
@@ -414,12 +414,13 @@ GOB_API void gob_check_close(gob_checker *checker);
  * A value may be as deep as 1000, and an item, as a stream, as long as the standard limits say: what is longer is
  * refused, as it would be read. */
 
-/* How a call of a writer ended. Each call that takes one writes all of it; NULL may stand for it. `text` says why in
- * UTF-8, as the program says it: "gob: column 6, at .X: a whole number of 64 bits is due". It is one line, which ends
- * with a 0, and is cut where it is long or memory is wanting. Behind GOB_OK and GOB_MISUSED it is empty. */
+/* How a call of a writer ended, or one that makes a stream. Each call that takes one writes all of it; NULL may stand
+ * for it. `text` says why in UTF-8, as the program says it: "gob: column 6, at .X: a whole number of 64 bits is due".
+ * It is one line, which ends with a 0, and is cut where it is long or memory is wanting. Behind GOB_OK, GOB_MISUSED and
+ * GOB_BAD_LIMITS it is empty. */
 typedef struct gob_writer_fault {
     uint32_t status; /* a gob_status */
-    uint32_t reason; /* where no stream goes on with the value or a definition: why, as GOB_REASON_TOO_DEEP; else 0 */
+    uint32_t reason; /* where a stream is refused, or can't go on: why, as GOB_REASON_TOO_DEEP; else 0 */
     uint64_t column; /* where the text says no value of the type: at which of its bytes, from 1; else 0 */
     char text[496];
 } gob_writer_fault;
@@ -477,6 +478,41 @@ GOB_API int64_t gob_types_text(const void *bytes, size_t count, const gob_limits
 /* So it gives what `gob values` prints: a line of plain JSON for each value of a stream; of a refused stream those of
  * the items before. */
 GOB_API int64_t gob_values_text(const void *bytes, size_t count, const gob_limits *limits, char *out, size_t size);
+
+/* So it gives what `gob show --go` prints: lines of JSON that say all of each item of a stream, those of the
+ * definitions in a value before its own; of a refused stream those of the items before. */
+GOB_API int64_t gob_lines_text(const void *bytes, size_t count, const gob_limits *limits, char *out, size_t size);
+
+/* ---- Streams of lines, and of other streams
+ *
+ * What gob_lines_text gives is changed as text, and written as a stream again; and the values of a stream become those
+ * of another type, as Go's decoder takes them into it.
+ *
+ * These write no more than `size` bytes of the stream to `out`, with no 0 behind it, and answer how many it has: where
+ * they are more than `size` it was cut. `out` may be NULL where `size` is 0. The answer is below 0 where there is none:
+ * -GOB_NO_MEMORY, -GOB_BAD_LIMITS or -GOB_MISUSED. `fault` may be NULL; where its status is GOB_REFUSED the stream ends
+ * in front of what is refused, and its text says what that is. */
+
+/* The stream that these lines say, `count` bytes of them, as `gob write --go` writes it. A text of digits may stand for
+ * each number, the members of a definition in any order, and a line of white space says nothing. Where a line says no
+ * item by the types of those before, that is GOB_REFUSED, at the byte `fault->column` of the line that the text names,
+ * as "gob: line 3, column 28, at .X: a whole number of 64 bits is due". Where no stream goes on with its item
+ * `fault->reason` says why, as GOB_REASON_TOO_DEEP, and no line may have more than 268435456 bytes. */
+GOB_API int64_t gob_lines_stream(const char *lines, size_t count, void *out, size_t size, gob_writer_fault *fault);
+
+/* The stream of the values of another, of the format that Go documents, each received as one of the type that this Go
+ * source declares, as `gob convert` writes it: the type of this name, or where `name` is NULL or has no bytes the first
+ * that is declared. Fields go by their names: those that the wanted type lacks are left out. GOB_REFUSED where the
+ * source gives no such type; where the bytes are refused, with `fault->reason`; and where the type of a value doesn't
+ * match: "gob: clash 33 DifferentKind at .X". */
+GOB_API int64_t gob_convert(const void *bytes, size_t count, const gob_limits *limits, const char *source,
+                            size_t source_count, const char *name, void *out, size_t size, gob_writer_fault *fault);
+
+/* So it makes the stream of values of a type of a third stream: of this name or id there, or where `name` is NULL or
+ * has no bytes of that of the stream's first value. */
+GOB_API int64_t gob_convert_like(const void *bytes, size_t count, const gob_limits *limits, const void *stream,
+                                 size_t stream_count, const char *name, void *out, size_t size,
+                                 gob_writer_fault *fault);
 
 #ifdef __cplusplus
 }

@@ -66,6 +66,25 @@ void gob_raw_writer_put(void **writer, const unsigned char *text, size_t count, 
 void gob_raw_writer_take(void **writer, unsigned char *room, size_t size, uint64_t *count);
 void gob_raw_writer_close(void *writer);
 
+/* What is told of a stream that is made in memory, as much of which stands in the room as there is room for: how that
+ * ended, and how long it is. Of a fault its words stand in `said`, as much of them as there is room for; `words` is how
+ * long they are. */
+struct raw_stream {
+    uint32_t status, reason;
+    uint64_t column, words, length;
+};
+void gob_raw_lines_text(const unsigned char *bytes, size_t count, const struct raw_asked *asked, unsigned char *room,
+                        size_t size, struct raw_text *told);
+void gob_raw_lines_stream(const unsigned char *lines, size_t count, unsigned char *room, size_t size,
+                          struct raw_stream *told, unsigned char *said, size_t said_size);
+void gob_raw_convert(const unsigned char *bytes, size_t count, const struct raw_asked *asked,
+                     const unsigned char *source, size_t source_count, const unsigned char *name, size_t name_count,
+                     unsigned char *room, size_t size, struct raw_stream *told, unsigned char *said, size_t said_size);
+void gob_raw_convert_like(const unsigned char *bytes, size_t count, const struct raw_asked *asked,
+                          const unsigned char *stream, size_t stream_count, const unsigned char *name,
+                          size_t name_count, unsigned char *room, size_t size, struct raw_stream *told,
+                          unsigned char *said, size_t said_size);
+
 /* What the archive asks of its caller: memory. A block that isn't had is told by `ok`, and its pointer isn't NULL. */
 struct raw_block {
     bool ok;

@@ -254,6 +254,88 @@ void gob_raw_values_text(const unsigned char *bytes, size_t count, const struct 
     say(box, room, size, told);
 }
 
+void gob_raw_lines_text(const unsigned char *bytes, size_t count, const struct raw_asked *asked, unsigned char *room,
+                        size_t size, struct raw_text *told) {
+    sandbox *box = about(bytes, count, asked, size);
+    *told = (struct raw_text){.status = GOB_NO_MEMORY};
+    if (box == NULL) return;
+    code_gob_raw_lines_text(&box->wasm, box->bytes.at, count, box->piece, box->heads.at, size, box->told);
+    say(box, room, size, told);
+}
+
+/* Where what is said of a stream is put, and how much room there is. */
+typedef struct words {
+    unsigned char *said;
+    u64 size;
+    block in;
+} words;
+
+static bool has_words(sandbox *box, words *to) { return room_in(box, &to->in, to->size) == to->size; }
+
+/* Copies out a stream, what is said of it and what is told of both, and ends. */
+static void say_stream(sandbox *box, unsigned char *room, size_t size, const words *to, struct raw_stream *told) {
+    hear(box, told, sizeof *told);
+    get(box, room, size, box->heads.at, at_most(told->length, size));
+    get(box, to->said, to->size, to->in.at, at_most(told->words, to->size));
+    end(box);
+}
+
+void gob_raw_lines_stream(const unsigned char *lines, size_t count, unsigned char *room, size_t size,
+                          struct raw_stream *told, unsigned char *said, size_t said_size) {
+    static const struct raw_asked nothing;
+    words to = {said, said_size, {0, 0}};
+    sandbox *box = about(lines, count, &nothing, size);
+    *told = (struct raw_stream){.status = GOB_NO_MEMORY};
+    if (box != NULL && has_words(box, &to)) {
+        code_gob_raw_lines_stream(&box->wasm, box->bytes.at, count, box->heads.at, size, box->told, to.in.at, to.size);
+        say_stream(box, room, size, &to, told);
+        return;
+    }
+    end(box);
+}
+
+/* One of the exports that convert a stream. */
+typedef void code_converting(code *, u64 bytes, u64 count, u64 asked, u64 types, u64 types_count, u64 name,
+                             u64 name_count, u64 room, u64 size, u64 told, u64 said, u64 said_size);
+
+/* Bytes that a call is given. */
+typedef struct given {
+    const unsigned char *bytes;
+    size_t count;
+} given;
+
+static void convert(code_converting *made, given stream, const struct raw_asked *asked, given types, given name,
+                    unsigned char *room, size_t size, words *to, struct raw_stream *told) {
+    block named = {0, 0};
+    sandbox *box = about(stream.bytes, stream.count, asked, size);
+    *told = (struct raw_stream){.status = GOB_NO_MEMORY};
+    if (box != NULL && lent(box, &box->nodes, types.bytes, types.count) &&
+        lent(box, &named, name.bytes, name.count) && has_words(box, to)) {
+        made(&box->wasm, box->bytes.at, stream.count, box->piece, box->nodes.at, types.count, named.at, name.count,
+             box->heads.at, size, box->told, to->in.at, to->size);
+        say_stream(box, room, size, to, told);
+        return;
+    }
+    end(box);
+}
+
+void gob_raw_convert(const unsigned char *bytes, size_t count, const struct raw_asked *asked,
+                     const unsigned char *source, size_t source_count, const unsigned char *name, size_t name_count,
+                     unsigned char *room, size_t size, struct raw_stream *told, unsigned char *said, size_t said_size) {
+    words to = {said, said_size, {0, 0}};
+    convert(code_gob_raw_convert, (given){bytes, count}, asked, (given){source, source_count},
+            (given){name, name_count}, room, size, &to, told);
+}
+
+void gob_raw_convert_like(const unsigned char *bytes, size_t count, const struct raw_asked *asked,
+                          const unsigned char *stream, size_t stream_count, const unsigned char *name,
+                          size_t name_count, unsigned char *room, size_t size, struct raw_stream *told,
+                          unsigned char *said, size_t said_size) {
+    words to = {said, said_size, {0, 0}};
+    convert(code_gob_raw_convert_like, (given){bytes, count}, asked, (given){stream, stream_count},
+            (given){name, name_count}, room, size, &to, told);
+}
+
 /* One of the exports that make a writer. */
 typedef void writer_opening(code *, u64 types, u64 count, u64 name, u64 name_count, u64 handle, u64 told, u64 room,
                             u64 size);

@@ -1,47 +1,65 @@
-/* What `gob why`, `gob types` or `gob values` says of a stream, by the library: texts [COMMAND] <STREAM. */
+/* What `gob why`, `gob types`, `gob values` or `gob show --go` says of a stream, by the library, and the streams that
+ * `gob write --go` and `gob convert` make of theirs: texts [why|types|values|lines|write|convert SOURCE|like FILE] <IN.
+ * SOURCE is Go source, and FILE has a stream. */
 #include "../gob.h"
 
 #include <stdio.h>
 #include <stdlib.h>
 
-static unsigned char *all;
-static size_t size;
+/* Bytes that were read. */
+struct bytes {
+    unsigned char *at;
+    size_t size;
+};
+
+static struct bytes all, wanted;
 
 static int lacks_memory(void) {
     fprintf(stderr, "gob: out of memory\n");
-    free(all);
+    free(all.at);
+    free(wanted.at);
     return 2;
 }
 
-static int read_all(void) {
+static int is_read(FILE *file, struct bytes *to) {
     size_t room = 1 << 20;
-    all = malloc(room);
-    for (size_t count; all != NULL && (count = fread(all + size, 1, room - size, stdin)) > 0;) {
-        size += count;
-        if (size < room) continue;
-        unsigned char *grown = realloc(all, room *= 2);
-        if (grown == NULL) free(all);
-        all = grown;
+    to->at = file == NULL ? NULL : malloc(room);
+    for (size_t count; to->at != NULL && (count = fread(to->at + to->size, 1, room - to->size, file)) > 0;) {
+        to->size += count;
+        if (to->size < room) continue;
+        unsigned char *grown = realloc(to->at, room *= 2);
+        if (grown == NULL) free(to->at);
+        to->at = grown;
     }
-    return all != NULL;
+    return to->at != NULL;
 }
 
-static int64_t text(const char *command, char *out, size_t room) {
-    if (strcmp(command, "types") == 0) return gob_types_text(all, size, NULL, out, room);
-    if (strcmp(command, "values") == 0) return gob_values_text(all, size, NULL, out, room);
-    return gob_why_text(all, size, NULL, NULL, out, room);
+static int64_t made(const char *command, const char *source, void *out, size_t room) {
+    if (strcmp(command, "types") == 0) return gob_types_text(all.at, all.size, NULL, out, room);
+    if (strcmp(command, "values") == 0) return gob_values_text(all.at, all.size, NULL, out, room);
+    if (strcmp(command, "lines") == 0) return gob_lines_text(all.at, all.size, NULL, out, room);
+    if (strcmp(command, "write") == 0) return gob_lines_stream((const char *)all.at, all.size, out, room, NULL);
+    if (strcmp(command, "convert") == 0) {
+        return gob_convert(all.at, all.size, NULL, source, strlen(source), NULL, out, room, NULL);
+    }
+    if (strcmp(command, "like") == 0) {
+        return gob_convert_like(all.at, all.size, NULL, wanted.at, wanted.size, NULL, out, room, NULL);
+    }
+    return gob_why_text(all.at, all.size, NULL, NULL, out, room);
 }
 
 int main(int argc, char **argv) {
-    const char *command = argc > 1 ? argv[1] : "why";
-    if (!read_all()) return lacks_memory();
-    int64_t due = text(command, NULL, 0);
+    const char *command = argc > 1 ? argv[1] : "why", *source = argc > 2 ? argv[2] : "";
+    if (strcmp(command, "like") == 0 && !is_read(fopen(source, "rb"), &wanted)) return lacks_memory();
+    if (!is_read(stdin, &all)) return lacks_memory();
+    int64_t due = made(command, source, NULL, 0);
     char *room = due < 0 ? NULL : malloc((size_t)due + 1);
     if (room == NULL) return lacks_memory();
-    int64_t is = text(command, room, (size_t)due + 1);
-    if (is == due) fputs(room, stdout);
+    int64_t is = made(command, source, room, (size_t)due + 1);
+    if (is == due) fwrite(room, 1, (size_t)is, stdout);
     free(room);
     if (is == -GOB_NO_MEMORY) return lacks_memory();
-    free(all);
+    free(all.at);
+    free(wanted.at);
     return is != due || fflush(stdout) != 0 ? 3 : 0;
 }

@@ -30,15 +30,17 @@ from typing import Any, BinaryIO, Callable, Iterable, Iterator, Mapping, NamedTu
 
 from ._annotations import go_source
 from ._decode import Decoder, Held, Opaque, Options, Pairs
-from ._errors import BadTypes, BadValue, Error
+from ._errors import BadLine, BadTypes, BadValue, Clash, Error
 from ._library import Batch, Counts, Fault, Head, Limits as _Limits, Node, library
 from ._types import Field, Type, type_of
-from ._writer import Writer, dump, dumps
-from . import _texts, go
+from ._streams import from_lines
+from ._writer import Types as _TypesGiven, Writer, dump, dumps
+from . import _streams, _texts, go
 
-__all__ = ["BadTypes", "BadValue", "Error", "Field", "Held", "Item", "Limits", "Opaque", "Pairs", "Reader", "Reason",
-           "Refused", "Summary", "Type", "Writer", "check", "dump", "dumps", "go", "go_source", "iter_items",
-           "iter_values", "load", "loads", "source", "types", "why"]
+__all__ = ["BadLine", "BadTypes", "BadValue", "Clash", "Error", "Field", "Held", "Item", "Limits", "Opaque", "Pairs",
+           "Reader", "Reason", "Refused", "Summary", "Type", "Writer", "check", "convert", "dump", "dumps",
+           "from_lines", "go", "go_source", "iter_items", "iter_values", "lines", "load", "loads", "source", "types",
+           "why"]
 
 Source = Union[str, "os.PathLike[str]", bytes, bytearray, memoryview, BinaryIO, Iterable[bytes]]
 # makes of values of one type, and of where their items begin and end, what is given of them
@@ -454,12 +456,57 @@ def source(source: Source, *, limits: Limits | None = None) -> str:
     which the path is given is mapped; the bytes of any other source are held in memory.
     """
     text, fault = _texts.source(_held(source), None if limits is None else _Limits(*limits))
+    _raise_with(fault, text, source)
+    return text
+
+
+def lines(source: Source, *, limits: Limits | None = None) -> str:
+    """The items of a stream as lines of JSON that say all of each: what `gob show --go` prints. `from_lines` gives the
+    stream again, also of some of them, and of changed ones.
+
+        rows = [json.loads(line) for line in gob.lines("logins.gob").split("\\n") if line]
+        data = gob.from_lines(row for row in rows if row.get("type") != 65)
+
+    Where the bytes are refused, `Refused` has the lines before the fault as its one value. The bytes are mapped or held
+    as by `source`.
+    """
+    text, fault = _texts.lines(_held(source), None if limits is None else _Limits(*limits))
+    _raise_with(fault, text, source)
+    return text
+
+
+def convert(source: Source, types: _TypesGiven, type: str | None = None, *, limits: Limits | None = None) -> bytes:
+    """The stream of the values of another, each as one of a type that `types` and `type` say as they do for `Writer`:
+    what `gob convert` writes, and what Go's decoder would take into that type.
+
+    Fields go by their names, and those that the type lacks are left out. The stream is one of the documented format.
+    Raises `BadTypes`, `Clash` where the type of a value doesn't match, and `Refused`, which has the stream of the
+    values before the fault as its one value. The bytes are mapped or held as by `source`.
+    """
+    held = _held(source)
+    asked = None if limits is None else _Limits(*limits)
+    data, words = _streams.convert(held, asked, types, type)
+    if words is not None:
+        _raise_with(_exact_fault(held, limits), data, source)
+        raise Error(words)
+    return data
+
+
+def _exact_fault(held: _texts.Held, limits: Limits | None) -> Fault:
+    """How these bytes end as those of the documented format, where no value is deeper than 1000."""
+    fault, asked = Fault(), limits or Limits()
+    chosen = _Limits(*asked._replace(depth=min(asked.depth, 1000)))
+    library.gob_check_exact(*held, ctypes.byref(chosen), None, ctypes.byref(fault))
+    return fault
+
+
+def _raise_with(fault: Fault, made: Any, source: Source) -> None:
+    """Raises what the fault is, with what was made before it."""
     try:
         _raise(fault)
     except Refused as refused:
-        refused.values, refused.path = [text], _path(source)
+        refused.values, refused.path = [made], _path(source)
         raise
-    return text
 
 
 def why(source: Source, name: str | None = None, *, limits: Limits | None = None) -> str:

@@ -12,6 +12,37 @@ class BadTypes(Error):
     """There is no such type to write values of; the text says why, of Go source with the line and the column."""
 
 
+class BadLine(Error):
+    """A line says no item of a stream.
+
+    `what` says why, `line` which line it is, from 1, `column` at which of its bytes, from 1, or 0 for the whole line,
+    `path` where in its value, and `data` is the stream of the lines before.
+    """
+
+    def __init__(self, what: str, line: int, column: int = 0, path: str = "", data: bytes = b""):
+        place = f"line {line}{f', column {column}' if column else ''}{f', at {path}' if path else ''}"
+        super().__init__(f"{place}: {what}")
+        self.what, self.line, self.column, self.path, self.data = what, line, column, path, data
+
+    def __reduce__(self) -> tuple[Any, ...]:
+        return BadLine, (self.what, self.line, self.column, self.path, self.data)
+
+
+class Clash(Error):
+    """The type of a value doesn't match the wanted one.
+
+    `reason` says why, as `DifferentKind`, `path` where in the types, as `.Tries`, `[]` for an element, `{}` for a key
+    or `top` for the types themselves, and `data` is the stream of the values before.
+    """
+
+    def __init__(self, reason: str, path: str, data: bytes = b""):
+        super().__init__(f"{reason} at {path}")
+        self.reason, self.path, self.data = reason, path, data
+
+    def __reduce__(self) -> tuple[Any, ...]:
+        return Clash, (self.reason, self.path, self.data)
+
+
 class BadValue(Error):
     """A value isn't one of the writer's type, and isn't written.
 

@@ -102,6 +102,8 @@ def _load() -> ctypes.CDLL:
 library = _load()
 _reader, _checker, _counts, _fault = ctypes.c_void_p, ctypes.c_void_p, ctypes.POINTER(Counts), ctypes.POINTER(Fault)
 _writer, _writer_fault = ctypes.c_void_p, ctypes.POINTER(WriterFault)
+_converting = (ctypes.c_void_p, ctypes.c_size_t, ctypes.POINTER(Limits), ctypes.c_char_p, ctypes.c_size_t,
+               ctypes.c_char_p, ctypes.c_char_p, ctypes.c_size_t, _writer_fault)
 _calls: list[tuple[Any, ...]] = [
     ("gob_open", _reader, ctypes.POINTER(Limits), _fault),
     ("gob_open_exact", _reader, ctypes.POINTER(Limits), _fault),
@@ -111,6 +113,7 @@ _calls: list[tuple[Any, ...]] = [
     ("gob_type", ctypes.POINTER(Item), _reader, ctypes.c_uint32),
     ("gob_close", None, _reader),
     ("gob_check", ctypes.c_int, ctypes.c_void_p, ctypes.c_size_t, ctypes.POINTER(Limits), _counts, _fault),
+    ("gob_check_exact", ctypes.c_int, ctypes.c_void_p, ctypes.c_size_t, ctypes.POINTER(Limits), _counts, _fault),
     ("gob_check_open", _checker, ctypes.POINTER(Limits), _fault),
     ("gob_check_open_exact", _checker, ctypes.POINTER(Limits), _fault),
     ("gob_check_feed", ctypes.c_int, _checker, ctypes.c_char_p, ctypes.c_size_t, _counts, _fault),
@@ -127,6 +130,12 @@ _calls: list[tuple[Any, ...]] = [
     ("gob_writer_close", None, _writer),
     ("gob_types_text", ctypes.c_int64, ctypes.c_void_p, ctypes.c_size_t, ctypes.POINTER(Limits), ctypes.c_char_p,
      ctypes.c_size_t),
+    ("gob_lines_text", ctypes.c_int64, ctypes.c_void_p, ctypes.c_size_t, ctypes.POINTER(Limits), ctypes.c_char_p,
+     ctypes.c_size_t),
+    ("gob_lines_stream", ctypes.c_int64, ctypes.c_char_p, ctypes.c_size_t, ctypes.c_char_p, ctypes.c_size_t,
+     _writer_fault),
+    ("gob_convert", ctypes.c_int64, *_converting),
+    ("gob_convert_like", ctypes.c_int64, *_converting),
 ]
 for _name, _result, *_words in _calls:
     _function = getattr(library, _name)

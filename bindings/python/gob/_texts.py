@@ -46,6 +46,15 @@ def why(held: Held, limits: Limits | None, name: bytes | None) -> str:
 
 def source(held: Held, limits: Limits | None) -> tuple[str, Fault]:
     """What `gob types` prints of them, and how they end."""
-    text, fault = text_by(library.gob_types_text, held, limits), Fault()
+    return _checked(library.gob_types_text, held, limits)
+
+
+def lines(held: Held, limits: Limits | None) -> tuple[str, Fault]:
+    """What `gob show --go` prints of them, and how they end."""
+    return _checked(library.gob_lines_text, held, limits)
+
+
+def _checked(call: Callable[..., int], held: Held, limits: Limits | None) -> tuple[str, Fault]:
+    text, fault = text_by(call, held, limits), Fault()
     library.gob_check(*held, None if limits is None else ctypes.byref(limits), None, ctypes.byref(fault))
     return text, fault

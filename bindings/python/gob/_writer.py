@@ -38,13 +38,9 @@ class Writer:
     def __init__(self, file: Union[str, "os.PathLike[str]", BinaryIO], types: Types, type: str | None = None):
         self._lock, self._count = RLock(), 0
         self._fault = WriterFault()
-        is_source, data = _given(types)
+        is_source, data = given(types)
         opened = library.gob_writer_open if is_source else library.gob_writer_open_like
-        named = None if type is None else type.encode("utf-8", "surrogateescape")
-        if named is not None and b"\0" in named:
-            # (C would take what stands before it for the name)
-            raise BadTypes("a name with a NUL, by which no type is found")
-        self._handle = opened(data, len(data), named, ctypes.byref(self._fault))
+        self._handle = opened(data, len(data), named(type), ctypes.byref(self._fault))
         if not self._handle:
             _raise_memory(self._fault)
             raise BadTypes(_words(self._fault)[1])
@@ -121,7 +117,15 @@ def _write_all(file: BinaryIO, data: bytes) -> None:
         view = view[len(view) if count is None else count:]
 
 
-def _given(types: Types) -> tuple[bool, bytes]:
+def named(type: str | None) -> bytes | None:
+    """The name of a type, as C takes it."""
+    if type is not None and "\0" in type:
+        # (C would take what stands before it for the name)
+        raise BadTypes("a name with a NUL, by which no type is found")
+    return None if type is None else type.encode("utf-8", "surrogateescape")
+
+
+def given(types: Types) -> tuple[bool, bytes]:
     """Whether the types are Go source, and the bytes of it or of a stream."""
     if isinstance(types, type):
         types = go_source(types)

@@ -3,4 +3,5 @@ pub mod AsCounterBox
 pub mod AsWriterBox
 pub mod CountsLaws
 pub mod HeldLaws
+pub mod StreamLaws
 pub mod TextLaws

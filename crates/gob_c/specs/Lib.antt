@@ -5,4 +5,6 @@ pub mod Asked
 pub mod Told
 pub mod Calls
 pub mod Texts
+pub mod Streams
+pub mod Converting
 pub mod Writing

@@ -1,9 +1,10 @@
 -- What the exports tell C of texts about bytes in memory.
-use Rattle.std.specs.Prelude.{◌≡◌, ℕ, false, List, [], ◌++◌, Option, None, Result, Ok, Err, length, take, drop}
+use Rattle.std.specs.Prelude.{◌≡◌, ℕ, false, List, [], ◌++◌, Option, Some, None, Result, Ok, Err, length, take, drop}
 use Rattle.gob_num.specs.declared.memory.Memory.{Memory}
 use Rattle.gob_stream.specs.Bounds.{AreLimits, Bounds, deepest, within_trees}
 use Rattle.gob_stream.specs.declared.fault.Refusal.{Refusal}
-use Rattle.gob_views.specs.InMemory.{IsSourceText, IsValuesText}
+use Rattle.gob_tool.specs.ShowingGo.{ShowGoAnswers}
+use Rattle.gob_views.specs.InMemory.{IsSourceText, IsValuesText, answer_of}
 use Rattle.gob_views.specs.declared.types.SourceForm.TheVariants as form
 use Rattle.gob_views.specs.declared.value_line.ValueLines.{ValueLines}
 use Rattle.gob_why.specs.Said.{SaysOf}
@@ -34,6 +35,18 @@ abbrev pub IsLinesText : Bounds → (bytes : List ℕ) → (text : List ℕ) →
 IsLinesText limits bytes text =
     (lines : ValueLines) × ArePlain lines
     × ((refusal : Option Refusal) × IsValuesText lines (within_trees limits) bytes refusal text)
+
+-- the text is what `gob show --go` prints of these bytes, where they have this refusal or none
+pub record IsShownText (L : Bounds) (bytes : List ℕ) (refusal : Option Refusal) (text : List ℕ) : Type 0 where
+  pub now : Option (List ℕ)
+  pub answers : ShowGoAnswers L bytes now (Some []) (Some text) (answer_of refusal)
+
+abbrev pub IsShownOf : Bounds → (bytes : List ℕ) → Said → Type 0
+IsShownOf L bytes said = IsShownText L bytes said.refusal said.text.items
+
+-- the text is such lines of the items of these bytes, up to their refusal where they have one
+abbrev pub AreShownLines : Bounds → (bytes : List ℕ) → (text : List ℕ) → Type 0
+AreShownLines limits bytes text = (refusal : Option Refusal) × IsShownText (within_trees limits) bytes refusal text
 
 -- the room with as much of the text at its front as there is room for
 abbrev pub put_in : (text room : List ℕ) → List ℕ

@@ -4,7 +4,7 @@
 //! A reader stands behind a pointer that C keeps, its [`Handle`]. Each call is lent the handle, takes the reader out of
 //! it, and leaves there the one that it tells of. The counter of a check in pieces and a writer stand so behind handles
 //! of their own, since no export may take a struct with type arguments. What is said of a stream is text, put into room
-//! that C gives.
+//! that C gives, and so is a stream that is made of lines or of another.
 #![tactic(auto)]
 
 ghost use Rattle.std.specs.Prelude.{◌≡◌, IfSome, IsSome};
@@ -17,11 +17,14 @@ mod check;
 mod counter_handle;
 mod counts;
 mod handle;
+mod in_memory;
 mod in_pieces;
 mod limits;
 mod parts;
+mod streams;
 mod texts;
 mod told;
+mod wanted;
 mod writer_handle;
 mod writing;
 

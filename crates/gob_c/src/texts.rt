@@ -2,9 +2,10 @@
 
 ghost use Rattle.std.specs.Prelude.{◌≡◌};
 ghost use Rattle.gob_c.specs.Asked.{asked_bounds};
-ghost use Rattle.gob_c.specs.Texts.{ArePlain, IsLinesText, IsTypesText, IsWhyText, PutsSaid, TellsText};
+ghost use Rattle.gob_c.specs.Texts.{ArePlain, AreShownLines, IsLinesText, IsTypesText, IsWhyText, PutsSaid, TellsText};
 ghost use Rattle.gob_c.specs.Texts.{put_in, text_told};
 
+use crate::in_memory::shown_of;
 use crate::limits::Asked;
 use gob_num::Memory;
 use gob_views::{SourceForm, ValueLines, types_of, values_of};
@@ -80,6 +81,26 @@ pub extern "C" fn gob_raw_values_text(
         return;
     };
     *told = put_said(&values_of(alloc, bytes, limits, plain_lines()), room);
+}
+
+/// Gives the items of a stream as lines of JSON, as `gob show --go` prints them: of a refused one those of the items
+/// before. As much of the text is put into the room as there is room for.
+#[unsafe(no_mangle)]
+pub extern "C" fn gob_raw_lines_text(
+    alloc: Global,
+    bytes: &[u8],
+    asked: &Asked,
+    room: &mut [u8],
+    told: &mut TextTold,
+)
+    ensures { TellsText (asked_bounds asked.now) (AreShownLines (asked_bounds asked.now) bytes.now) room.old room.new
+        told.new }
+{
+    let Some(limits) = asked.limits() else {
+        *told = TextTold::plain(4);
+        return;
+    };
+    *told = put_said(&shown_of(alloc, bytes, limits), room);
 }
 
 impl TextTold {

@@ -188,8 +188,8 @@ fn put_words<F: fmt::Display>(alloc: Global, fault: &F, room: &mut [u8]) -> u64
     words.len() as u64
 }
 
-// The name that the bytes are, of which no bytes mean that there is none.
-fn name_of(named: &[u8]) -> Result<Option<&str>, TypesFault>
+/// The name that the bytes are, of which no bytes mean that there is none.
+pub(crate) fn name_of(named: &[u8]) -> Result<Option<&str>, TypesFault>
     ensures { IfOk result (λ name. text_of name ≡ named_by named.now) }
 {
     if named.is_empty() {

@@ -1,0 +1,105 @@
+"""Lines of streams, streams of lines, and streams that are converted."""
+import dataclasses
+import io
+import json
+import os
+import pathlib
+import pickle
+import tempfile
+import unittest
+
+import gob
+
+STREAMS = pathlib.Path(os.environ.get("GOB_STREAMS", pathlib.Path(__file__).parents[3] / "interop/streams"))
+FILLED = STREAMS.parent / "filled/streams"
+POINT = bytes.fromhex("1fff8103010105506f696e7401ff82000102010158010400010159010400000007ff82012c014200")
+LINES = """{"define":65,"fields":[["X",2],["Y",2]],"kind":"struct","name":"Point"}
+{"type":65,"value":[[0,"X",22],[1,"Y",33]]}
+"""
+
+
+@dataclasses.dataclass
+class Line:
+    Y: int
+    Z: float = 0.0
+
+
+class StreamsTest(unittest.TestCase):
+    def test_lines(self):
+        self.assertEqual(gob.lines(POINT), LINES)
+        self.assertEqual(gob.lines(io.BytesIO(POINT)), LINES)
+        self.assertEqual(gob.lines(b""), "")
+        with self.assertRaises(gob.Refused) as caught:
+            gob.lines(POINT[:36])
+        self.assertEqual((caught.exception.reason, caught.exception.values),
+                         (gob.Reason.Ended, [LINES.splitlines(True)[0]]))
+        with self.assertRaises(gob.Refused):
+            gob.lines(POINT, limits=gob.Limits(item=1))
+        with self.assertRaisesRegex(ValueError, "limits"):
+            gob.lines(POINT, limits=gob.Limits(depth=0))
+
+    def test_lines_are_written_again(self):
+        paths = [*STREAMS.glob("*.gob"), *FILLED.glob("*.gob")]
+        self.assertTrue(paths)
+        for path in paths:
+            try:
+                text = gob.lines(path)
+            except gob.Refused as refused:
+                text = refused.values[0]
+            data = gob.from_lines(text)
+            self.assertEqual(gob.lines(data), text, path)
+
+    def test_lines_are_changed(self):
+        rows = [json.loads(line) for line in gob.lines(POINT).split("\n") if line]
+        rows[1]["value"][0][2] = 7
+        self.assertEqual(gob.loads(gob.from_lines(rows + rows[1:])), [{"X": 7, "Y": 33}] * 2)
+        self.assertEqual(gob.from_lines(LINES.splitlines()), POINT)
+        self.assertEqual(gob.from_lines(row for row in rows if "define" in row), POINT[:32])
+        self.assertEqual(gob.from_lines([]), b"")
+
+    def test_wrong_lines(self):
+        for line, due in [('{"type":65,"value":[[0,"X",true]]}', (3, 28, ".X")), ('{"type":65', (3, 11, "")),
+                          ('{"type":66,"value":1}', (3, 0, ""))]:
+            with self.assertRaises(gob.BadLine, msg=line) as caught:
+                gob.from_lines(LINES + line)
+            fault = caught.exception
+            self.assertEqual((fault.line, fault.column, fault.path), due, fault)
+            self.assertEqual(fault.data, POINT)
+            self.assertEqual(str(pickle.loads(pickle.dumps(fault))), str(fault))
+        self.assertTrue(issubclass(gob.BadLine, gob.Error) and issubclass(gob.Clash, gob.Error))
+
+    def test_values_are_converted(self):
+        source = "type Line struct { Y int; Z float64 }"
+        data = gob.convert(POINT, source)
+        self.assertEqual(gob.loads(data, zeros=True), [{"Y": 33, "Z": 0.0}])
+        self.assertEqual(gob.convert(POINT, Line), data)
+        self.assertEqual(gob.convert(POINT, data), data)
+        self.assertEqual(gob.convert(io.BytesIO(POINT), f"type N int\n{source}", "Line"), data)
+        self.assertEqual(gob.convert(POINT, POINT, type="Point"), POINT)
+        self.assertEqual(gob.convert(b"", POINT), POINT[:32])
+        with tempfile.TemporaryDirectory() as room:
+            path = pathlib.Path(room, "types.go")
+            path.write_text(source)
+            self.assertEqual(gob.convert(POINT, path), data)
+
+    def test_what_is_not_converted(self):
+        with self.assertRaises(gob.Clash) as caught:
+            gob.convert(POINT, "type Line struct { Y string }")
+        fault = caught.exception
+        self.assertEqual((fault.reason, fault.path), ("DifferentKind", ".Y"))
+        self.assertEqual(gob.loads(fault.data), [])
+        self.assertEqual(str(pickle.loads(pickle.dumps(fault))), "DifferentKind at .Y")
+        for types, name, words in [("type", None, "line 1"), ("type A int", "B", "declared"), (b"\0", None, "refused"),
+                                   (POINT[:32], None, "NoWantedType"), (POINT, "Line", "no type"),
+                                   (POINT, "Point\0", "NUL")]:
+            with self.assertRaisesRegex(gob.BadTypes, words):
+                gob.convert(POINT, types, name)
+        with self.assertRaises(gob.Refused) as caught:
+            gob.convert(POINT + b"\1", "type Point struct { X, Y int }")
+        self.assertEqual((caught.exception.place, caught.exception.values), (41, [POINT]))
+        with self.assertRaisesRegex(ValueError, "limits"):
+            gob.convert(POINT, POINT, limits=gob.Limits(depth=0))
+
+
+if __name__ == "__main__":
+    unittest.main()
