@@ -149,6 +149,28 @@ pub(crate) fn push_lines(
         → AreLinesBehind lines.entry (types table.now) id (line_jsons lines.entry (types table.now) id j)
         text.old.items text.new.items) }
 {
+    if lines.each {
+        // A call that reads parts pays for the room of their reader, so it is apart.
+        return push_part_lines(alloc, json, table, id, lines, text);
+    }
+    push_json(alloc, json, table, id, lines, text)
+}
+
+/// Appends them where parts may stand on lines of their own.
+fn push_part_lines(
+    alloc: Global,
+    json: String,
+    table: &Table,
+    id: TypeId,
+    lines: ValueLines<'_>,
+    text: &mut Vec<u8>,
+) -> Result<(), Memory>
+    requires { (j : Json) × (tokens (string_bytes json) ≡ json_tokens j) }
+    ensures { OnOk result ((j : Json) → string_bytes json ≡ print (json_tokens j)
+        → tokens (string_bytes json) ≡ json_tokens j
+        → AreLinesBehind lines.entry (types table.now) id (line_jsons lines.entry (types table.now) id j)
+        text.old.items text.new.items) }
+{
     let Some(form) = form_of(lines, table, id) else {
         return push_json(alloc, json, table, id, lines, text);
     };

@@ -1,6 +1,6 @@
 -- One more part is on its line.
 use Rattle.gob_views.proofs.PlainLaws.{part_on}
-use Rattle.gob_views.proofs.value_line.push_lines.Goals as goal
+use Rattle.gob_views.proofs.value_line.push_part_lines.Goals as goal
 
 pub parts-preserved : goal.parts-preserved
 parts-preserved c = λ j read.

@@ -7,7 +7,7 @@ use Rattle.json.specs.Tree.{json_tokens}
 use Rattle.gob_types.specs.Defined.{types}
 use Rattle.gob_views.specs.Values.{line_jsons}
 use Rattle.gob_views.proofs.PlainLaws.{AreLeft}
-use Rattle.gob_views.proofs.value_line.push_lines.Given as goal
+use Rattle.gob_views.proofs.value_line.push_part_lines.Given as goal
 
 abbrev pub invariant-parts : goal.invariant-parts
 invariant-parts l = (j : Json) → tokens (string_bytes l.fn.json) ≡ json_tokens j
