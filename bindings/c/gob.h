@@ -459,9 +459,9 @@ GOB_API void gob_writer_close(gob_writer *writer);
 
 /* What `gob why` says of a stream that is held in memory: of a refused one the line of its refusal, and in words where
  * and why it is refused and what is behind it; of a whole one how much is in it, and how many values of each type. Each
- * line of a refusal behind the first begins with a word and a colon: what, where, expected, found, cause, next. The last
- * is for people with a shell: it names commands of the program, for the file of this name, which is in UTF-8. `name`
- * may be NULL; then IN stands there.
+ * line of a refusal behind the first begins with a word and a colon: what, where, expected, found, cause, next. The
+ * last is for people with a shell: it names commands of the program, for the file of this name, which is in UTF-8.
+ * `name` may be NULL; then IN stands there.
  *
  * As snprintf does, this writes no more than `size` bytes, the last of which is 0, and answers how many bytes the whole
  * text has without that: where they aren't fewer than `size`, the text was cut. `out` may be NULL where `size` is 0.

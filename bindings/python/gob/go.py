@@ -237,8 +237,8 @@ _KNOWN: dict[str, Callable[[Opaque], Any]] = {
 
 
 def known(value: Opaque) -> Any:
-    """The value that one of these functions gives, by the type's name, else the opaque value itself. Of a type without a
-    name, as Go sends one behind a pointer, the bytes of a time.Time and of a big.Int are known by their layout."""
+    """The value that one of these functions gives, by the type's name, else the opaque value itself. Of a type without
+    a name, as Go sends one behind a pointer, the bytes of a time.Time and of a big.Int are known by their layout."""
     explain = text if value.marshal == "MarshalText" else _KNOWN.get(value.type)
     if explain is None:
         return value

@@ -135,7 +135,8 @@ pub(crate) fn wanted_of(alloc: Global, text: &[u8]) -> Result<Vec<u8>, Exit> {
     );
     match made {
         Ok(_) => Ok(output.into_inner()),
-        Err(LinesFault::Memory) => Err(Exit::Run(ToolFault::Memory)),
+        // A write into memory fails for want of it.
+        Err(LinesFault::Memory | LinesFault::Write) => Err(Exit::Run(ToolFault::Memory)),
         Err(_) => Err(Exit::Lines(String::from_str(
             alloc,
             "gob: types: the first type has no zero",
