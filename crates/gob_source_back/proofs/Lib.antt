@@ -1,0 +1,9 @@
+mod GrammarLaws
+mod Named
+mod NoteLaws
+mod ReadingLaws
+mod TextLaws
+mod TypeLaws
+mod WordLaws
+mod Written
+mod WrittenLaws

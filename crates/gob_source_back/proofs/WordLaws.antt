@@ -1,0 +1,263 @@
+-- Words that source has, and the fronts of texts.
+use Rattle.std.proofs.Common.{subst, sym, ◌≡◌, ◌∙◌, ℕ, zero, suc, ◌+◌, ◌<◌, ◌≤◌, ◌/◌, ◌%◌, ◌^◌, List, [], ◌∷◌, ◌++◌}
+use Rattle.std.proofs.Common.{Bool, true, false, refl, ap, arith, codes, decimal, drop, length, replicate, Some, None}
+use Rattle.std.proofs.Common.{◌&&◌, nat_eq, nat_le, ◌==◌}
+use Rattle.std.proofs.lemmas.Bool.Decides.{nat_tests}
+use Rattle.std.proofs.lemmas.Fmt.{decimal_by_steps, decimal_nonempty}
+use Rattle.std.specs.Char.{is_ascii_alphabetic, is_ascii_digit, is_ascii_uppercase}
+use Rattle.std.specs.List.{list_all, starts_with}
+use Rattle.gob_go_source.specs.declared.token.Note.{Note}
+use Rattle.gob_go_source.specs.Lexing.{front, keyword, of_length, piece_of, scan_of}
+use Rattle.gob_go_source.specs.Notes.{marshal_of}
+use Rattle.gob_go_source.specs.Scanning.{end_of, is_blank, is_word_byte}
+use Rattle.gob_go_types.specs.Fields.{is_exported}
+use Rattle.gob_source_back.specs.Alike.{is_plain_name}
+use Rattle.gob_source_back.proofs.Written.{IsQuiet, IsWordText, stays}
+use Rattle.gob_source_back.proofs.Named.{Piece, blank_piece, blank_scan, comment_piece, word_scan, line_scan}
+use Rattle.gob_source_back.proofs.Named.{line_piece, no_scan, number_piece, sign_piece, word_piece}
+
+-- ---- tests
+
+pub both_true : (a b : Bool) → (a && b) ≡ true → (a ≡ true) × (b ≡ true)
+both_true true b h = (refl, h)
+both_true false b h = cc
+
+-- ---- words
+
+pub end_word : (bs : List ℕ) (c : ℕ) (rest : List ℕ) → list_all is_word_byte bs ≡ true → is_word_byte c ≡ false
+    → end_of word_scan (bs ++ c ∷ rest) ≡ Some (length bs)
+end_word [] c rest all e = rw e refl
+end_word (b ∷ bs) c rest all e =
+    let h = both_true (is_word_byte b) (list_all is_word_byte bs) all in
+    rw (h.0, end_word bs c rest h.1 e) (ap (λ (k : ℕ). Some k) (omega arith))
+
+single_front : (b : ℕ) (text : List ℕ) → (b == 47) ≡ false → (b == 60) ≡ false
+    → front (b ∷ text) ≡ of_length (piece_of b) 1 (end_of (scan_of b (piece_of b)) text)
+single_front b [] e f = refl
+single_front b (c ∷ cs) e f = rw (e, f) refl
+
+letter_bounds : (b : ℕ) → is_ascii_alphabetic b ≡ true → (65 ≤ b) × (b ≤ 122)
+letter_bounds b h = grind (arith, nat_tests)
+
+letter_piece : (b : ℕ) → is_ascii_alphabetic b ≡ true → piece_of b ≡ word_piece
+letter_piece b h = rw (blank, end, digit, h) refl
+  where
+    blank : is_blank b ≡ false
+    blank = grind (arith, nat_tests)
+
+    end : (b == 10) ≡ false
+    end = grind (arith, nat_tests)
+
+    digit : is_ascii_digit b ≡ false
+    digit = grind (arith, nat_tests)
+
+pub word_text : (b : ℕ) (bs : List ℕ) → is_ascii_alphabetic b ≡ true → list_all is_word_byte bs ≡ true
+    → ((n : Note) → keyword n (b ∷ bs) ≡ None) → IsWordText (b ∷ bs)
+word_text b bs letter all none = record {
+  fronts = fronts;
+  no_keyword = none;
+  first = b;
+  others = bs;
+  begins = refl;
+  solid = blank;
+}
+  where
+    slash : (b == 47) ≡ false
+    slash = grind (arith, nat_tests)
+
+    less : (b == 60) ≡ false
+    less = grind (arith, nat_tests)
+
+    blank : is_blank b ≡ false
+    blank = grind (arith, nat_tests)
+
+    fronts : (c : ℕ) (rest : List ℕ) → is_word_byte c ≡ false
+        → front (b ∷ (bs ++ c ∷ rest)) ≡ Some (record { piece = word_piece; len = suc (length bs) })
+    fronts c rest e =
+        single_front b (bs ++ c ∷ rest) slash less
+        ∙ ap (λ (p : Piece). of_length p 1 (end_of (scan_of b p) (bs ++ c ∷ rest))) (letter_piece b letter)
+        ∙ ap (of_length word_piece 1) (end_word bs c rest all e)
+        ∙ ap (λ (k : ℕ). Some (record { piece = word_piece; len = k })) (omega arith)
+
+differs : (k b : ℕ) → is_ascii_uppercase b ≡ true → nat_le 97 k ≡ true → nat_eq k b ≡ false
+differs k b h small = grind (arith, nat_tests)
+
+no_keyword : (b : ℕ) (bs : List ℕ) → is_ascii_uppercase b ≡ true → (n : Note) → keyword n (b ∷ bs) ≡ None
+no_keyword b bs h n =
+    simp (
+      differs 98 b h refl,
+      differs 99 b h refl,
+      differs 100 b h refl,
+      differs 101 b h refl,
+      differs 102 b h refl,
+      differs 103 b h refl,
+      differs 105 b h refl,
+      differs 109 b h refl,
+      differs 112 b h refl,
+      differs 114 b h refl,
+      differs 115 b h refl,
+      differs 116 b h refl,
+      differs 118 b h refl,
+    ) refl
+
+-- a plain name is a word
+pub plain_word : (w : List ℕ) → is_plain_name w ≡ true → IsWordText w
+plain_word [] h = cc
+plain_word (b ∷ bs) h =
+    let exported = both_true (is_ascii_uppercase b) (list_all is_word_byte (b ∷ bs)) h in
+    let all = both_true (is_word_byte b) (list_all is_word_byte bs) exported.1 in
+    word_text b bs (letter b exported.0) all.1 (no_keyword b bs exported.0)
+  where
+    letter : (b : ℕ) → is_ascii_uppercase b ≡ true → is_ascii_alphabetic b ≡ true
+    letter b h = grind (arith, nat_tests)
+
+pub plain_exported : (w : List ℕ) → is_plain_name w ≡ true → is_exported w ≡ true
+plain_exported w h = (both_true (is_exported w) (list_all is_word_byte w) h).0
+
+-- ---- signs and spaces
+
+pub sign_front : (b : ℕ) (text : List ℕ) → (b == 47) ≡ false → (b == 60) ≡ false → piece_of b ≡ sign_piece
+    → front (b ∷ text) ≡ Some (record { piece = sign_piece; len = 1 })
+sign_front b text e f s =
+    single_front b text e f ∙ ap (λ (p : Piece). of_length p 1 (end_of (scan_of b p) text)) s ∙ by text
+  where
+    by : (text : List ℕ) → of_length sign_piece 1 (end_of no_scan text) ≡ Some (record { piece = sign_piece; len = 1 })
+    by [] = refl
+    by (c ∷ cs) = refl
+
+pub line_front : (rest : List ℕ) → front (10 ∷ rest) ≡ Some (record { piece = line_piece; len = 1 })
+line_front [] = refl
+line_front (c ∷ cs) = refl
+
+pub end_spaces : (n c : ℕ) (rest : List ℕ) → is_blank c ≡ false
+    → end_of blank_scan (replicate n 32 ++ c ∷ rest) ≡ Some n
+end_spaces zero c rest e = rw e refl
+end_spaces (suc n) c rest e = rw (end_spaces n c rest e) (ap (λ (k : ℕ). Some k) (omega arith))
+
+-- a tab or a space, and spaces behind it
+pub blank_front : (b n c : ℕ) (rest : List ℕ) → (b == 47) ≡ false → (b == 60) ≡ false → piece_of b ≡ blank_piece
+    → is_blank c ≡ false
+    → front (b ∷ (replicate n 32 ++ c ∷ rest)) ≡ Some (record { piece = blank_piece; len = suc n })
+blank_front b n c rest e f blank solid =
+    single_front b (replicate n 32 ++ c ∷ rest) e f
+    ∙ ap (λ (p : Piece). of_length p 1 (end_of (scan_of b p) (replicate n 32 ++ c ∷ rest))) blank
+    ∙ ap (of_length blank_piece 1) (end_spaces n c rest solid)
+    ∙ ap (λ (k : ℕ). Some (record { piece = blank_piece; len = k })) (omega arith)
+
+pub drop_spaces : (n : ℕ) (rest : List ℕ) → drop n (replicate n 32 ++ rest) ≡ rest
+drop_spaces zero rest = refl
+drop_spaces (suc n) rest = drop_spaces n rest
+
+-- ---- comments
+
+pub are_digits : (n : ℕ) → n < 2 ^ 64 → list_all is_ascii_digit (decimal n) ≡ true
+are_digits n small = decimal_by_steps (λ n ds. list_all is_ascii_digit ds ≡ true) one more n small
+  where
+    digit : (n : ℕ) → n < 10 → is_ascii_digit (48 + n) ≡ true
+    digit n h = grind (arith, nat_tests)
+
+    behind : (ds : List ℕ) (c : ℕ) → list_all is_ascii_digit ds ≡ true → is_ascii_digit c ≡ true
+        → list_all is_ascii_digit (ds ++ c ∷ []) ≡ true
+    behind [] c all h = rw h refl
+    behind (d ∷ ds) c all h =
+        let both = both_true (is_ascii_digit d) (list_all is_ascii_digit ds) all in
+        rw (both.0, behind ds c both.1 h) refl
+
+    one : (n : ℕ) → n < 10 → list_all is_ascii_digit ((48 + n) ∷ []) ≡ true
+    one n h = rw (digit n h) refl
+
+    more : (n : ℕ) (ds : List ℕ) → 10 ≤ n → list_all is_ascii_digit ds ≡ true
+        → list_all is_ascii_digit (ds ++ ((48 + n % 10) ∷ [])) ≡ true
+    more n ds h all = behind ds (48 + n % 10) all (digit (n % 10) (omega arith))
+
+end_digits : (ds rest : List ℕ) → list_all is_ascii_digit ds ≡ true
+    → end_of line_scan (ds ++ 10 ∷ rest) ≡ Some (length ds)
+end_digits [] rest all = refl
+end_digits (d ∷ ds) rest all =
+    let h = both_true (is_ascii_digit d) (list_all is_ascii_digit ds) all in
+    rw (other d h.0, end_digits ds rest h.1) (ap (λ (k : ℕ). Some k) (omega arith))
+  where
+    other : (d : ℕ) → is_ascii_digit d ≡ true → (d == 10) ≡ false
+    other d h = grind (arith, nat_tests)
+
+pub comment_front : (ds rest : List ℕ) → list_all is_ascii_digit ds ≡ true
+    → front (codes "// type " ++ (ds ++ 10 ∷ rest))
+    ≡ Some (record { piece = comment_piece; len = length (codes "// type " ++ ds) })
+comment_front ds rest all =
+    rw (end_digits ds rest all) (ap (λ (k : ℕ). Some (record { piece = comment_piece; len = k })) (omega arith))
+
+no_comma : (ds : List ℕ) → list_all is_ascii_digit ds ≡ true → (ws : List ℕ) → starts_with nat_eq ds (44 ∷ ws) ≡ false
+no_comma [] all ws = refl
+no_comma (d ∷ ds) all ws = rw (other d (both_true (is_ascii_digit d) (list_all is_ascii_digit ds) all).0) refl
+  where
+    other : (d : ℕ) → is_ascii_digit d ≡ true → nat_eq 44 d ≡ false
+    other d h = grind (arith, nat_tests)
+
+-- digits say nothing of how a type encodes itself
+pub no_marshal : (ds : List ℕ) → list_all is_ascii_digit ds ≡ true → (size : ℕ) → marshal_of (drop size ds) ≡ None
+no_marshal ds all zero = rw (no_comma ds all _, no_comma ds all _, no_comma ds all _) refl
+no_marshal [] all (suc size) = refl
+no_marshal (d ∷ ds) all (suc size) =
+    no_marshal ds (both_true (is_ascii_digit d) (list_all is_ascii_digit ds) all).1 size
+
+-- ---- other comments
+
+end_line : (cs rest : List ℕ) → list_all stays cs ≡ true → end_of line_scan (cs ++ 10 ∷ rest) ≡ Some (length cs)
+end_line [] rest all = refl
+end_line (c ∷ cs) rest all =
+    let h = both_true (stays c) (list_all stays cs) all in
+    rw (h.0, end_line cs rest h.1) (ap (λ (k : ℕ). Some k) (omega arith))
+
+quiet_begun : (more rest : List ℕ) → list_all stays more ≡ true
+    → front (47 ∷ 47 ∷ (more ++ 10 ∷ rest))
+    ≡ Some (record { piece = comment_piece; len = suc (suc (length more)) })
+quiet_begun more rest all =
+    rw (end_line more rest all) (ap (λ (k : ℕ). Some (record { piece = comment_piece; len = k })) (omega arith))
+
+pub quiet_front : (c rest : List ℕ) → IsQuiet c
+    → front (c ++ 10 ∷ rest) ≡ Some (record { piece = comment_piece; len = length c })
+quiet_front c rest q =
+    subst (λ (l : List ℕ). front (l ++ 10 ∷ rest) ≡ Some (record { piece = comment_piece; len = length l })) (sym q.is)
+    (quiet_begun q.more rest q.whole)
+
+-- ---- numbers
+
+digits_front : (ds : List ℕ) (c : ℕ) (rest : List ℕ) → 0 < length ds → list_all is_ascii_digit ds ≡ true
+    → is_word_byte c ≡ false
+    → front (ds ++ c ∷ rest) ≡ Some (record { piece = number_piece; len = length ds })
+digits_front [] c rest some all e = absurd (omega arith)
+digits_front (d ∷ ds) c rest some all e =
+    let h = both_true (is_ascii_digit d) (list_all is_ascii_digit ds) all in
+    single_front d (ds ++ c ∷ rest) (slash d h.0) (less d h.0)
+    ∙ ap (λ (p : Piece). of_length p 1 (end_of (scan_of d p) (ds ++ c ∷ rest))) (digit_piece d h.0)
+    ∙ ap (of_length number_piece 1) (end_word ds c rest (words ds h.1) e)
+    ∙ ap (λ (k : ℕ). Some (record { piece = number_piece; len = k })) (omega arith)
+  where
+    slash : (d : ℕ) → is_ascii_digit d ≡ true → (d == 47) ≡ false
+    slash d h = grind (arith, nat_tests)
+
+    less : (d : ℕ) → is_ascii_digit d ≡ true → (d == 60) ≡ false
+    less d h = grind (arith, nat_tests)
+
+    no_blank : (d : ℕ) → is_ascii_digit d ≡ true → is_blank d ≡ false
+    no_blank d h = grind (arith, nat_tests)
+
+    no_end : (d : ℕ) → is_ascii_digit d ≡ true → (d == 10) ≡ false
+    no_end d h = grind (arith, nat_tests)
+
+    digit_piece : (d : ℕ) → is_ascii_digit d ≡ true → piece_of d ≡ number_piece
+    digit_piece d h = rw (no_blank d h, no_end d h, h) refl
+
+    of_word : (d : ℕ) → is_ascii_digit d ≡ true → is_word_byte d ≡ true
+    of_word d h = grind (arith, nat_tests)
+
+    words : (ds : List ℕ) → list_all is_ascii_digit ds ≡ true → list_all is_word_byte ds ≡ true
+    words [] all = refl
+    words (d ∷ ds) all =
+        let h = both_true (is_ascii_digit d) (list_all is_ascii_digit ds) all in
+        rw (of_word d h.0, words ds h.1) refl
+
+pub number_front : (n : ℕ) (rest : List ℕ) → n < 2 ^ 64
+    → front (decimal n ++ 93 ∷ rest) ≡ Some (record { piece = number_piece; len = length (decimal n) })
+number_front n rest small =
+    digits_front (decimal n) 93 rest (decimal_nonempty n small) (are_digits n small) refl
