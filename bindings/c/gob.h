@@ -37,8 +37,8 @@
  *
  * Stack. A call takes less than 32 KB of it however deep a value is. Where interfaces hold others in one another, 999
  * at the most, it takes up to 1 KB for each of them: 1 MB in all. With a reader of gob_open_exact it never does. A call
- * for a text takes up to 1 KB for each level of a value, and one of a writer or for a stream up to 2 KB, of which there
- * are 1000 at the most.
+ * for a text takes up to 1 KB for each level of a value, and one of a writer or for a stream up to 2.5 KB, of which
+ * there are 1000 at the most.
  *
  * x86-64 Linux, from x86-64-v2 on. Link with -lgob, or take flags from pkg-config's gob.
  */
