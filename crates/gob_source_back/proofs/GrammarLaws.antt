@@ -1,6 +1,6 @@
 -- What the tokens of types and declarations say: these alone.
 use Rattle.std.proofs.Common.{◌≡◌, ◌∙◌, ℕ, List, [], ◌∷◌, ◌++◌, Bool, true, false, refl, ap, sym, subst, append_assoc}
-use Rattle.std.proofs.Common.{Some, None}
+use Rattle.std.proofs.Common.{Some}
 use Rattle.std.specs.Borrow.{Bor}
 use Rattle.std.specs.Prelude.{IsTrue, slice_get}
 use Rattle.gob_types.proofs.PublicLaws.{some_injective}
@@ -8,12 +8,14 @@ use Rattle.gob_go_source.specs.declared.go_type.Declaration.{Declaration}
 use Rattle.gob_go_source.specs.declared.go_type.GoField.{GoField}
 use Rattle.gob_go_source.specs.declared.go_type.GoType.{GoType}
 use Rattle.gob_go_source.specs.declared.go_type.GoType.TheVariants as go
+use Rattle.gob_go_source.specs.declared.token.Mark.{Mark}
 use Rattle.gob_go_source.specs.declared.token.Mark.TheVariants as mark
 use Rattle.gob_go_source.specs.declared.token.Note.{Note}
 use Rattle.gob_go_source.specs.declared.token.Token.{Token}
 use Rattle.gob_go_source.specs.declared.token.Token.TheVariants as token
 use Rattle.gob_go_source.specs.Brackets.{behind_close}
-use Rattle.gob_go_source.specs.Declarations.{Aliased, SaysDeclaration, SaysSource, SaysTop, declares_types, is_passed}
+use Rattle.gob_go_source.specs.Declarations.{Aliased, SaysDeclaration, SaysSource, SaysTop, behind_stop, declares_types}
+use Rattle.gob_go_source.specs.Declarations.{is_passed}
 use Rattle.gob_go_source.specs.Declarations.{more_said, names_package, nothing_said, one_type, passed_over}
 use Rattle.gob_go_source.specs.Declarations.{says_declaration, some_types}
 use Rattle.gob_go_source.specs.Grammar.{Says, says_name, says_qualified, says_pointer, in_parentheses, says_slice}
@@ -28,7 +30,8 @@ use Rattle.gob_source_back.proofs.Written.{Line, LineTokens, LinesStand, LinesTo
 use Rattle.gob_source_back.proofs.Written.{StructsTokens, TypeTokens, Written, at_interface, at_pointer, at_slice}
 use Rattle.gob_source_back.proofs.Written.{at_word, more_declared, more_structs, more_tokens, no_line, no_structs}
 use Rattle.gob_source_back.proofs.Written.{no_tokens, none_declared, of_interface, of_pointer, of_slice, of_word}
-use Rattle.gob_source_back.proofs.Written.{one_line}
+use Rattle.gob_source_back.proofs.Written.{another_stands, another_tokens, at_qualified, is_another, of_qualified}
+use Rattle.gob_source_back.proofs.Written.{one_line, passed_tokens}
 
 append_none : {A : Type 0} (xs : List A) → xs ++ [] ≡ xs
 append_none [] = refl
@@ -57,6 +60,10 @@ record SaysOne (types : List GoType) (n : ℕ) (next rest : List Token) (t : ℕ
   elem : ℕ
   at : slice_get types n ≡ Some (t elem)
   says : Says types elem next rest
+
+record SaysQualified (types : List GoType) (n : ℕ) (a b : Bor (List ℕ)) (behind rest : List Token) : Type 0 where
+  is : rest ≡ behind
+  at : slice_get types n ≡ Some (go.Qualified a b)
 
 record SaysPair (types : List GoType) (n : ℕ) (first rest : List Token) : Type 0 where
   key : ℕ
@@ -87,6 +94,32 @@ word_says n b behind end is (says_channel e (both_ways f) s) = cc
 word_says n b behind end is (says_channel e (only_sends f g) s) = cc
 word_says n b behind end is (says_channel e (only_receives f g) s) = cc
 word_says n b behind end is (says_function e f g h r) = cc
+
+qualified_says : {types : List GoType} (n : ℕ) {old rest : List Token} (a b : Bor (List ℕ)) (behind : List Token)
+    → ((more : List Token) → rest ≡ token.Mark mark.Dot ∷ more → ⊥)
+    → old ≡ token.Name a ∷ token.Mark mark.Dot ∷ token.Name b ∷ behind → Says types n old rest
+    → SaysQualified types n a b behind rest
+qualified_says n {rest = rest} a b behind over is (says_name e f) =
+    let dot : rest ≡ token.Mark mark.Dot ∷ token.Name b ∷ behind = cc in absurd (over (token.Name b ∷ behind) dot)
+qualified_says n a b behind over is (says_qualified {p = p} {w = w} e f g h) =
+    let owner : p ≡ a = cc in
+    let name : w ≡ b = cc in
+    record {
+      is = cc;
+      at = e ∙ ap (λ (x : Bor (List ℕ)). Some (go.Qualified x w)) owner
+          ∙ ap (λ (x : Bor (List ℕ)). Some (go.Qualified a x)) name;
+    }
+qualified_says n a b behind over is (says_pointer e f s) = cc
+qualified_says n a b behind over is (in_parentheses f s g) = cc
+qualified_says n a b behind over is (says_slice e f g s) = cc
+qualified_says n a b behind over is (says_array e f g h s) = cc
+qualified_says n a b behind over is (says_map e f g k h s) = cc
+qualified_says n a b behind over is (says_struct e f g fs h) = cc
+qualified_says n a b behind over is (says_interface e f g h) = cc
+qualified_says n a b behind over is (says_channel e (both_ways f) s) = cc
+qualified_says n a b behind over is (says_channel e (only_sends f g) s) = cc
+qualified_says n a b behind over is (says_channel e (only_receives f g) s) = cc
+qualified_says n a b behind over is (says_function e f g h r) = cc
 
 pointer_says : {types : List GoType} (n : ℕ) {old rest : List Token} (next : List Token)
     → old ≡ token.Mark mark.Star ∷ next → Says types n old rest
@@ -199,37 +232,60 @@ interface_says n behind is (says_channel e (only_sends f g) s) = cc
 interface_says n behind is (says_channel e (only_receives f g) s) = cc
 interface_says n behind is (says_function e f g h r) = cc
 
+-- no dot stands behind the type
+abbrev NoDot : List Token → Type 0
+NoDot behind = (more : List Token) → behind ≡ token.Mark mark.Dot ∷ more → ⊥
+
 read_type : {types : List GoType} (n : ℕ) {e : Written} {old behind rest : List Token} → TypeTokens e old behind
-    → ((more : List Token) → behind ≡ token.Mark mark.Dot ∷ more → ⊥) → Says types n old rest
-    → IsRead types n e behind rest
-read_type n (of_word {b = b} {rest = behind} named is) end s =
+    → NoDot behind → NoDot rest → Says types n old rest → IsRead types n e behind rest
+read_type n (of_word {b = b} {rest = behind} named is) end over s =
     let r = word_says n b behind end is s in record { is = r.is; stands = at_word r.at named }
-read_type n (of_pointer {next = next} is t) end s =
+read_type n (of_pointer {next = next} is t) end over s =
     let r = pointer_says n next is s in
-    let x = read_type r.elem t end r.says in record { is = x.is; stands = at_pointer r.at x.stands }
-read_type n (of_slice {next = next} is t) end s =
+    let x = read_type r.elem t end over r.says in record { is = x.is; stands = at_pointer r.at x.stands }
+read_type n (of_slice {next = next} is t) end over s =
     let r = slice_says n next is s in
-    let x = read_type r.elem t end r.says in record { is = x.is; stands = at_slice r.at x.stands }
-read_type n (of_interface {rest = behind} is) end s =
+    let x = read_type r.elem t end over r.says in record { is = x.is; stands = at_slice r.at x.stands }
+read_type n (of_interface {rest = behind} is) end over s =
     let r = interface_says n behind is s in record { is = r.0; stands = at_interface r.1 }
-read_type n (of_array {m = m} {next = next} same is t) end s =
+read_type n (of_array {m = m} {next = next} same is t) end over s =
     let r = array_says n m next is s in
-    let x = read_type r.elem t end r.says in record { is = x.is; stands = at_array r.at same x.stands }
-read_type {types = types} n (of_map {first = first} {mid = mid} {next = next} is k close t) end
-    s = with_key (map_says n first is s) (λ m l a. read_type m k (closes_key close) a)
-    (λ m l a. read_type m t end a)
+    let x = read_type r.elem t end over r.says in record { is = x.is; stands = at_array r.at same x.stands }
+read_type n (of_qualified {a = a} {b = b} {rest = behind} owned named is) end over s =
+    let r = qualified_says n a b behind over is s in record { is = r.is; stands = at_qualified r.at owned named }
+read_type {types = types} n (of_map {first = first} {mid = mid} {next = next} is k close t) end over
+    s = with_key (map_says n first is s) (λ next m l shut a. read_type m k (closes_key close) (closes_key shut) a)
+    (λ m a. read_type m t end over a)
   where
     with_key : {behind rest : List Token} {a e : Written} → SaysPair types n first rest
-        → ((m : ℕ) (last : List Token) → Says types m first last → IsRead types m a mid last)
-        → ((m : ℕ) (last : List Token) → Says types m next last → IsRead types m e behind last)
+        → ((behind : List Token) (m : ℕ) (last : List Token) → last ≡ token.Mark mark.CloseBracket ∷ behind
+        → Says types m first last → IsRead types m a mid last)
+        → ((m : ℕ) → Says types m next rest → IsRead types m e behind rest)
         → IsRead types n (map_of a e) behind rest
     with_key {rest = rest} r key elem =
-        let x = key r.key r.last r.says_key in
+        let x = key r.next r.key r.last r.close r.says_key in
         let here = x.is in
         let shut = r.close in
         let there : r.next ≡ next = cc in
-        let y = elem r.elem rest (subst (λ (l : List Token). Says types r.elem l rest) there r.says) in
+        let y = elem r.elem (subst (λ (l : List Token). Says types r.elem l rest) there r.says) in
         record { is = y.is; stands = at_map r.at x.stands y.stands }
+
+-- no type begins with a sign of equality
+no_equals_says : {types : List GoType} (n : ℕ) {old rest more : List Token} → old ≡ token.Mark mark.Equals ∷ more
+    → Says types n old rest → ⊥
+no_equals_says n is (says_name e f) = cc
+no_equals_says n is (says_qualified e f g h) = cc
+no_equals_says n is (says_pointer e f s) = cc
+no_equals_says n is (in_parentheses f s g) = cc
+no_equals_says n is (says_slice e f g s) = cc
+no_equals_says n is (says_array e f g h s) = cc
+no_equals_says n is (says_map e f g k h s) = cc
+no_equals_says n is (says_struct e f g fs h) = cc
+no_equals_says n is (says_interface e f g h) = cc
+no_equals_says n is (says_channel e (both_ways f) s) = cc
+no_equals_says n is (says_channel e (only_sends f g) s) = cc
+no_equals_says n is (says_channel e (only_receives f g) s) = cc
+no_equals_says n is (says_function e f g h r) = cc
 
 -- ---- lines
 
@@ -247,6 +303,15 @@ type_begins (of_word {b = b} {rest = rest} named is) =
     record {
       first = token.Name b;
       others = rest;
+      is = is;
+      no_comma = λ x. cc;
+      no_end = refl;
+      no_equals = λ x. cc;
+    }
+type_begins (of_qualified {a = a} {b = b} {rest = rest} owned named is) =
+    record {
+      first = token.Name a;
+      others = token.Mark mark.Dot ∷ token.Name b ∷ rest;
       is = is;
       no_comma = λ x. cc;
       no_end = refl;
@@ -338,6 +403,15 @@ stops_there : {old rest : List Token} (more : List Token) → Stops old rest →
 stops_there more (stopped f) is = cc
 stops_there more (closed h) is = let k = sym (ap closes is) ∙ h in cc
 
+-- what ends a line, or a declaration, begins with no dot
+stops_dot : {old rest : List Token} → Stops old rest → NoDot old
+stops_dot (stopped f) more is = cc
+stops_dot (closed h) more is = let k = sym (ap closes is) ∙ h in cc
+
+tags_dot : {old mid rest : List Token} → Tagged old mid → Stops mid rest → NoDot old
+tags_dot untagged stop = stops_dot stop
+tags_dot (tagged f) stop = λ more is. cc
+
 -- the line of a struct is this one
 record IsLine (types : List GoType) (f : GoField) (l : Line) (behind rest : List Token) : Type 0 where
   is : rest ≡ behind
@@ -353,7 +427,8 @@ read_line {types = types} {f = f} {next = next} line (says_field {next = typed} 
     let whole = line.is ∙ ap (λ (x : List Token). token.Name line.name ∷ x) begins.is in
     let r = names_read line.name begins.first begins.others names whole begins.no_comma begins.no_end in
     let at : typed ≡ line.next = r.1 ∙ sym begins.is in
-    let t = read_type f.of line.typed stops_type (subst (λ (x : List Token). Says types f.of x after) at s) in
+    let t = read_type f.of line.typed stops_type (tags_dot tag stop)
+    (subst (λ (x : List Token). Says types f.of x after) at s) in
     record {
       is = stops_there next stop (tags_none tag t.is ∙ t.is);
       name = line.name;
@@ -397,10 +472,10 @@ read_lines {types = types} behind rest (more_tokens line toks) close (one {fs = 
 
 -- ---- structs
 
-no_alias : {old rest more : List Token} (b : Bool) (t : Token) → Aliased b old rest → old ≡ t ∷ more
+own_type : {old rest more : List Token} (b : Bool) (t : Token) → Aliased b old rest → old ≡ t ∷ more
     → (token.Mark mark.Equals ≡ t → ⊥) → (b ≡ false) × (rest ≡ old)
-no_alias true t e is free = let k : token.Mark mark.Equals ≡ t = cc in absurd (free k)
-no_alias false t e is free = (refl, e)
+own_type true t e is free = let k : token.Mark mark.Equals ≡ t = cc in absurd (free k)
+own_type false t e is free = (refl, e)
 
 -- the type at the place is a struct of these lines
 record IsReadStruct (types : List GoType) (n : ℕ) (ls : List Line) (behind rest : List Token) : Type 0 where
@@ -438,24 +513,30 @@ read_struct n behind is lines (says_channel e (only_sends f g) s) = cc
 read_struct n behind is lines (says_channel e (only_receives f g) s) = cc
 read_struct n behind is lines (says_function e f g h r) = cc
 
--- what is declared stands at the place
-record IsReadBody (types : List GoType) (n : ℕ) (b : Body) (behind rest : List Token) : Type 0 where
+-- what is declared stands at the place, and is another name where it is to be one
+record IsReadBody (types : List GoType) (n : ℕ) (b : Body) (alias : Bool) (behind rest : List Token) : Type 0 where
   is : rest ≡ token.Mark mark.Stop ∷ behind
+  is_alias : alias ≡ is_another b
   stands : BodyStands types n b
 
-read_body : {types : List GoType} (n : ℕ) {b : Body} {old behind rest : List Token} → BodyTokens b old behind
-    → Says types n old rest → IsReadBody types n b behind rest
-read_body n (fields_tokens {rest = behind} is lines) s =
-    let r = read_struct n (token.Mark mark.Stop ∷ behind) is lines s in
-    record { is = r.is; stands = fields_stand r.struct r.stand }
-read_body n (parts_tokens t) s =
-    let r = read_type n t stops_type s in record { is = r.is; stands = parts_stand r.stands }
-
-body_begins : {b : Body} {old behind : List Token} → BodyTokens b old behind
-    → (t : Token) × (more : List Token) × (old ≡ t ∷ more) × (token.Mark mark.Equals ≡ t → ⊥)
-body_begins (fields_tokens {next = next} is lines) =
-    (token.Mark mark.Struct, token.Mark mark.OpenBrace ∷ next, is, λ x. cc)
-body_begins (parts_tokens t) = let b = type_begins t in (b.first, b.others, b.is, b.no_equals)
+read_body : {types : List GoType} (n : ℕ) {b : Body} {old begun behind rest : List Token} (alias : Bool)
+    → BodyTokens b old behind → Aliased alias old begun → NoDot rest → Says types n begun rest
+    → IsReadBody types n b alias behind rest
+read_body {types = types} n {rest = rest} alias (fields_tokens {next = next} {rest = behind} is lines) aliased over s =
+    let own = own_type alias (token.Mark mark.Struct) aliased is (λ x. cc) in
+    let r = read_struct n (token.Mark mark.Stop ∷ behind) is lines
+    (subst (λ (l : List Token). Says types n l rest) own.1 s) in
+    record { is = r.is; is_alias = own.0; stands = fields_stand r.struct r.stand }
+read_body {types = types} n {rest = rest} alias (parts_tokens t) aliased over s =
+    let b = type_begins t in
+    let own = own_type alias b.first aliased b.is b.no_equals in
+    let r = read_type n t stops_type over (subst (λ (l : List Token). Says types n l rest) own.1 s) in
+    record { is = r.is; is_alias = own.0; stands = parts_stand r.stands }
+read_body n false (another_tokens is t) aliased over s = absurd (no_equals_says n (aliased ∙ is) s)
+read_body {types = types} n {begun = begun} {rest = rest} true (another_tokens {next = next} is t) aliased over s =
+    let same : begun ≡ next = cc in
+    let r = read_type n t stops_type over (subst (λ (l : List Token). Says types n l rest) same s) in
+    record { is = r.is; is_alias = refl; stands = another_stands r.stands }
 
 -- the declarations are this one
 record IsReadTop (types : List GoType) (x : Struct) (es : List Declaration) (behind rest : List Token) : Type 0 where
@@ -465,14 +546,13 @@ record IsReadTop (types : List GoType) (x : Struct) (es : List Declaration) (beh
   declared : IsDeclared types declaration x
 
 read_declaration : {types : List GoType} {x : Struct} {note : Note} {d : Declaration} {old behind rest : List Token}
-    (b : Bor (List ℕ)) (body : List Token) → note.marshal ≡ None → b.now ≡ x.name → old ≡ token.Name b ∷ body
+    (b : Bor (List ℕ)) (body : List Token) → note.marshal ≡ x.marshal → b.now ≡ x.name → old ≡ token.Name b ∷ body
     → BodyTokens x.body body behind → SaysDeclaration types note d old rest → IsReadTop types x (d ∷ []) behind rest
-read_declaration {types = types} {d = d} {behind = behind} b body quiet named is tokens
+read_declaration {types = types} {d = d} {behind = behind} b body marshal named is tokens
     (says_declaration {next = next} {begun = begun} {typed = typed} noted f alias says stop) =
     let at : next ≡ body = cc in
-    let begins = body_begins tokens in
-    let own = no_alias d.is_alias begins.0 alias (at ∙ begins.2) begins.3 in
-    let found = read_body d.of tokens (subst (λ (l : List Token). Says types d.of l typed) (own.1 ∙ at) says) in
+    let found = read_body d.of d.is_alias tokens (subst (λ (l : List Token). Aliased d.is_alias l begun) at alias)
+    (stops_dot stop) says in
     let name : d.name ≡ b = cc in
     record {
       is = stops_there behind stop found.is;
@@ -480,8 +560,8 @@ read_declaration {types = types} {d = d} {behind = behind} b body quiet named is
       one = refl;
       declared = record {
         named = ap (λ (y : Bor (List ℕ)). y.now) name ∙ named;
-        quiet = ap (λ (y : Note). y.marshal) noted ∙ quiet;
-        no_alias = own.0;
+        noted = ap (λ (y : Note). y.marshal) noted ∙ marshal;
+        is_alias = found.is_alias;
         body = found.stands;
       };
     }
@@ -492,7 +572,7 @@ read_top {types = types} tokens (declares_types {note = note} {next = next} f (o
     let is = tokens.is in
     let same : note ≡ tokens.note = cc in
     let at : next ≡ token.Name tokens.name ∷ tokens.next = cc in
-    read_declaration tokens.name tokens.next (ap (λ (y : Note). y.marshal) same ∙ tokens.quiet) tokens.named at
+    read_declaration tokens.name tokens.next (ap (λ (y : Note). y.marshal) same ∙ tokens.noted) tokens.named at
     tokens.body s
 read_top tokens (declares_types f (some_types g group h stop)) = let is = tokens.is in cc
 read_top tokens (names_package f g stop) = let is = tokens.is in cc
@@ -513,6 +593,17 @@ tops_said {types = types} {old = old} {rest = rest} (more_said {ds = ds} {es = f
     subst (λ (x : List Declaration). TopsSaid types x old rest) (sym (append_assoc ds fs es))
     (tops_said s (fs ++ es) (one_top top t refl))
 
+-- what is passed over declares nothing
+passed_top : {types : List GoType} {es : List Declaration} {m : Mark} {old rest : List Token}
+    (next behind : List Token) → old ≡ token.Mark m ∷ next → IsTrue (is_passed m) → behind_stop 0 next ≡ Some behind
+    → SaysTop types es old rest → (es ≡ []) × (rest ≡ behind)
+passed_top next behind is passed stop (declares_types f s) = cc
+passed_top {m = m} next behind is passed stop (names_package f g s) =
+    let same : m ≡ mark.Package = cc in
+    let k = sym (ap is_passed same) ∙ passed in cc
+passed_top next behind is passed stop (passed_over {next = other} f also found) =
+    let same : other ≡ next = cc in (refl, some_injective (sym found ∙ ap (behind_stop 0) same ∙ stop))
+
 read_tops : {types : List GoType} {ds : List Declaration} {xs : List Struct} {old rest : List Token}
     → StructsTokens xs old → TopsSaid types ds old rest → rest ≡ [] → AreDeclared types ds xs
 read_tops no_structs no_top end = none_declared
@@ -520,6 +611,13 @@ read_tops no_structs (one_top (declares_types f s) more is) end = cc
 read_tops no_structs (one_top (names_package f g s) more is) end = cc
 read_tops no_structs (one_top (passed_over f g s) more is) end = cc
 read_tops (more_structs tokens others) no_top end = let k = tokens.is in cc
+read_tops (passed_tokens is passed stop others) no_top end = cc
+read_tops {types = types} {xs = xs} (passed_tokens {next = next} {rest = behind} is passed stop others)
+    (one_top {ds = ds} {rest = rest} top more whole) end =
+    let found = passed_top next behind is passed stop top in
+    let behind_it = read_tops others (subst (λ (x : List Token). TopsSaid types ds x rest) found.1 more) end in
+    subst (λ (x : List Declaration). AreDeclared types x xs)
+    (sym (whole ∙ ap (λ (y : List Declaration). y ++ ds) found.0)) behind_it
 read_tops {types = types} {xs = xs} (more_structs tokens others) (one_top {ds = ds} {rest = rest} top more is) end =
     let found = read_top tokens top in
     let behind = read_tops others (subst (λ (x : List Token). TopsSaid types ds x rest) found.is more) end in

@@ -1,6 +1,10 @@
+mod DifferLaws
 mod GrammarLaws
+mod LibraryLaws
+mod NameLaws
 mod Named
 mod NoteLaws
+mod PassLaws
 mod ReadingLaws
 mod TextLaws
 mod TypeLaws

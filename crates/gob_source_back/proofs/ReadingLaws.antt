@@ -1,10 +1,11 @@
 -- Source read piece by piece, from its start to its end.
-use Rattle.std.proofs.Common.{◌≡◌, ◌∙◌, ℕ, ◌+◌, List, [], ◌∷◌, ◌++◌, Bool, true, false, refl, ap, sym, subst}
+use Rattle.std.proofs.Common.{◌≡◌, ◌∙◌, ℕ, List, [], ◌∷◌, ◌++◌, Bool, true, false, refl, ap, sym, subst}
 use Rattle.std.proofs.Common.{append_assoc, drop, length, take, Some, None, ◌&&◌, ◌<◌, ◌^◌, decimal}
 use Rattle.std.specs.Borrow.{Bor}
 use Rattle.std.specs.Option.{IsSomeAnd}
-use Rattle.std.specs.Prelude.{Option}
+use Rattle.std.specs.Prelude.{Option, unwrap_or}
 use Rattle.gob_types.proofs.PublicLaws.{some_injective}
+use Rattle.gob_types.specs.declared.kind.Marshal.{Marshal}
 use Rattle.gob_go_source.specs.declared.token.Mark.{Mark}
 use Rattle.gob_go_source.specs.declared.token.Mark.TheVariants as mark
 use Rattle.gob_go_source.specs.declared.token.Note.{Note}
@@ -16,7 +17,7 @@ use Rattle.gob_go_source.specs.Lexing.{stop_if, tokens_of}
 use Rattle.gob_go_source.specs.Notes.{SaysNote, no_note}
 use Rattle.gob_source_back.proofs.Written.{IsWordText}
 use Rattle.gob_source_back.proofs.Named.{Ahead, Front, blank_piece, comment_piece, line_piece, number_piece, sign_piece}
-use Rattle.gob_source_back.proofs.Named.{word_piece}
+use Rattle.gob_source_back.proofs.Named.{text_piece, word_piece}
 
 -- the text to its end is these tokens, where that is ahead
 pub data Goes : Ahead → List ℕ → List Token → Type 0 where
@@ -60,19 +61,23 @@ next {a = a} {text = text} {us = us} e (goes {more = more} o noted h gives notes
       is = is;
     })
 
--- that, where a token may end a line, and no comment says how a type encodes itself
-pub record Reads (ends : Bool) (text : List ℕ) (us : List Token) : Type 0 where
+-- that, where a token may end a line, and comments say that a type encodes itself so
+pub record ReadsNoted (m : Option Marshal) (ends : Bool) (text : List ℕ) (us : List Token) : Type 0 where
   pub ahead : Ahead
   pub ends_is : ahead.ends ≡ ends
-  pub quiet : ahead.note.marshal ≡ None
+  pub noted : ahead.note.marshal ≡ m
   pub there : Goes ahead text us
+
+-- and no comment says it
+abbrev pub Reads : (ends : Bool) (text : List ℕ) (us : List Token) → Type 0
+Reads ends text us = ReadsNoted None ends text us
 
 pub reads_text : {text : List ℕ} {a : Ahead} {ts : List Token} {os : List ℕ} → Lexes text [] a ts os
     → Reads false text ts
 reads_text {text = text} {ts = ts} l = record {
   ahead = nothing_ahead;
   ends_is = refl;
-  quiet = refl;
+  noted = refl;
   there = subst (λ (x : List Token). Goes nothing_ahead text x) (append_none ts) (goes_from l [] over);
 }
   where
@@ -90,46 +95,40 @@ reads_none r = by r.there
 
 -- ---- pieces without a token
 
-abbrev pub QuietNote : Option Note → Type 0
-QuietNote None = Unit {0}
-QuietNote (Some n) = n.marshal ≡ None
+-- how a type encodes itself that a comment may say it of, and the comments before it
+abbrev pub marshal_behind : Option Note → Note → Option Marshal
+marshal_behind o note = (unwrap_or o note).marshal
 
-silent : (a : Ahead) {ends : Bool} {text : List ℕ} {us more : List Token} (o : Option Token) (noted : Option Note)
-    → a.ends ≡ ends → a.note.marshal ≡ None → o ≡ None → QuietNote noted → Goes (ahead_behind a o noted) text more
-    → us ≡ tokens_of o ++ more → Reads ends text us
-silent a (Some t) noted ends quiet none q g is = cc
-silent a {text = text} None None ends quiet none q g is = record {
-  ahead = a;
+silent : (a : Ahead) {m : Option Marshal} {ends : Bool} {text : List ℕ} {us more : List Token} (o : Option Token)
+    (noted : Option Note) → a.ends ≡ ends → marshal_behind noted a.note ≡ m → o ≡ None
+    → Goes (ahead_behind a o noted) text more → us ≡ tokens_of o ++ more → ReadsNoted m ends text us
+silent a (Some t) noted ends said none g is = cc
+silent a {text = text} None noted ends said none g is = record {
+  ahead = ahead_behind a None noted;
   ends_is = ends;
-  quiet = quiet;
-  there = subst (λ (x : List Token). Goes a text x) (sym is) g;
-}
-silent a {text = text} None (Some n) ends quiet none q g is = record {
-  ahead = record { ends = a.ends; note = n };
-  ends_is = ends;
-  quiet = q;
-  there = subst (λ (x : List Token). Goes (record { ends = a.ends; note = n }) text x) (sym is) g;
+  noted = said;
+  there = subst (λ (x : List Token). Goes (ahead_behind a None noted) text x) (sym is) g;
 }
 
-no_notes : (o : Option Note) → o ≡ None → QuietNote o
-no_notes None e = tt
-no_notes (Some n) e = cc
+no_notes : {m : Option Marshal} (o : Option Note) (note : Note) → o ≡ None → note.marshal ≡ m
+    → marshal_behind o note ≡ m
+no_notes o note none said = ap (λ (x : Option Note). marshal_behind x note) none ∙ said
 
 pub blank_read : {ends : Bool} {text : List ℕ} {us : List Token} (n : ℕ)
     → front text ≡ Some (record { piece = blank_piece; len = n }) → Reads ends text us → Reads ends (drop n text) us
 blank_read n e r =
     let s = next e r.there in
-    silent r.ahead s.token s.noted r.ends_is r.quiet s.gives (no_notes s.noted s.notes) s.behind s.is
+    silent r.ahead s.token s.noted r.ends_is (no_notes s.noted r.ahead.note s.notes r.noted) s.gives s.behind s.is
 
-pub quiet_comment : {text : List ℕ} {us : List Token} (n : ℕ)
+-- a comment, behind which others and it say this
+pub said_comment : {m k : Option Marshal} {text : List ℕ} {us : List Token} (n : ℕ)
     → front text ≡ Some (record { piece = comment_piece; len = n })
-    → ((o : Option Note) → SaysNote (take n text) o → QuietNote o) → Reads false text us
-    → Reads false (drop n text) us
-quiet_comment {text = text} n e quiet r =
+    → ((o : Option Note) (note : Note) → note.marshal ≡ m → SaysNote (take n text) o → marshal_behind o note ≡ k)
+    → ReadsNoted m false text us → ReadsNoted k false (drop n text) us
+said_comment {text = text} n e says r =
     let s = next e r.there in
-    silent r.ahead s.token s.noted r.ends_is r.quiet
-    (s.gives ∙ ap (λ (b : Bool). stop_if (b && has_line_end (take n text))) r.ends_is) (quiet s.noted s.notes) s.behind
-    s.is
+    silent r.ahead s.token s.noted r.ends_is (says s.noted r.ahead.note r.noted s.notes)
+    (s.gives ∙ ap (λ (b : Bool). stop_if (b && has_line_end (take n text))) r.ends_is) s.behind s.is
 
 -- ---- pieces with a token
 
@@ -146,7 +145,7 @@ takes a {text = text} {us = us} {more = more} t (Some u) noted e g is =
     subst (λ (x : Token). Takes x text us) (some_injective e) (record {
       more = more;
       is = is;
-      reads = record { ahead = record { ends = ends_line u; note = no_note }; ends_is = refl; quiet = refl; there = g };
+      reads = record { ahead = record { ends = ends_line u; note = no_note }; ends_is = refl; noted = refl; there = g };
     })
 
 pub sign_read : {ends : Bool} {text : List ℕ} {us : List Token} (m : Mark)
@@ -162,12 +161,19 @@ line_read e r =
     let s = next e r.there in
     takes r.ahead (token.Mark mark.Stop) s.token s.noted (s.gives ∙ ap stop_if r.ends_is) s.behind s.is
 
-pub line_passed : {text : List ℕ} {us : List Token} → front text ≡ Some (record { piece = line_piece; len = 1 })
-    → Reads false text us → Reads false (drop 1 text) us
+pub line_passed : {m : Option Marshal} {text : List ℕ} {us : List Token}
+    → front text ≡ Some (record { piece = line_piece; len = 1 }) → ReadsNoted m false text us
+    → ReadsNoted m false (drop 1 text) us
 line_passed e r =
     let s = next e r.there in
-    silent r.ahead s.token s.noted r.ends_is r.quiet (s.gives ∙ ap stop_if r.ends_is) (no_notes s.noted s.notes)
-    s.behind s.is
+    silent r.ahead s.token s.noted r.ends_is (no_notes s.noted r.ahead.note s.notes r.noted)
+    (s.gives ∙ ap stop_if r.ends_is) s.behind s.is
+
+-- a string
+pub text_read : {ends : Bool} {text : List ℕ} {us : List Token} (n : ℕ)
+    → front text ≡ Some (record { piece = text_piece; len = n }) → Reads ends text us
+    → Takes token.Text (drop n text) us
+text_read n e r = let s = next e r.there in takes r.ahead token.Text s.token s.noted s.gives s.behind s.is
 
 -- ---- words
 
@@ -186,19 +192,19 @@ keyword_read {text = text} n m e is r =
     (token.Mark m) (is r.ahead.note) s.gives) s.behind s.is
 
 -- `type`, with what the comments before it say
-pub record TakesType (text : List ℕ) (us : List Token) : Type 0 where
+pub record TakesType (m : Option Marshal) (text : List ℕ) (us : List Token) : Type 0 where
   pub note : Note
-  pub quiet : note.marshal ≡ None
+  pub noted : note.marshal ≡ m
   pub takes : Takes (token.Type note) text us
 
-pub type_read : {ends : Bool} {text : List ℕ} {us : List Token} (n : ℕ)
+pub type_read : {m : Option Marshal} {ends : Bool} {text : List ℕ} {us : List Token} (n : ℕ)
     → front text ≡ Some (record { piece = word_piece; len = n })
-    → ((note : Note) → keyword note (take n text) ≡ Some (token.Type note)) → Reads ends text us
-    → TakesType (drop n text) us
+    → ((note : Note) → keyword note (take n text) ≡ Some (token.Type note)) → ReadsNoted m ends text us
+    → TakesType m (drop n text) us
 type_read {text = text} n e is r =
     let s = next e r.there in record {
       note = r.ahead.note;
-      quiet = r.quiet;
+      noted = r.noted;
       takes = takes r.ahead (token.Type r.ahead.note) s.token s.noted
           (word_is s.token (keyword r.ahead.note (take n text)) (take n text) (token.Type r.ahead.note)
           (is r.ahead.note) s.gives) s.behind s.is;

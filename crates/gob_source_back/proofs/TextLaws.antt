@@ -1,11 +1,13 @@
 -- The tokens of texts that are written.
 use Rattle.std.proofs.Common.{◌≡◌, ◌∙◌, ℕ, suc, ◌<◌, ◌^◌, List, [], ◌∷◌, ◌++◌, Bool, true, false, refl, ap, sym, subst}
-use Rattle.std.proofs.Common.{codes, decimal, drop, length, replicate, take, Some, None, nat_eq}
+use Rattle.std.proofs.Common.{append_assoc, append-nil, codes, decimal, drop, length, replicate, Some, None}
+use Rattle.std.proofs.Common.{nat_eq}
 use Rattle.std.specs.List.{starts_with}
 use Rattle.gob_go_source.specs.Notes.{note_head, NoteOf, SaysNote, marshal_of, notes, notes_nothing, says_note}
 use Rattle.gob_go_source.specs.Notes.{says_nothing}
 use Rattle.gob_source_back.proofs.WordLaws.{quiet_front, number_front, are_digits, blank_front, comment_front}
-use Rattle.gob_source_back.proofs.WordLaws.{drop_spaces, line_front, no_marshal, sign_front, word_text}
+use Rattle.gob_source_back.proofs.WordLaws.{comment_stays, digits_end, drop_spaces, line_front, marshal_said}
+use Rattle.gob_source_back.proofs.WordLaws.{no_marshal, sign_front, word_text}
 use Rattle.gob_source_back.proofs.Written.{AreQuiet, IsQuiet, remarks_text, more_quiet, none_quiet, notes_then}
 use Rattle.gob_source_back.proofs.Written.{structs_then, Body, BodyHasWords, BodyTokens, array_of, body_then, fields}
 use Rattle.gob_source_back.proofs.Written.{fields_tokens, map_of, of_array, of_map, parts, parts_tokens, HasWords}
@@ -13,7 +15,13 @@ use Rattle.gob_source_back.proofs.Written.{IsWordText, Line, LineTokens, LinesHa
 use Rattle.gob_source_back.proofs.Written.{StructTokens, StructsTokens, TypeTokens, Written, interface, lines_then}
 use Rattle.gob_source_back.proofs.Written.{more_structs, more_tokens, more_words, no_structs, no_tokens, no_words}
 use Rattle.gob_source_back.proofs.Written.{of_interface, of_pointer, of_slice, of_word, pointer, slice, struct_then}
+use Rattle.gob_source_back.proofs.Written.{another, another_tokens, encoding, methods_then, of_qualified, qualified}
 use Rattle.gob_source_back.proofs.Written.{type_then, word}
+use Rattle.gob_types.proofs.PublicLaws.{some_injective}
+use Rattle.gob_types.specs.declared.id.TypeId.{TypeId}
+use Rattle.gob_types.specs.declared.kind.Marshal.{Marshal}
+use Rattle.gob_types.specs.Table.{Table}
+use Rattle.gob_source.specs.Source.{imports_text, marshal_text}
 use Rattle.std.specs.Borrow.{Bor}
 use Rattle.std.specs.Prelude.{Option}
 use Rattle.gob_go_source.specs.declared.token.Mark.TheVariants as mark
@@ -22,9 +30,10 @@ use Rattle.gob_go_source.specs.declared.token.Token.{Token}
 use Rattle.gob_go_source.specs.declared.token.Token.TheVariants as token
 use Rattle.gob_go_source.specs.Lexing.{Lexes, front, sign as sign_mark}
 use Rattle.gob_go_source.specs.Scanning.{is_blank, is_word_byte}
-use Rattle.gob_source_back.proofs.ReadingLaws.{number_read, QuietNote, Reads, Takes, blank_read, drop_front}
-use Rattle.gob_source_back.proofs.ReadingLaws.{keyword_read, line_passed, line_read, quiet_comment, reads_none}
-use Rattle.gob_source_back.proofs.ReadingLaws.{reads_text, sign_read, take_front, type_read, word_read}
+use Rattle.gob_source_back.proofs.PassLaws.{imports_read, methods_read}
+use Rattle.gob_source_back.proofs.ReadingLaws.{number_read, Reads, ReadsNoted, Takes, blank_read, drop_front}
+use Rattle.gob_source_back.proofs.ReadingLaws.{keyword_read, line_passed, line_read, marshal_behind, reads_none}
+use Rattle.gob_source_back.proofs.ReadingLaws.{reads_text, said_comment, sign_read, take_front, type_read, word_read}
 use Rattle.gob_source_back.proofs.Named.{blank_piece, sign_piece}
 
 -- ---- types
@@ -81,6 +90,14 @@ type_reads (map_of k e) c rest other words r =
     let u = type_reads e c rest other words.1 v.reads in
     let is = t.is ∙ ap (λ (x : List Token). token.Mark mark.Map ∷ x) o.is in
     record { next = u.next; tokens = of_map is a.tokens v.is u.tokens; reads = u.reads }
+type_reads (qualified p w) c rest other words r =
+    let name = w ++ c ∷ rest in
+    let a = word_read p 46 name words.0 (words.0.fronts 46 name refl) r in
+    let d = sign 46 name (sign_front 46 name refl refl refl) a.takes.reads in
+    let b = word_read w c rest words.1 (words.1.fronts c rest other) d.reads in
+    let is = a.takes.is ∙ ap (λ (x : List Token). token.Name a.name ∷ x)
+    (d.is ∙ ap (λ (x : List Token). token.Mark mark.Dot ∷ x) b.takes.is) in
+    record { next = b.takes.more; tokens = of_qualified a.named b.named is; reads = b.takes.reads }
 
 -- ---- lines
 
@@ -109,6 +126,7 @@ type_begins (array_of n e) rest words =
     record { first = 91; others = decimal n ++ (93 ∷ type_then e rest); is = refl; solid = refl }
 type_begins (map_of k e) rest words =
     record { first = 109; others = codes "ap[" ++ type_then k (93 ∷ type_then e rest); is = refl; solid = refl }
+type_begins (qualified p w) rest words = word_begins p (46 ∷ (w ++ rest)) words.0
 
 tab_read : {ends : Bool} {us : List Token} (text : List ℕ) → BeginsText text → Reads ends (9 ∷ text) us
     → Reads ends text us
@@ -152,38 +170,50 @@ lines_read (l ∷ ls) {us = us} rest (more_words named typed others) r =
 
 -- ---- structs
 
-quiet_by : (ds : List ℕ) {o : Option Note} → ((size : ℕ) → marshal_of (drop size ds) ≡ None)
-    → NoteOf ds o → QuietNote o
-quiet_by ds quiet (notes {size = size} e number marshal) = marshal ∙ quiet size
-quiet_by ds quiet (notes_nothing none) = tt
+-- what a note says of digits and what stands behind them
+note_says : (n : ℕ) → n < 2 ^ 64 → (m : Option Marshal) {o : Option Note} (note : Note) → note.marshal ≡ None
+    → NoteOf (decimal n ++ encoding m) o → marshal_behind o note ≡ m
+note_says n small None note said (notes {size = size} e number marshal) =
+    marshal ∙ ap (λ (l : List ℕ). marshal_of (drop size l)) (append-nil (decimal n))
+    ∙ no_marshal (decimal n) (are_digits n small) size
+note_says n small None note said (notes_nothing none) = said
+note_says n small (Some m) note said (notes {size = size} e number marshal) =
+    let size_is : size ≡ length (decimal n) = some_injective (sym e ∙ digits_end m (decimal n) (are_digits n small)) in
+    marshal ∙ ap (λ (k : ℕ). marshal_of (drop k (decimal n ++ marshal_text m))) size_is
+    ∙ ap marshal_of (drop_front (decimal n) (marshal_text m)) ∙ marshal_said m
+note_says n small (Some m) note said (notes_nothing none) =
+    absurd (none (length (decimal n)) (digits_end m (decimal n) (are_digits n small)) n small
+    (sym (take_front (decimal n) (marshal_text m))))
 
-quiet_note : (ds : List ℕ) {o : Option Note} → ((size : ℕ) → marshal_of (drop size ds) ≡ None)
-    → SaysNote (codes "// type " ++ ds) o → QuietNote o
-quiet_note ds quiet (says_note begins note) = quiet_by ds quiet note
-quiet_note ds quiet (says_nothing other) = tt
+comment_says : (n : ℕ) → n < 2 ^ 64 → (m : Option Marshal) {o : Option Note} (note : Note) → note.marshal ≡ None
+    → SaysNote (codes "// type " ++ (decimal n ++ encoding m)) o → marshal_behind o note ≡ m
+comment_says n small m note said (says_note begins of) = note_says n small m note said of
+comment_says n small m note said (says_nothing other) = absurd (other refl)
 
-comment_read : {us : List Token} (n : ℕ) (rest : List ℕ) → n < 2 ^ 64
-    → Reads false (codes "// type " ++ (decimal n ++ 10 ∷ rest)) us → Reads false (10 ∷ rest) us
-comment_read {us = us} n rest small r =
-    let all = are_digits n small in
-    let whole = codes "// type " ++ decimal n in
-    let quiet : (o : Option Note) → SaysNote (take (length whole) (whole ++ 10 ∷ rest)) o → QuietNote o =
-    (λ o s. quiet_note (decimal n) (no_marshal (decimal n) all)
-    (subst (λ (l : List ℕ). SaysNote l o) (take_front whole (10 ∷ rest)) s)) in
-    subst (λ (l : List ℕ). Reads false l us) (drop_front whole (10 ∷ rest))
-    (quiet_comment (length whole) (comment_front (decimal n) rest all) quiet r)
+comment_read : {us : List Token} (n : ℕ) (m : Option Marshal) (rest : List ℕ) → n < 2 ^ 64
+    → Reads false (codes "// type " ++ (decimal n ++ (encoding m ++ 10 ∷ rest))) us
+    → ReadsNoted m false (10 ∷ rest) us
+comment_read {us = us} n m rest small r =
+    let said = decimal n ++ encoding m in
+    let whole = codes "// type " ++ said in
+    let front_is = comment_front said rest (comment_stays n small m) in
+    let here = subst (λ (l : List ℕ). Reads false (codes "// type " ++ l) us)
+    (sym (append_assoc (decimal n) (encoding m) (10 ∷ rest))) r in
+    subst (λ (l : List ℕ). ReadsNoted m false l us) (drop_front whole (10 ∷ rest))
+    (said_comment (length whole) front_is (λ o note none s. comment_says n small m note none
+    (subst (λ (l : List ℕ). SaysNote l o) (take_front whole (10 ∷ rest)) s)) here)
 
-quiet_says : (c : List ℕ) {o : Option Note} → starts_with nat_eq c note_head ≡ false → SaysNote c o → QuietNote o
-quiet_says c other (says_note begins note) = let k = sym begins ∙ other in cc
-quiet_says c other (says_nothing none) = tt
+quiet_says : {m : Option Marshal} (c : List ℕ) {o : Option Note} (note : Note) → note.marshal ≡ m
+    → starts_with nat_eq c note_head ≡ false → SaysNote c o → marshal_behind o note ≡ m
+quiet_says c note said other (says_note begins of) = let k = sym begins ∙ other in cc
+quiet_says c note said other (says_nothing none) = said
 
-quiet_read : {us : List Token} (c rest : List ℕ) → IsQuiet c → Reads false (c ++ 10 ∷ rest) us
-    → Reads false (10 ∷ rest) us
-quiet_read {us = us} c rest q r =
-    let quiet : (o : Option Note) → SaysNote (take (length c) (c ++ 10 ∷ rest)) o → QuietNote o =
-    (λ o s. quiet_says c q.other (subst (λ (l : List ℕ). SaysNote l o) (take_front c (10 ∷ rest)) s)) in
-    subst (λ (l : List ℕ). Reads false l us) (drop_front c (10 ∷ rest))
-    (quiet_comment (length c) (quiet_front c rest q) quiet r)
+quiet_read : {m : Option Marshal} {us : List Token} (c rest : List ℕ) → IsQuiet c
+    → ReadsNoted m false (c ++ 10 ∷ rest) us → ReadsNoted m false (10 ∷ rest) us
+quiet_read {m = m} {us = us} c rest q r =
+    subst (λ (l : List ℕ). ReadsNoted m false l us) (drop_front c (10 ∷ rest))
+    (said_comment (length c) (quiet_front c rest q) (λ o note said s. quiet_says c note said q.other
+    (subst (λ (l : List ℕ). SaysNote l o) (take_front c (10 ∷ rest)) s)) r)
 
 -- a line ends in front of comments, and in front of what is behind them
 record EndsLine (text : List ℕ) : Type 0 where
@@ -194,14 +224,14 @@ notes_end : (cs : List (List ℕ)) (rest : List ℕ) → EndsLine (notes_then cs
 notes_end [] rest = record { more = rest; is = refl }
 notes_end (c ∷ cs) rest = record { more = c ++ notes_then cs (10 ∷ rest); is = refl }
 
-notes_read : {cs : List (List ℕ)} → AreQuiet cs → {us : List Token} (rest : List ℕ)
-    → Reads false (notes_then cs (10 ∷ rest)) us → Reads false (10 ∷ rest) us
+notes_read : {cs : List (List ℕ)} → AreQuiet cs → {m : Option Marshal} {us : List Token} (rest : List ℕ)
+    → ReadsNoted m false (notes_then cs (10 ∷ rest)) us → ReadsNoted m false (10 ∷ rest) us
 notes_read none_quiet rest r = r
-notes_read (more_quiet {c = c} {cs = cs} q more) {us = us} rest r =
+notes_read (more_quiet {c = c} {cs = cs} q more) {m = m} {us = us} rest r =
     let e = notes_end cs rest in
     let a = line_passed (line_front (c ++ notes_then cs (10 ∷ rest))) r in
-    let b = quiet_read c e.more q (subst (λ (l : List ℕ). Reads false (c ++ l) us) e.is a) in
-    notes_read more rest (subst (λ (l : List ℕ). Reads false l us) (sym e.is) b)
+    let b = quiet_read c e.more q (subst (λ (l : List ℕ). ReadsNoted m false (c ++ l) us) e.is a) in
+    notes_read more rest (subst (λ (l : List ℕ). ReadsNoted m false l us) (sym e.is) b)
 
 comments_read : {cs : List (List ℕ)} → AreQuiet cs → {us : List Token} → Reads false (remarks_text cs) us → us ≡ []
 comments_read none_quiet r = reads_none r
@@ -219,6 +249,8 @@ body_begins : (b : Body) (rest : List ℕ) → BodyHasWords b → BeginsText (bo
 body_begins (fields ls) rest words =
     record { first = 115; others = codes "truct {\n" ++ lines_then ls (codes "}\n" ++ rest); is = refl; solid = refl }
 body_begins (parts e) rest words = type_begins e (10 ∷ rest) words
+body_begins (another e) rest words =
+    record { first = 61; others = codes " " ++ type_then e (10 ∷ rest); is = refl; solid = refl }
 
 body_reads : {ends : Bool} {us : List Token} (b : Body) (rest : List ℕ) → BodyHasWords b
     → Reads ends (body_then b rest) us → ReadsBody b rest us
@@ -247,33 +279,48 @@ body_reads {us = us} (parts e) rest words r =
       tokens = parts_tokens (subst (λ (x : List Token). TypeTokens e us x) f.is t.tokens);
       reads = f.reads;
     }
+body_reads (another e) rest words r =
+    let type = type_then e (10 ∷ rest) in
+    let k = sign 61 (32 ∷ type) (sign_front 61 (32 ∷ type) refl refl refl) r in
+    let p = spaces_read 0 type (type_begins e (10 ∷ rest) words) k.reads in
+    let t = type_reads e 10 rest refl words p in
+    let f = line_read (line_front rest) t.reads in
+    record {
+      next = f.more;
+      tokens = another_tokens k.is (subst (λ (x : List Token). TypeTokens e k.more x) f.is t.tokens);
+      reads = f.reads;
+    }
 
+-- the tokens of a declaration stand first, and the others are read behind its methods
 record ReadsStruct (d : Struct) (text : List ℕ) (us : List Token) : Type 0 where
   next : List Token
   tokens : StructTokens d us next
-  reads : Reads false text next
+  reads : Reads false (methods_then d.methods d.name text) next
 
 struct_read : {us : List Token} (d : Struct) (rest : List ℕ) → d.id < 2 ^ 64 → IsWordText d.name
     → BodyHasWords d.body → AreQuiet d.notes → Reads false (struct_then d rest) us → ReadsStruct d rest us
 struct_read {us = us} d rest small named words quiet r =
-    let body = body_then d.body rest in
+    let methods = methods_then d.methods d.name rest in
+    let body = body_then d.body methods in
     let line = codes "type " ++ (d.name ++ (32 ∷ body)) in
     let notes = notes_end d.notes line in
-    let a = line_passed (line_front (codes "// type " ++ (decimal d.id ++ notes_then d.notes (10 ∷ line)))) r in
-    let b = comment_read d.id notes.more small
-    (subst (λ (l : List ℕ). Reads false (codes "// type " ++ (decimal d.id ++ l)) us) notes.is a) in
-    let q = notes_read quiet line (subst (λ (l : List ℕ). Reads false l us) (sym notes.is) b) in
+    let a = line_passed (line_front (codes "// type " ++ (decimal d.id ++ (encoding d.marshal
+    ++ notes_then d.notes (10 ∷ line))))) r in
+    let b = comment_read d.id d.marshal notes.more small
+    (subst (λ (l : List ℕ). Reads false (codes "// type " ++ (decimal d.id ++ (encoding d.marshal ++ l))) us)
+    notes.is a) in
+    let q = notes_read quiet line (subst (λ (l : List ℕ). ReadsNoted d.marshal false l us) (sym notes.is) b) in
     let c = line_passed (line_front line) q in
     let t = type_read 4 refl (λ n. refl) c in
     let s = spaces_read 0 (d.name ++ (32 ∷ body)) (word_begins d.name (32 ∷ body) named) t.takes.reads in
     let n = word_read d.name 32 body named (named.fronts 32 body refl) s in
-    let p = spaces_read 0 body (body_begins d.body rest words) n.takes.reads in
-    let o = body_reads d.body rest words p in
+    let p = spaces_read 0 body (body_begins d.body methods words) n.takes.reads in
+    let o = body_reads d.body methods words p in
     record {
       next = o.next;
       tokens = record {
         note = t.note;
-        quiet = t.quiet;
+        noted = t.noted;
         name = n.name;
         named = n.named;
         next = n.takes.more;
@@ -294,8 +341,10 @@ structs_read : {ds : List Struct} → StructsHaveWords ds → {us : List Token} 
 structs_read no_words_of cs quiet r =
     subst (λ (x : List Token). StructsTokens [] x) (sym (comments_read quiet r)) no_structs
 structs_read (words_of {d = d} {ds = ds} small named words noted others) cs quiet r =
-    let one = struct_read d (structs_then ds (remarks_text cs)) small named words noted r in
-    more_structs one.tokens (structs_read others cs quiet one.reads)
+    let rest = structs_then ds (remarks_text cs) in
+    let one = struct_read d rest small named words noted r in
+    more_structs one.tokens
+    (methods_read d.methods d.name rest named (λ vs s. structs_read others cs quiet s) one.reads)
 
 -- the tokens of a file
 pub record FileTokens (ds : List Struct) (us : List Token) : Type 0 where
@@ -304,11 +353,13 @@ pub record FileTokens (ds : List Struct) (us : List Token) : Type 0 where
   pub is : us ≡ token.Mark mark.Package ∷ token.Name name ∷ token.Mark mark.Stop ∷ behind
   pub tokens : StructsTokens ds behind
 
-pub file_read : {text : List ℕ} {us : List Token} {a : _} {os : List ℕ} (ds : List Struct) (cs : List (List ℕ))
-    → StructsHaveWords ds → AreQuiet cs → text ≡ codes "package types\n" ++ structs_then ds (remarks_text cs)
+pub file_read : {text : List ℕ} {us : List Token} {a : _} {os : List ℕ} (T : Table) (ts : List TypeId)
+    (ds : List Struct) (cs : List (List ℕ)) → StructsHaveWords ds → AreQuiet cs
+    → text ≡ codes "package types\n" ++ (imports_text T ts ++ structs_then ds (remarks_text cs))
     → Lexes text [] a us os → FileTokens ds us
-file_read {us = us} ds cs words quiet is l =
-    let all = structs_then ds (remarks_text cs) in
+file_read {us = us} T ts ds cs words quiet is l =
+    let rest = structs_then ds (remarks_text cs) in
+    let all = imports_text T ts ++ rest in
     let r = subst (λ (x : List ℕ). Reads false x us) is (reads_text l) in
     let p = keyword_read 7 mark.Package refl (λ n. refl) r in
     let b = blank_read 1 refl p.reads in
@@ -319,7 +370,7 @@ file_read {us = us} ds cs words quiet is l =
       behind = e.more;
       is = p.is ∙ ap (λ (x : List Token). token.Mark mark.Package ∷ x)
           (n.takes.is ∙ ap (λ (x : List Token). token.Name n.name ∷ x) e.is);
-      tokens = structs_read words cs quiet e.reads;
+      tokens = imports_read T ts rest (λ vs s. structs_read words cs quiet s) e.reads;
     }
   where
     types : IsWordText (codes "types")

@@ -5,17 +5,20 @@ use Rattle.std.proofs.lemmas.Fmt.{decimal_injective}
 use Rattle.std.proofs.lemmas.Option.{none-some}
 use Rattle.std.proofs.lemmas.Slice.Eq.{bytes_eq-Decides}
 use Rattle.std.specs.Borrow.{Bor}
-use Rattle.std.specs.Prelude.{Option, slice_get}
+use Rattle.std.specs.Prelude.{IsSome, Option, slice_get}
 use Rattle.gob_types.proofs.PublicLaws.{some_injective}
 use Rattle.gob_types.specs.declared.id.TypeId.{TypeId}
 use Rattle.gob_types.specs.declared.kind.Field.{Field}
 use Rattle.gob_types.specs.declared.kind.Kind.{Kind}
 use Rattle.gob_types.specs.declared.kind.Kind.TheVariants as kind
+use Rattle.gob_types.specs.declared.kind.Marshal.{Marshal}
+use Rattle.gob_types.specs.declared.kind.Marshal.TheVariants as marshal
 use Rattle.gob_types.specs.declared.kind.Shape.{Shape}
 use Rattle.gob_types.specs.Base.{id}
 use Rattle.gob_types.specs.Table.{Table, shape_of}
 use Rattle.gob_types.specs.Definable.{greatest_length}
-use Rattle.gob_source.specs.Names.{own_name}
+use Rattle.gob_source.specs.Library.{shape_package}
+use Rattle.gob_source.specs.Names.{is_reserved, own_name}
 use Rattle.gob_source.specs.Source.{has_parts, is_among}
 use Rattle.gob_go_source.specs.declared.declarations.GoSource.{GoSource}
 use Rattle.gob_go_source.specs.declared.go_type.Declaration.{Declaration}
@@ -25,12 +28,12 @@ use Rattle.gob_go_source.specs.declared.go_type.GoType.TheVariants as go
 use Rattle.gob_go_types.specs.declared.numbers.Defined.{Defined}
 use Rattle.gob_go_types.specs.Code.{declaration_of, declared_at, declared_by, first_declared, is_name}
 use Rattle.gob_go_types.specs.Fields.{SendsNames, are_none, embedded, exported, fields_of, is_exported, written}
-use Rattle.gob_go_types.specs.Library.{basic_named, is_byte}
+use Rattle.gob_go_types.specs.Library.{basic_named, is_byte, known_of}
 use Rattle.gob_go_types.specs.Sight.{Ends, EndsName, EndsSlice, Leads, LeadsFrom, Seen, SeenFrom, Underlies, itself}
 use Rattle.gob_go_types.specs.Sight.{behind, a_basic_name, of_bytes, of_others, a_pointer, a_name, of_library, a_slice}
 use Rattle.gob_go_types.specs.Sight.{an_array, a_map, a_struct, an_interface, not_sent, parts_sight, declared_opaque}
 use Rattle.gob_go_types.specs.Sight.{another_name, of_its_own, by_declaration, by_itself, seen, seen_on, seen_there}
-use Rattle.gob_go_types.specs.Sight.{seen_behind, is_byte_type}
+use Rattle.gob_go_types.specs.Sight.{seen_behind, is_byte_type, EndsLibrary, a_whole_number, encodes_itself}
 use Rattle.gob_go_types.specs.Types.{AreTypesOf, Has, HasFields, HasId, HasKind, Ids, IsDefinedBy, IsNumbered, IsOf}
 use Rattle.gob_go_types.specs.Types.{LineHas, defined, a_basic, a_declared, all_sent, an_opaque, has_id, more_lines}
 use Rattle.gob_go_types.specs.Types.{no_lines, none_seen, nothing_sent, of_parts, wanted_of}
@@ -38,25 +41,42 @@ use Rattle.gob_go_types.specs.Types as types
 use Rattle.gob_source_back.specs.Alike.{AreAlike, HasAlikeKind, IsAlike, IsBasicId, IsWritten, alike_arrays}
 use Rattle.gob_source_back.specs.Alike.{alike_field, alike_maps, alike_slices, alike_structs, alike_types, its_own}
 use Rattle.gob_source_back.specs.Alike.{no_more, without_name, IsAsked, is_plain_name, not_looked, same_basic}
-use Rattle.gob_source_back.specs.Alike.{the_first, the_named}
-use Rattle.gob_source_back.proofs.Named.{Sight, Step, sight_basic, sight_own, step_at, step_on}
+use Rattle.gob_source_back.specs.Alike.{the_first, the_named, alike_opaques, of_library}
+use Rattle.gob_source_back.proofs.Named.{Sight, Step, known_opaque, sight_basic, sight_opaque, sight_own, step_at}
+use Rattle.gob_source_back.proofs.Named.{step_on}
 use Rattle.gob_source_back.proofs.Written.{Body, BodyStands, array_of, at_array, at_map, fields, fields_stand, map_of}
 use Rattle.gob_source_back.proofs.Written.{parts, parts_stand, AreDeclared, IsDeclared, Line, LinesStand, StandsAt}
 use Rattle.gob_source_back.proofs.Written.{Struct, Written, at_interface, at_pointer, at_slice, at_word, interface}
 use Rattle.gob_source_back.proofs.Written.{more_declared, no_line, none_declared, one_line, pointer, slice, word}
+use Rattle.gob_source_back.proofs.Written.{another, another_stands, at_qualified, is_another, qualified}
+use Rattle.gob_source_back.proofs.NameLaws.{no_name, own_free}
 use Rattle.gob_source_back.proofs.WordLaws.{plain_exported}
 
 -- ---- what is written of types
 
+-- by what a type encodes itself
+abbrev pub kind_marshal : Kind → Option Marshal
+kind_marshal (kind.Opaque m) = Some m
+kind_marshal _ = None
+
+-- the type is one of Go's library, of the package of this name
+pub record IsOfLibrary (s : Shape) (p : List ℕ) : Type 0 where
+  pub marshal : Marshal
+  pub is : s.kind ≡ kind.Opaque marshal
+  pub some : IsSome (shape_package s)
+  pub known : known_of p s.name ≡ known_opaque marshal
+
 mutual
   -- the type is written so where it is a part of others
   pub data TypeOf (T : Table) (ts : List TypeId) : TypeId → Written → Type 0 where
-    of_basic : {u : TypeId} {w : List ℕ} → basic_named w ≡ Some u → IsBasicId u → is_exported w ≡ false
+    of_basic : {u : TypeId} {w : List ℕ} → basic_named w ≡ Some u → IsBasicId u → is_reserved w ≡ true
         → is_byte w ≡ false → TypeOf T ts u (word w)
     of_byte : {u : TypeId} {e : Written} → e ≡ word (codes "byte") → u ≡ id 5 → TypeOf T ts u (slice e)
     of_any : {u : TypeId} → u ≡ id 8 → TypeOf T ts u interface
     of_name : {u : TypeId} {w : List ℕ} (x : IsWritten T ts u) → is_among u ts ≡ true
         → w ≡ own_name T ts u x.shape.name → TypeOf T ts u (word w)
+    of_package : {u : TypeId} {p w : List ℕ} (x : IsWritten T ts u) → IsOfLibrary x.shape p → w ≡ x.shape.name
+        → TypeOf T ts u (qualified p w)
     of_pointed : {u : TypeId} {e : Written} → TypeOf T ts u e → TypeOf T ts u (pointer e)
     of_its_parts : {u : TypeId} {k : Kind} {e : Written} (x : IsWritten T ts u) → has_parts x.shape ≡ true
         → x.shape.kind ≡ k → PartsOf T ts k e → TypeOf T ts u e
@@ -78,12 +98,15 @@ pub data LinesOf (T : Table) (ts : List TypeId) : List Field → List Line → T
 pub data BodyOf (T : Table) (ts : List TypeId) : Kind → Body → Type 0 where
   fields_of_body : {fs : List Field} {ls : List Line} → LinesOf T ts fs ls → BodyOf T ts (kind.Struct fs) (fields ls)
   parts_of_body : {k : Kind} {e : Written} → PartsOf T ts k e → BodyOf T ts k (parts e)
+  string_of_body : {m : Marshal} → BodyOf T ts (kind.Opaque m) (parts (word (codes "string")))
+  another_of_body : {m : Marshal} {p w : List ℕ} → BodyOf T ts (kind.Opaque m) (another (qualified p w))
 
 -- the declaration is that of the type
 pub record IsStructOf (T : Table) (ts : List TypeId) (u : TypeId) (x : Struct) : Type 0 where
   pub is : IsWritten T ts u
   pub among : is_among u ts ≡ true
   pub named : x.name ≡ own_name T ts u is.shape.name
+  pub marshal : x.marshal ≡ kind_marshal is.shape.kind
   pub body : BodyOf T ts is.shape.kind x.body
 
 pub data AreStructsOf (T : Table) (ts : List TypeId) : List TypeId → List Struct → Type 0 where
@@ -101,13 +124,6 @@ AreDistinct T ts = (t u : TypeId) (r s : Shape) → is_among t ts ≡ true → i
 same_shapes : {T : Table} {ts : List TypeId} {u : TypeId} (x y : IsWritten T ts u) → x.shape ≡ y.shape
 same_shapes x y = some_injective (sym x.has ∙ y.has)
 
-not_exported : (v w : List ℕ) → is_exported v ≡ true → is_exported w ≡ false → is_name v w ≡ false
-not_exported v w h k = by (is_name v w) refl
-  where
-    by : (b : Bool) → is_name v w ≡ b → is_name v w ≡ false
-    by false e = e
-    by true e = let same = (bytes_eq-Decides v w).0 e in let f = sym h ∙ ap is_exported same ∙ k in cc
-
 -- the place of a declaration that is that of a type
 record IsPlace (T : Table) (ts : List TypeId) (types : List GoType) (ds : List Declaration) (u : TypeId)
     (at : ℕ) : Type 0 where
@@ -118,12 +134,12 @@ record IsPlace (T : Table) (ts : List TypeId) (types : List GoType) (ds : List D
   of : IsStructOf T ts u struct
 
 unknown_name : {T : Table} {ts : List TypeId} {types : List GoType} {us : List TypeId} {ds : List Declaration}
-    {xs : List Struct} (n : ℕ) (w : List ℕ) → AreDeclared types ds xs → AreStructsOf T ts us xs → is_exported w ≡ false
+    {xs : List Struct} (n : ℕ) (w : List ℕ) → AreDeclared types ds xs → AreStructsOf T ts us xs → is_reserved w ≡ true
     → first_declared n ds w ≡ None
 unknown_name n w none_declared of e = refl
 unknown_name {T = T} {ts = ts} n w (more_declared {d = d} {ds = ds} one more) (struct_of {u = u} is of) e =
-    let plain = plain_exported (own_name T ts u is.is.shape.name) is.is.plain in
-    let other = not_exported d.name.now w (ap is_exported (one.named ∙ is.named) ∙ plain) e in
+    let free = own_free T ts u is.is.shape.name is.is.small in
+    let other = no_name d.name.now w (ap is_reserved (one.named ∙ is.named) ∙ free) e in
     ap (λ (b : Bool). if b then Some n else first_declared (n + 1) ds w) other ∙ unknown_name (n + 1) w more of e
 
 record Found (T : Table) (ts : List TypeId) (types : List GoType) (ds : List Declaration) (u : TypeId) (n : ℕ)
@@ -204,11 +220,18 @@ find_name {T = T} {ts = ts} {types = types} n u x distinct within (more_declared
 
 -- ---- looks
 
--- what is seen is the basic type, the one that is declared at a place, or parts without a name
+-- what is seen of a declared type that encodes itself so, or that doesn't
+abbrev declared_sight : GoSource → Option Marshal → ℕ → Declaration → Sight
+declared_sight s None at d = sight_own at d.of
+declared_sight s (Some m) at d = sight_opaque s d.name m
+
+-- what is seen is the basic type, the one that is declared at a place, one of Go's library, or parts without a name
 data Sees (T : Table) (ts : List TypeId) (s : GoSource) (v : Sight) (u : TypeId) : Type 0 where
   a_basic_sight : v ≡ sight_basic s u → IsBasicId u → Sees T ts s v u
-  a_struct_sight : {at m : ℕ} → IsPlace T ts s.types.items s.declarations.items u at → v ≡ sight_own at m
-      → Sees T ts s v u
+  a_declared_sight : {at : ℕ} (place : IsPlace T ts s.types.items s.declarations.items u at)
+      → v ≡ declared_sight s place.struct.marshal at place.declaration → Sees T ts s v u
+  a_library_sight : {w : Bor (List ℕ)} {m : Marshal} (x : IsWritten T ts u) → IsSome (shape_package x.shape)
+      → x.shape.kind ≡ kind.Opaque m → w.now ≡ x.shape.name → v ≡ sight_opaque s w m → Sees T ts s v u
   a_parts_sight : {m : ℕ} {k : Kind} {e : Written} (x : IsWritten T ts u) → has_parts x.shape ≡ true
       → x.shape.kind ≡ k → PartsOf T ts k e → StandsAt s.types.items m e → v ≡ parts_sight None m → Sees T ts s v u
 
@@ -237,6 +260,38 @@ module _ (T : Table) (ts : List TypeId) (s : GoSource) (xs : List Struct)
   name_ends o n b e at (a_struct f g) = cc
   name_ends o n b e at (an_interface f g) = cc
   name_ends o n b e at (not_sent f g) = cc
+
+  library_ends : (o : Option ℕ) (n : ℕ) (a b : Bor (List ℕ)) (e : Step s)
+      → slice_get s.types.items n ≡ Some (go.Qualified a b) → Ends s o n e → EndsLibrary o a.now b e
+  library_ends o n a b e at (a_pointer f g) = cc
+  library_ends o n a b e at (a_name f g) = cc
+  library_ends o n a b e at (of_library {p = p} {w = w} f g) =
+      let owner : p ≡ a = cc in
+      let name : w ≡ b = cc in
+      subst (λ (y : Bor (List ℕ)). EndsLibrary o a.now y e) name
+      (subst (λ (x : Bor (List ℕ)). EndsLibrary o x.now w e) owner g)
+  library_ends o n a b e at (a_slice f g) = cc
+  library_ends o n a b e at (an_array f g) = cc
+  library_ends o n a b e at (a_map f g) = cc
+  library_ends o n a b e at (a_struct f g) = cc
+  library_ends o n a b e at (an_interface f g) = cc
+  library_ends o n a b e at (not_sent f g) = cc
+
+  -- a type of Go's library that encodes itself so is seen to
+  known_ends : (o : Option ℕ) (m : Marshal) (p : List ℕ) (w : Bor (List ℕ)) (e : Step s)
+      → known_of p w.now ≡ known_opaque m → EndsLibrary o p w e → e ≡ step_at s (sight_opaque s w m)
+  known_ends o marshal.Gob p w e known (a_whole_number f g) = let k = sym known ∙ f in cc
+  known_ends o marshal.Binary p w e known (a_whole_number f g) = let k = sym known ∙ f in cc
+  known_ends o marshal.Text p w e known (a_whole_number f g) = let k = sym known ∙ f in cc
+  known_ends o marshal.Gob p w e known (encodes_itself {m = n} f none g) =
+      let k = sym known ∙ f in
+      let same : n ≡ marshal.Gob = cc in
+      g ∙ ap (λ (x : Marshal). step_at s (sight_opaque s w x)) same
+  known_ends o marshal.Binary p w e known (encodes_itself {m = n} f none g) =
+      let k = sym known ∙ f in
+      let same : n ≡ marshal.Binary = cc in
+      g ∙ ap (λ (x : Marshal). step_at s (sight_opaque s w x)) same
+  known_ends o marshal.Text p w e known (encodes_itself f none g) = let k = sym known ∙ f in cc
 
   pointer_ends : (o : Option ℕ) (n m : ℕ) (e : Step s) → slice_get s.types.items n ≡ Some (go.Pointer m) → Ends s o n e
       → e ≡ step_on s m
@@ -333,7 +388,7 @@ module _ (T : Table) (ts : List TypeId) (s : GoSource) (xs : List Struct)
   at_on : {A : Type 0} {n : ℕ} {v : Sight} → step_at s v ≡ step_on s n → A
   at_on e = cc
 
-  basic_name : (w : List ℕ) → is_exported w ≡ false → declaration_of s.declarations.items w ≡ None
+  basic_name : (w : List ℕ) → is_reserved w ≡ true → declaration_of s.declarations.items w ≡ None
   basic_name w e = unknown_name 0 w declared structs e
 
   place_of : (u : TypeId) (x : IsWritten T ts u) → is_among u ts ≡ true
@@ -366,10 +421,20 @@ module _ (T : Table) (ts : List TypeId) (s : GoSource) (xs : List Struct)
   no_byte m end a t at none other under found =
       ap is_byte_type (itself_type m end a t at none under found) ∙ other
 
+  package_no_byte : (m end : ℕ) (t : GoType) {p w : List ℕ} → StandsAt s.types.items m (qualified p w)
+      → Underlies s m end → slice_get s.types.items end ≡ Some t → is_byte_type t ≡ false
+  package_no_byte m end t (at_qualified at owned named) under found = no_byte m end _ t at refl refl under found
+
   body_no_byte : (m end : ℕ) (t : GoType) {b : Body} {k : Kind} → BodyStands s.types.items m b → BodyOf T ts k b
       → Underlies s m end → slice_get s.types.items end ≡ Some t → is_byte_type t ≡ false
   body_no_byte m end t (fields_stand at lines) of under found = no_byte m end _ t at refl refl under found
   body_no_byte m end t (parts_stand (at_word at named)) (parts_of_body p) under found = elim p [ ]
+  body_no_byte m end t (parts_stand (at_word {b = b} at named)) string_of_body under found =
+      no_byte m end (go.Name b) t at (ap (declaration_of s.declarations.items) named ∙ basic_name (codes "string") refl)
+      (ap is_byte named) under found
+  body_no_byte m end t (another_stands stands) another_of_body under found =
+      package_no_byte m end t stands under found
+  body_no_byte m end t (parts_stand (at_qualified at owned named)) (parts_of_body p) under found = elim p [ ]
   body_no_byte m end t (parts_stand (at_pointer at more)) (parts_of_body p) under found = elim p [ ]
   body_no_byte m end t (parts_stand (at_interface at)) (parts_of_body p) under found = elim p [ ]
   body_no_byte m end t (parts_stand (at_slice at more)) (parts_of_body p) under found =
@@ -397,6 +462,7 @@ module _ (T : Table) (ts : List TypeId) (s : GoSource) (xs : List Struct)
       let f = place_of u x among in
       place_no_byte m end f.at t f.place (known_at m b u x f at (named ∙ name)) under found
   type_no_byte m end t (at_word at named) (of_its_parts x h is p) under found = elim p [ ]
+  type_no_byte m end t (at_qualified at owned named) of under found = no_byte m end _ t at refl refl under found
   type_no_byte m end t (at_pointer at more) of under found = no_byte m end _ t at refl refl under found
   type_no_byte m end t (at_slice at more) of under found = no_byte m end _ t at refl refl under found
   type_no_byte m end t (at_interface at) of under found = no_byte m end _ t at refl refl under found
@@ -416,6 +482,7 @@ module _ (T : Table) (ts : List TypeId) (s : GoSource) (xs : List Struct)
   parts_end o n e (at_word at named) p ends = elim p [ ]
   parts_end o n e (at_pointer at more) p ends = elim p [ ]
   parts_end o n e (at_interface at) p ends = elim p [ ]
+  parts_end o n e (at_qualified at owned named) p ends = elim p [ ]
   parts_end o n e (at_slice {m = m} at more) (slice_parts type) ends =
       others_end o m n e more type (slice_ends o n m e at ends)
   parts_end o n e (at_array {m = m} {length = l} at same more) p ends = array_ends o n l m e at ends
@@ -426,6 +493,7 @@ module _ (T : Table) (ts : List TypeId) (s : GoSource) (xs : List Struct)
   parts_undeclared n (at_word at named) p = elim p [ ]
   parts_undeclared n (at_pointer at more) p = undeclared n _ at refl
   parts_undeclared n (at_interface at) p = undeclared n _ at refl
+  parts_undeclared n (at_qualified at owned named) p = undeclared n _ at refl
   parts_undeclared n (at_slice at more) p = undeclared n _ at refl
   parts_undeclared n (at_array at same more) p = undeclared n _ at refl
   parts_undeclared n (at_map at key more) p = undeclared n _ at refl
@@ -435,36 +503,62 @@ module _ (T : Table) (ts : List TypeId) (s : GoSource) (xs : List Struct)
   parts_look n e stands p (by_declaration {i = i} f l) = absurd (none-some i (sym (parts_undeclared n stands p) ∙ f))
   parts_look n e stands p (by_itself f l) = parts_end None n e stands p l
 
-  body_end : (i n end : ℕ) (e : Step s) {b : Body} {k : Kind} → BodyStands s.types.items n b → BodyOf T ts k b
-      → Underlies s n end → Ends s (Some i) end e → e ≡ step_at s (sight_own i n)
-  body_end i n end e (fields_stand at lines) of under ends =
+  -- the body of a type that doesn't encode itself
+  body_end : (i n end : ℕ) (e : Step s) {b : Body} {k : Kind} → kind_marshal k ≡ None → BodyStands s.types.items n b
+      → BodyOf T ts k b → Underlies s n end → Ends s (Some i) end e → e ≡ step_at s (sight_own i n)
+  body_end i n end e plain (fields_stand at lines) of under ends =
       let last = underlies_itself n end (undeclared n _ at refl) under in
       struct_ends i n e at (subst (λ (k : ℕ). Ends s (Some i) k e) last ends)
-  body_end i n end e (parts_stand stands) (parts_of_body p) under ends =
+  body_end i n end e plain (parts_stand stands) (parts_of_body p) under ends =
       let last = underlies_itself n end (parts_undeclared n stands p) under in
       parts_end (Some i) n e stands p (subst (λ (k : ℕ). Ends s (Some i) k e) last ends)
+  body_end i n end e plain (parts_stand stands) string_of_body under ends = cc
+  body_end i n end e plain (another_stands stands) another_of_body under ends = cc
+
+  no_other : {b : Body} {k : Kind} → kind_marshal k ≡ None → BodyOf T ts k b → is_another b ≡ false
+  no_other plain (fields_of_body of) = refl
+  no_other plain (parts_of_body p) = refl
+  no_other plain string_of_body = refl
+  no_other plain another_of_body = cc
 
   -- a look at a type that is declared ends there
-  own_led : {u : TypeId} (at : ℕ) (p : IsPlace T ts s.types.items s.declarations.items u at) (e : Step s)
-      → LeadsFrom s at e → e ≡ step_at s (sight_own at p.declaration.of)
-  own_led at p e (declared_opaque {d = d} f g h) =
+  declared_led : {u : TypeId} (o : Option Marshal) (at : ℕ) (p : IsPlace T ts s.types.items s.declarations.items u at)
+      (e : Step s) → p.struct.marshal ≡ o → LeadsFrom s at e → e ≡ step_at s (declared_sight s o at p.declaration)
+  declared_led None at p e is (declared_opaque {d = d} f g h) =
       let same : d ≡ p.declaration = some_injective (sym f ∙ p.declared) in
-      let quiet = sym g ∙ ap (λ (x : Declaration). x.note.marshal) same ∙ p.is.quiet in cc
-  own_led at p e (another_name {d = d} f g alias h) =
+      let quiet = sym g ∙ ap (λ (x : Declaration). x.note.marshal) same ∙ p.is.noted ∙ is in cc
+  declared_led None at p e is (another_name {d = d} f g alias h) =
       let same : d ≡ p.declaration = some_injective (sym f ∙ p.declared) in
-      let own = sym alias ∙ ap (λ (x : Declaration). x.is_alias) same ∙ p.is.no_alias in cc
-  own_led at p e (of_its_own {d = d} {end = end} f g alias under ends) =
+      let own = sym alias ∙ ap (λ (x : Declaration). x.is_alias) same ∙ p.is.is_alias
+      ∙ no_other (sym p.of.marshal ∙ is) p.of.body in cc
+  declared_led None at p e is (of_its_own {d = d} {end = end} f g alias under ends) =
       let same : d ≡ p.declaration = some_injective (sym f ∙ p.declared) in
       let here = subst (λ (k : ℕ). Underlies s k end) (ap (λ (x : Declaration). x.of) same) under in
-      body_end at p.declaration.of end e p.is.body p.of.body here ends
+      body_end at p.declaration.of end e (sym p.of.marshal ∙ is) p.is.body p.of.body here ends
+  declared_led (Some m) at p e is (declared_opaque {d = d} {m = n} f g h) =
+      let same : d ≡ p.declaration = some_injective (sym f ∙ p.declared) in
+      let marshal : n ≡ m = some_injective (sym g ∙ ap (λ (x : Declaration). x.note.marshal) same ∙ p.is.noted ∙ is) in
+      h ∙ ap (λ (x : Declaration). step_at s (sight_opaque s x.name n)) same
+      ∙ ap (λ (x : Marshal). step_at s (sight_opaque s p.declaration.name x)) marshal
+  declared_led (Some m) at p e is (another_name {d = d} f g alias h) =
+      let same : d ≡ p.declaration = some_injective (sym f ∙ p.declared) in
+      let quiet = sym g ∙ ap (λ (x : Declaration). x.note.marshal) same ∙ p.is.noted ∙ is in cc
+  declared_led (Some m) at p e is (of_its_own {d = d} f g alias under ends) =
+      let same : d ≡ p.declaration = some_injective (sym f ∙ p.declared) in
+      let quiet = sym g ∙ ap (λ (x : Declaration). x.note.marshal) same ∙ p.is.noted ∙ is in cc
+
+  own_led : {u : TypeId} (at : ℕ) (p : IsPlace T ts s.types.items s.declarations.items u at) (e : Step s)
+      → LeadsFrom s at e → e ≡ step_at s (declared_sight s p.struct.marshal at p.declaration)
+  own_led at p e l = declared_led p.struct.marshal at p e refl l
 
   name_led : (n : ℕ) (b : Bor (List ℕ)) (u : TypeId) (x : IsWritten T ts u) (e : Step s)
       (f : Found T ts s.types.items s.declarations.items u 0 (own_name T ts u x.shape.name))
       → slice_get s.types.items n ≡ Some (go.Name b) → b.now ≡ own_name T ts u x.shape.name → Leads s n e
-      → e ≡ step_at s (sight_own f.at f.place.declaration.of)
+      → e ≡ step_at s (declared_sight s f.place.struct.marshal f.at f.place.declaration)
   name_led n b u x e f at named l = by (known_at n b u x f at named) l
     where
-      by : declared_at s n ≡ Some f.at → Leads s n e → e ≡ step_at s (sight_own f.at f.place.declaration.of)
+      by : declared_at s n ≡ Some f.at → Leads s n e
+          → e ≡ step_at s (declared_sight s f.place.struct.marshal f.at f.place.declaration)
       by known (by_declaration {i = i} g l) =
           let same : i ≡ f.at = some_injective (sym g ∙ known) in
           own_led f.at f.place e (subst (λ (k : ℕ). LeadsFrom s k e) same l)
@@ -487,6 +581,7 @@ module _ (T : Table) (ts : List TypeId) (s : GoSource) (xs : List Struct)
   byte_stands (at_pointer at more) e = cc
   byte_stands (at_slice at more) e = cc
   byte_stands (at_interface at) e = cc
+  byte_stands (at_qualified at owned named) e = cc
   byte_stands (at_array at same more) e = cc
   byte_stands (at_map at key more) e = cc
 
@@ -506,7 +601,13 @@ module _ (T : Table) (ts : List TypeId) (s : GoSource) (xs : List Struct)
       (name_ends None n b e at (ends_there n (go.Name b) e at none l)))) look) small
   sees {n = n} {u = u} (at_word {b = b} at named) (of_name x among name) look =
       let f = place_of u x among in
-      a_struct_sight f.place (ends_look (λ e l. name_led n b u x e f at (named ∙ name) l) look)
+      a_declared_sight f.place (ends_look (λ e l. name_led n b u x e f at (named ∙ name) l) look)
+  sees {n = n} (at_qualified {p = p} {a = a} {b = b} at owned named) (of_package x lib name) look =
+      let known = ap (λ (l : List ℕ). known_of l b.now) owned
+      ∙ ap (known_of p) (named ∙ name) ∙ lib.known in
+      a_library_sight x lib.some lib.is (named ∙ name) (ends_look (λ e l. known_ends None lib.marshal a.now b e known
+      (library_ends None n a b e at (ends_there n (go.Qualified a b) e at refl l))) look)
+  sees (at_qualified at owned named) (of_its_parts x h is p) look = elim p [ ]
   sees (at_word at named) (of_its_parts x h is p) look = elim p [ ]
   sees {n = n} (at_pointer {m = m} at more) (of_pointed t) look =
       sees more t (goes_look (λ e l. pointer_ends None n m e at (ends_there n (go.Pointer m) e at refl l)) look)
@@ -578,17 +679,23 @@ module _ (T : Table) (ts : List TypeId) (s : GoSource) (xs : List Struct)
       has : HasId s ids D l.of id
 
     sees_either : {A : Type 0} {v : Sight} {u : TypeId} → Sees T ts s v u → ((x : TypeId) → v ≡ sight_basic s x → A)
-        → ((i n : ℕ) → v ≡ sight_own i n → A) → ((n : ℕ) → v ≡ parts_sight None n → A) → A
-    sees_either {u = u} (a_basic_sight e small) f g h = f u e
-    sees_either (a_struct_sight {at = at} {m = m} place e) f g h = g at m e
-    sees_either (a_parts_sight {m = m} x has is p stands e) f g h = h m e
+        → ((i n : ℕ) → v ≡ sight_own i n → A) → ((n : ℕ) → v ≡ parts_sight None n → A)
+        → ((w : Bor (List ℕ)) (m : Marshal) → v ≡ sight_opaque s w m → A) → A
+    sees_either {u = u} (a_basic_sight e small) f g h k = f u e
+    sees_either {A = A} {v = v} (a_declared_sight {at = at} place e) f g h k = by place.struct.marshal e
+      where
+        by : (o : Option Marshal) → v ≡ declared_sight s o at place.declaration → A
+        by None e = g at place.declaration.of e
+        by (Some m) e = k place.declaration.name m e
+    sees_either (a_library_sight {w = w} {m = m} x some is named e) f g h k = k w m e
+    sees_either (a_parts_sight {m = m} x has is p stands e) f g h k = h m e
 
     line_is : (l : GoField) (b : Bor (List ℕ)) {gs : List Field} {e : Written} {u : TypeId} → LineHas s ids D l gs
         → l.names.items ≡ b ∷ [] → is_exported b.now ≡ true → StandsAt s.types.items l.of e → TypeOf T ts u e
         → LineIs l b gs
     line_is l b (none_seen sends) names shown stands type = let k = sends_one l b sends names shown in cc
     line_is l b (nothing_sent look) names shown stands type =
-        sees_either (sees stands type look) (λ x e. cc) (λ i n e. cc) (λ n e. cc)
+        sees_either (sees stands type look) (λ x e. cc) (λ i n e. cc) (λ n e. cc) (λ w m e. cc)
     line_is l b (all_sent {t = t} sends has) names shown stands type =
         record { id = t; is = ap (fields_of t) (sends_one l b sends names shown); has = has }
 
@@ -645,6 +752,7 @@ module _ (T : Table) (ts : List TypeId) (s : GoSource) (xs : List Struct)
     parts_alike depth n go (at_word at named) p has = elim p [ ]
     parts_alike depth n go (at_pointer at more) p has = elim p [ ]
     parts_alike depth n go (at_interface at) p has = elim p [ ]
+    parts_alike depth n go (at_qualified at owned named) p has = elim p [ ]
     parts_alike depth n go (at_slice {m = m} at more) (slice_parts type) (types.a_slice {elem = elem} {t = t} f h) =
         let same : elem ≡ m = cc in
         alike_slices (go m _ _ t more type (subst (λ (i : ℕ). HasId s ids D i t) same h))
@@ -671,28 +779,70 @@ module _ (T : Table) (ts : List TypeId) (s : GoSource) (xs : List Struct)
         (go m _ _ u more type (subst (λ (x : ℕ). HasId s ids D x u) same i))
     parts_alike depth n go (at_map at key more) (map_parts of_key type) (types.a_struct f h lacks) = cc
 
-    body_alike : (depth n : ℕ) → Goes depth → {b : Body} {j k : Kind} → BodyStands s.types.items n b → BodyOf T ts j b
-        → HasKind s ids D n k → HasAlikeKind D T ts depth k j
-    body_alike depth n go (fields_stand {found = found} at lines) (fields_of_body {fs = gs} of) has =
+    body_alike : (depth n : ℕ) → Goes depth → {b : Body} {j k : Kind} → kind_marshal j ≡ None
+        → BodyStands s.types.items n b → BodyOf T ts j b → HasKind s ids D n k → HasAlikeKind D T ts depth k j
+    body_alike depth n go plain (fields_stand {found = found} at lines) (fields_of_body {fs = gs} of) has =
         let r = kind_struct n has at in
         let whole = subst (λ (x : List GoField). FieldsHave x (r.kinds ++ [])) (append_none found.items)
         (fields_have r.have [] [] none_have) in
         let all = subst (λ (x : List Field). FieldsHave found.items x) (append_none r.kinds) whole in
         subst (λ (k : Kind). HasAlikeKind D T ts depth k (kind.Struct gs)) (sym r.is)
         (alike_structs (fields_alike depth go lines of all))
-    body_alike depth n go (parts_stand stands) (parts_of_body p) has = parts_alike depth n go stands p has
+    body_alike depth n go plain (parts_stand stands) (parts_of_body p) has = parts_alike depth n go stands p has
+    body_alike depth n go plain (parts_stand stands) string_of_body has = cc
+    body_alike depth n go plain (another_stands stands) another_of_body has = cc
 
-    declared_alike : (depth : ℕ) → Goes depth → (u t : TypeId) (at : ℕ)
-        → IsPlace T ts s.types.items s.declarations.items u at → IsNumbered ids at t → IsAlike D T ts (suc depth) t u
-    declared_alike depth go u t at place number =
+    -- an id of a type that encodes itself is that of its definition
+    opaque_there : {v : Sight} {t : TypeId} (w : Bor (List ℕ)) (m : Marshal) → IsOf s ids D v t
+        → v ≡ sight_opaque s w m → Has D (defined t w.now (kind.Opaque m))
+    opaque_there w m a_basic e = cc
+    opaque_there {t = t} w m (an_opaque {w = x} {m = n} h) e =
+        let name : x ≡ w = cc in
+        let marshal : n ≡ m = cc in
+        subst (λ (k : Marshal). Has D (defined t w.now (kind.Opaque k))) marshal
+        (subst (λ (y : Bor (List ℕ)). Has D (defined t y.now (kind.Opaque n))) name h)
+    opaque_there w m (a_declared h) e = cc
+    opaque_there w m (of_parts k h) e = cc
+
+    opaque_alike : (depth : ℕ) (m : Marshal) {k : Kind} → k ≡ kind.Opaque m
+        → HasAlikeKind D T ts depth (kind.Opaque m) k
+    opaque_alike depth m is =
+        subst (λ (j : Kind). HasAlikeKind D T ts depth (kind.Opaque m) j) (sym is) alike_opaques
+
+    opaque_kind : (k : Kind) (m : Marshal) → kind_marshal k ≡ Some m → k ≡ kind.Opaque m
+    opaque_kind (kind.Opaque n) m e = ap (λ (x : Marshal). kind.Opaque x) (some_injective e)
+    opaque_kind (kind.Basic b) m e = cc
+    opaque_kind (kind.Struct fs) m e = cc
+    opaque_kind (kind.Slice t) m e = cc
+    opaque_kind (kind.Array t n) m e = cc
+    opaque_kind (kind.Map t u) m e = cc
+
+    plain_alike : (depth : ℕ) → Goes depth → (u t : TypeId) (at : ℕ)
+        (place : IsPlace T ts s.types.items s.declarations.items u at) → place.struct.marshal ≡ None
+        → IsNumbered ids at t → IsAlike D T ts (suc depth) t u
+    plain_alike depth go u t at place plain number =
         let def = defined_all at t number in
         let p = place.declaration in
         let same : def.declaration ≡ p = some_injective (sym def.declared ∙ place.declared) in
-        let led = at_own (own_led at place (step_at s (sight_own at def.parts)) def.leads) in
+        let led = at_own (declared_led None at place (step_at s (sight_own at def.parts)) plain def.leads) in
         let has = subst (λ (k : ℕ). HasKind s ids D k def.kind) led def.has_kind in
         let name = ap (λ (d : Declaration). d.name.now) same ∙ place.is.named ∙ place.of.named in
         alike_types def.there place.of.is.has (its_own name)
-        (body_alike depth p.of go place.is.body place.of.body has)
+        (body_alike depth p.of go (sym place.of.marshal ∙ plain) place.is.body place.of.body has)
+
+    declared_alike : (depth : ℕ) → Goes depth → (u t : TypeId) (at : ℕ) {v : Sight}
+        (place : IsPlace T ts s.types.items s.declarations.items u at)
+        → v ≡ declared_sight s place.struct.marshal at place.declaration → IsOf s ids D v t
+        → IsAlike D T ts (suc depth) t u
+    declared_alike depth go u t at {v = v} place e of = by place.struct.marshal refl e
+      where
+        by : (o : Option Marshal) → place.struct.marshal ≡ o → v ≡ declared_sight s o at place.declaration
+            → IsAlike D T ts (suc depth) t u
+        by None is e = plain_alike depth go u t at place is (own_number at place.declaration.of of e)
+        by (Some m) is e =
+            alike_types (opaque_there place.declaration.name m of e) place.of.is.has
+            (its_own (place.is.named ∙ place.of.named))
+            (opaque_alike depth m (opaque_kind place.of.is.shape.kind m (sym place.of.marshal ∙ is)))
 
     goes : (depth : ℕ) → Goes depth
     goes zero n e u t stands type has = not_looked
@@ -701,7 +851,10 @@ module _ (T : Table) (ts : List TypeId) (s : GoSource) (xs : List Struct)
         by : Sees T ts s v u → Goes depth → IsAlike D T ts (suc depth) t u
         by (a_basic_sight e small) go =
             subst (λ (x : TypeId). IsAlike D T ts (suc depth) x u) (sym (basic_id u of e)) (same_basic small)
-        by (a_struct_sight {at = at} {m = m} place e) go = declared_alike depth go u t at place (own_number at m of e)
+        by (a_declared_sight {at = at} place e) go = declared_alike depth go u t at place e of
+        by (a_library_sight {w = w} {m = m} x some is named e) go =
+            let there = subst (λ (l : List ℕ). Has D (defined t l (kind.Opaque m))) named (opaque_there w m of e) in
+            alike_types there x.has (of_library some) (opaque_alike depth m is)
         by (a_parts_sight {m = m} x list is p stands e) go =
             let r = parts_are m of e in
             alike_types r.there x.has (without_name list)
@@ -714,8 +867,7 @@ module _ (T : Table) (ts : List TypeId) (s : GoSource) (xs : List Struct)
         → IsAlike D T ts depth t u
     asked_alike zero u t at v place look of = not_looked
     asked_alike (suc depth) u t at v place (seen_there l) of =
-        declared_alike depth (goes depth) u t at place
-        (own_number at place.declaration.of of (at_step (own_led at place (step_at s v) l)))
+        declared_alike depth (goes depth) u t at place (at_step (own_led at place (step_at s v) l)) of
     asked_alike (suc depth) u t at v place (seen_behind {m = m} l look) of = on_at (own_led at place (step_on s m) l)
 
 -- ---- what is asked for

@@ -1,20 +1,24 @@
 -- Words that source has, and the fronts of texts.
-use Rattle.std.proofs.Common.{subst, sym, ◌≡◌, ◌∙◌, ℕ, zero, suc, ◌+◌, ◌<◌, ◌≤◌, ◌/◌, ◌%◌, ◌^◌, List, [], ◌∷◌, ◌++◌}
+use Rattle.std.proofs.Common.{subst, sym, ◌≡◌, ◌∙◌, ℕ, zero, suc, ◌+◌, ◌<◌, ◌≤◌, ◌%◌, ◌^◌, List, [], ◌∷◌, ◌++◌}
 use Rattle.std.proofs.Common.{Bool, true, false, refl, ap, arith, codes, decimal, drop, length, replicate, Some, None}
 use Rattle.std.proofs.Common.{◌&&◌, nat_eq, nat_le, ◌==◌}
 use Rattle.std.proofs.lemmas.Bool.Decides.{nat_tests}
 use Rattle.std.proofs.lemmas.Fmt.{decimal_by_steps, decimal_nonempty}
-use Rattle.std.specs.Char.{is_ascii_alphabetic, is_ascii_digit, is_ascii_uppercase}
+use Rattle.std.specs.Char.{is_ascii_digit, is_ascii_uppercase}
 use Rattle.std.specs.List.{list_all, starts_with}
+use Rattle.std.specs.Prelude.{Option}
 use Rattle.gob_go_source.specs.declared.token.Note.{Note}
 use Rattle.gob_go_source.specs.Lexing.{front, keyword, of_length, piece_of, scan_of}
 use Rattle.gob_go_source.specs.Notes.{marshal_of}
-use Rattle.gob_go_source.specs.Scanning.{end_of, is_blank, is_word_byte}
+use Rattle.gob_go_source.specs.Scanning.{end_of, is_blank, is_letter_byte, is_word_byte}
 use Rattle.gob_go_types.specs.Fields.{is_exported}
 use Rattle.gob_source_back.specs.Alike.{is_plain_name}
-use Rattle.gob_source_back.proofs.Written.{IsQuiet, IsWordText, stays}
-use Rattle.gob_source_back.proofs.Named.{Piece, blank_piece, blank_scan, comment_piece, word_scan, line_scan}
-use Rattle.gob_source_back.proofs.Named.{line_piece, no_scan, number_piece, sign_piece, word_piece}
+use Rattle.gob_types.specs.declared.kind.Marshal.{Marshal}
+use Rattle.gob_types.specs.declared.kind.Marshal.TheVariants as marshal
+use Rattle.gob_source.specs.Source.{marshal_text}
+use Rattle.gob_source_back.proofs.Written.{IsQuiet, IsWordText, encoding, stays}
+use Rattle.gob_source_back.proofs.Named.{Piece, blank_piece, blank_scan, comment_piece, digits_scan, line_piece}
+use Rattle.gob_source_back.proofs.Named.{line_scan, no_scan, number_piece, sign_piece, word_piece, word_scan}
 
 -- ---- tests
 
@@ -36,10 +40,7 @@ single_front : (b : ℕ) (text : List ℕ) → (b == 47) ≡ false → (b == 60)
 single_front b [] e f = refl
 single_front b (c ∷ cs) e f = rw (e, f) refl
 
-letter_bounds : (b : ℕ) → is_ascii_alphabetic b ≡ true → (65 ≤ b) × (b ≤ 122)
-letter_bounds b h = grind (arith, nat_tests)
-
-letter_piece : (b : ℕ) → is_ascii_alphabetic b ≡ true → piece_of b ≡ word_piece
+letter_piece : (b : ℕ) → is_letter_byte b ≡ true → piece_of b ≡ word_piece
 letter_piece b h = rw (blank, end, digit, h) refl
   where
     blank : is_blank b ≡ false
@@ -51,7 +52,7 @@ letter_piece b h = rw (blank, end, digit, h) refl
     digit : is_ascii_digit b ≡ false
     digit = grind (arith, nat_tests)
 
-pub word_text : (b : ℕ) (bs : List ℕ) → is_ascii_alphabetic b ≡ true → list_all is_word_byte bs ≡ true
+pub word_text : (b : ℕ) (bs : List ℕ) → is_letter_byte b ≡ true → list_all is_word_byte bs ≡ true
     → ((n : Note) → keyword n (b ∷ bs) ≡ None) → IsWordText (b ∷ bs)
 word_text b bs letter all none = record {
   fronts = fronts;
@@ -108,7 +109,7 @@ plain_word (b ∷ bs) h =
     let all = both_true (is_word_byte b) (list_all is_word_byte bs) exported.1 in
     word_text b bs (letter b exported.0) all.1 (no_keyword b bs exported.0)
   where
-    letter : (b : ℕ) → is_ascii_uppercase b ≡ true → is_ascii_alphabetic b ≡ true
+    letter : (b : ℕ) → is_ascii_uppercase b ≡ true → is_letter_byte b ≡ true
     letter b h = grind (arith, nat_tests)
 
 pub plain_exported : (w : List ℕ) → is_plain_name w ≡ true → is_exported w ≡ true
@@ -170,21 +171,51 @@ are_digits n small = decimal_by_steps (λ n ds. list_all is_ascii_digit ds ≡ t
         → list_all is_ascii_digit (ds ++ ((48 + n % 10) ∷ [])) ≡ true
     more n ds h all = behind ds (48 + n % 10) all (digit (n % 10) (omega arith))
 
-end_digits : (ds rest : List ℕ) → list_all is_ascii_digit ds ≡ true
-    → end_of line_scan (ds ++ 10 ∷ rest) ≡ Some (length ds)
-end_digits [] rest all = refl
-end_digits (d ∷ ds) rest all =
-    let h = both_true (is_ascii_digit d) (list_all is_ascii_digit ds) all in
-    rw (other d h.0, end_digits ds rest h.1) (ap (λ (k : ℕ). Some k) (omega arith))
-  where
-    other : (d : ℕ) → is_ascii_digit d ≡ true → (d == 10) ≡ false
-    other d h = grind (arith, nat_tests)
+end_line : (cs rest : List ℕ) → list_all stays cs ≡ true → end_of line_scan (cs ++ 10 ∷ rest) ≡ Some (length cs)
+end_line [] rest all = refl
+end_line (c ∷ cs) rest all =
+    let h = both_true (stays c) (list_all stays cs) all in
+    rw (h.0, end_line cs rest h.1) (ap (λ (k : ℕ). Some k) (omega arith))
 
-pub comment_front : (ds rest : List ℕ) → list_all is_ascii_digit ds ≡ true
-    → front (codes "// type " ++ (ds ++ 10 ∷ rest))
-    ≡ Some (record { piece = comment_piece; len = length (codes "// type " ++ ds) })
-comment_front ds rest all =
-    rw (end_digits ds rest all) (ap (λ (k : ℕ). Some (record { piece = comment_piece; len = k })) (omega arith))
+pub comment_front : (cs rest : List ℕ) → list_all stays cs ≡ true
+    → front (codes "// type " ++ (cs ++ 10 ∷ rest))
+    ≡ Some (record { piece = comment_piece; len = length (codes "// type " ++ cs) })
+comment_front cs rest all =
+    rw (end_line cs rest all) (ap (λ (k : ℕ). Some (record { piece = comment_piece; len = k })) (omega arith))
+
+-- the id of a type, and how that encodes itself, stand on one line
+pub comment_stays : (n : ℕ) → n < 2 ^ 64 → (m : Option Marshal) → list_all stays (decimal n ++ encoding m) ≡ true
+comment_stays n small m = by (decimal n) (are_digits n small)
+  where
+    digit : (d : ℕ) → is_ascii_digit d ≡ true → stays d ≡ true
+    digit d h = grind (arith, nat_tests)
+
+    behind : (m : Option Marshal) → list_all stays (encoding m) ≡ true
+    behind None = refl
+    behind (Some marshal.Gob) = refl
+    behind (Some marshal.Binary) = refl
+    behind (Some marshal.Text) = refl
+
+    by : (ds : List ℕ) → list_all is_ascii_digit ds ≡ true → list_all stays (ds ++ encoding m) ≡ true
+    by [] all = behind m
+    by (d ∷ ds) all =
+        let h = both_true (is_ascii_digit d) (list_all is_ascii_digit ds) all in
+        ap (λ (b : Bool). b && list_all stays (ds ++ encoding m)) (digit d h.0) ∙ by ds h.1
+
+-- the id ends in front of the words behind it
+pub digits_end : (m : Marshal) (ds : List ℕ) → list_all is_ascii_digit ds ≡ true
+    → end_of (digits_scan []) (ds ++ marshal_text m) ≡ Some (length ds)
+digits_end marshal.Gob [] all = refl
+digits_end marshal.Binary [] all = refl
+digits_end marshal.Text [] all = refl
+digits_end m (d ∷ ds) all =
+    let h = both_true (is_ascii_digit d) (list_all is_ascii_digit ds) all in
+    rw (h.0, digits_end m ds h.1) (ap (λ (k : ℕ). Some k) (omega arith))
+
+pub marshal_said : (m : Marshal) → marshal_of (marshal_text m) ≡ Some m
+marshal_said marshal.Gob = refl
+marshal_said marshal.Binary = refl
+marshal_said marshal.Text = refl
 
 no_comma : (ds : List ℕ) → list_all is_ascii_digit ds ≡ true → (ws : List ℕ) → starts_with nat_eq ds (44 ∷ ws) ≡ false
 no_comma [] all ws = refl
@@ -201,12 +232,6 @@ no_marshal (d ∷ ds) all (suc size) =
     no_marshal ds (both_true (is_ascii_digit d) (list_all is_ascii_digit ds) all).1 size
 
 -- ---- other comments
-
-end_line : (cs rest : List ℕ) → list_all stays cs ≡ true → end_of line_scan (cs ++ 10 ∷ rest) ≡ Some (length cs)
-end_line [] rest all = refl
-end_line (c ∷ cs) rest all =
-    let h = both_true (stays c) (list_all stays cs) all in
-    rw (h.0, end_line cs rest h.1) (ap (λ (k : ℕ). Some k) (omega arith))
 
 quiet_begun : (more rest : List ℕ) → list_all stays more ≡ true
     → front (47 ∷ 47 ∷ (more ++ 10 ∷ rest))

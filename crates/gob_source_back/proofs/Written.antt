@@ -4,15 +4,19 @@ use Rattle.std.proofs.Common.{length, Some, not, ◌==◌, nat_eq}
 use Rattle.std.specs.List.{list_all, starts_with}
 use Rattle.gob_go_source.specs.Notes.{note_head}
 use Rattle.std.specs.Borrow.{Bor}
-use Rattle.std.specs.Prelude.{slice_get}
+use Rattle.std.specs.Prelude.{IsTrue, Option, slice_get}
+use Rattle.gob_types.specs.declared.kind.Marshal.{Marshal}
+use Rattle.gob_source.specs.Source.{decoder_text, encoder_text, marshal_text}
 use Rattle.gob_go_source.specs.declared.go_type.Declaration.{Declaration}
 use Rattle.gob_go_source.specs.declared.go_type.GoField.{GoField}
 use Rattle.gob_go_source.specs.declared.go_type.GoType.{GoType}
 use Rattle.gob_go_source.specs.declared.go_type.GoType.TheVariants as go
+use Rattle.gob_go_source.specs.declared.token.Mark.{Mark}
 use Rattle.gob_go_source.specs.declared.token.Mark.TheVariants as mark
 use Rattle.gob_go_source.specs.declared.token.Note.{Note}
 use Rattle.gob_go_source.specs.declared.token.Token.{Token}
 use Rattle.gob_go_source.specs.declared.token.Token.TheVariants as token
+use Rattle.gob_go_source.specs.Declarations.{behind_stop, is_passed}
 use Rattle.gob_go_source.specs.Lexing.{front, keyword}
 use Rattle.gob_go_source.specs.Scanning.{is_blank, is_word_byte}
 use Rattle.gob_source_back.proofs.Named.{word_piece}
@@ -27,6 +31,7 @@ pub data Written : Type 0 where
   interface : Written
   array_of : ℕ → Written → Written
   map_of : (key elem : Written) → Written
+  qualified : (owner name : List ℕ) → Written
 
 -- its text, in front of another
 abbrev pub type_then : Written → List ℕ → List ℕ
@@ -36,6 +41,7 @@ type_then (slice e) rest = 91 ∷ 93 ∷ type_then e rest
 type_then interface rest = codes "interface{}" ++ rest
 type_then (array_of n e) rest = 91 ∷ (decimal n ++ (93 ∷ type_then e rest))
 type_then (map_of k e) rest = codes "map[" ++ type_then k (93 ∷ type_then e rest)
+type_then (qualified p w) rest = p ++ (46 ∷ (w ++ rest))
 
 -- a field on a line: its name, the spaces behind it but for one, and its type
 pub record Line : Type 0 where
@@ -48,14 +54,20 @@ lines_then [] rest = rest
 lines_then (l ∷ ls) rest =
     9 ∷ (l.name ++ (32 ∷ (replicate l.pad 32 ++ type_then l.type (10 ∷ lines_then ls rest))))
 
--- what a declared type is: a struct of these fields, or a type of parts
+-- what a declared type is: a struct of these fields, a type that is written so, or another name for one
 pub data Body : Type 0 where
   fields : List Line → Body
   parts : Written → Body
+  another : Written → Body
 
 abbrev pub body_then : Body → List ℕ → List ℕ
 body_then (fields ls) rest = codes "struct {\n" ++ lines_then ls (codes "}\n" ++ rest)
 body_then (parts e) rest = type_then e (10 ∷ rest)
+body_then (another e) rest = codes "= " ++ type_then e (10 ∷ rest)
+
+abbrev pub is_another : Body → Bool
+is_another (another e) = true
+is_another _ = false
 
 -- comments on lines of their own, in front of the end of a line
 abbrev pub notes_then : List (List ℕ) → List ℕ → List ℕ
@@ -67,17 +79,30 @@ abbrev pub remarks_text : List (List ℕ) → List ℕ
 remarks_text [] = []
 remarks_text (c ∷ cs) = 10 ∷ (c ++ (10 ∷ remarks_text cs))
 
--- a declaration: the id of its type, the comments behind that, its name and what it is
+-- what the comment says behind the id of a type that encodes itself
+abbrev pub encoding : Option Marshal → List ℕ
+encoding None = []
+encoding (Some m) = marshal_text m
+
+-- the methods of one that is declared under this name
+abbrev pub methods_then : Option Marshal → (own : List ℕ) → List ℕ → List ℕ
+methods_then None own rest = rest
+methods_then (Some m) own rest = encoder_text m own ++ (decoder_text m own ++ rest)
+
+-- a declaration: the id of its type, how that encodes itself, the comments behind that, its name, what it is, and its
+-- methods
 pub record Struct : Type 0 where
   pub id : ℕ
+  pub marshal : Option Marshal
   pub notes : List (List ℕ)
   pub name : List ℕ
   pub body : Body
+  pub methods : Option Marshal
 
 abbrev pub struct_then : Struct → List ℕ → List ℕ
 struct_then d rest =
-    codes "\n// type " ++ (decimal d.id ++ notes_then d.notes (codes "\ntype " ++ (d.name
-    ++ (32 ∷ body_then d.body rest))))
+    codes "\n// type " ++ (decimal d.id ++ (encoding d.marshal ++ notes_then d.notes (codes "\ntype " ++ (d.name
+    ++ (32 ∷ body_then d.body (methods_then d.methods d.name rest))))))
 
 abbrev pub structs_then : List Struct → List ℕ → List ℕ
 structs_then [] rest = rest
@@ -102,6 +127,7 @@ HasWords (slice e) = HasWords e
 HasWords interface = Unit {0}
 HasWords (array_of n e) = (n < 2 ^ 64) × HasWords e
 HasWords (map_of k e) = HasWords k × HasWords e
+HasWords (qualified p w) = IsWordText p × IsWordText w
 
 pub data LinesHaveWords : List Line → Type 0 where
   no_words : LinesHaveWords []
@@ -111,6 +137,7 @@ pub data LinesHaveWords : List Line → Type 0 where
 abbrev pub BodyHasWords : Body → Type 0
 BodyHasWords (fields ls) = LinesHaveWords ls
 BodyHasWords (parts e) = HasWords e
+BodyHasWords (another e) = HasWords e
 
 -- ---- comments
 
@@ -149,6 +176,8 @@ pub data TypeTokens : Written → (old rest : List Token) → Type 0 where
   of_map : {k e : Written} {old first mid next rest : List Token}
       → old ≡ token.Mark mark.Map ∷ token.Mark mark.OpenBracket ∷ first → TypeTokens k first mid
       → mid ≡ token.Mark mark.CloseBracket ∷ next → TypeTokens e next rest → TypeTokens (map_of k e) old rest
+  of_qualified : {p w : List ℕ} {a b : Bor (List ℕ)} {old rest : List Token} → a.now ≡ p → b.now ≡ w
+      → old ≡ token.Name a ∷ token.Mark mark.Dot ∷ token.Name b ∷ rest → TypeTokens (qualified p w) old rest
 
 -- those of a line
 pub record LineTokens (l : Line) (old rest : List Token) : Type 0 where
@@ -172,22 +201,26 @@ pub data BodyTokens : Body → (old rest : List Token) → Type 0 where
       → BodyTokens (fields ls) old rest
   parts_tokens : {e : Written} {old rest : List Token} → TypeTokens e old (token.Mark mark.Stop ∷ rest)
       → BodyTokens (parts e) old rest
+  another_tokens : {e : Written} {old next rest : List Token} → old ≡ token.Mark mark.Equals ∷ next
+      → TypeTokens e next (token.Mark mark.Stop ∷ rest) → BodyTokens (another e) old rest
 
 -- of a declaration
 pub record StructTokens (d : Struct) (old rest : List Token) : Type 0 where
   pub note : Note
-  pub quiet : note.marshal ≡ None
+  pub noted : note.marshal ≡ d.marshal
   pub name : Bor (List ℕ)
   pub named : name.now ≡ d.name
   pub next : List Token
   pub is : old ≡ token.Type note ∷ token.Name name ∷ next
   pub body : BodyTokens d.body next rest
 
--- of declarations, and nothing behind them
+-- of declarations, among others that are passed over, and nothing behind them
 pub data StructsTokens : List Struct → List Token → Type 0 where
   no_structs : StructsTokens [] []
   more_structs : {d : Struct} {ds : List Struct} {old rest : List Token} → StructTokens d old rest
       → StructsTokens ds rest → StructsTokens (d ∷ ds) old
+  passed_tokens : {ds : List Struct} {m : Mark} {old next rest : List Token} → old ≡ token.Mark m ∷ next
+      → IsTrue (is_passed m) → behind_stop 0 next ≡ Some rest → StructsTokens ds rest → StructsTokens ds old
 
 -- ---- types among others
 
@@ -204,6 +237,8 @@ pub data StandsAt (types : List GoType) : ℕ → Written → Type 0 where
       → decimal length ≡ decimal len → StandsAt types m e → StandsAt types n (array_of len e)
   at_map : {n k m : ℕ} {a e : Written} → slice_get types n ≡ Some (go.Map k m) → StandsAt types k a
       → StandsAt types m e → StandsAt types n (map_of a e)
+  at_qualified : {n : ℕ} {p w : List ℕ} {a b : Bor (List ℕ)} → slice_get types n ≡ Some (go.Qualified a b) → a.now ≡ p
+      → b.now ≡ w → StandsAt types n (qualified p w)
 
 -- the lines of a struct are these
 pub data LinesStand (types : List GoType) : List GoField → List Line → Type 0 where
@@ -217,12 +252,13 @@ pub data BodyStands (types : List GoType) (n : ℕ) : Body → Type 0 where
   fields_stand : {found : _} {ls : List Line} → slice_get types n ≡ Some (go.Struct found)
       → LinesStand types found.items ls → BodyStands types n (fields ls)
   parts_stand : {e : Written} → StandsAt types n e → BodyStands types n (parts e)
+  another_stands : {e : Written} → StandsAt types n e → BodyStands types n (another e)
 
 -- the declaration is this one
 pub record IsDeclared (types : List GoType) (d : Declaration) (x : Struct) : Type 0 where
   pub named : d.name.now ≡ x.name
-  pub quiet : d.note.marshal ≡ None
-  pub no_alias : d.is_alias ≡ false
+  pub noted : d.note.marshal ≡ x.marshal
+  pub is_alias : d.is_alias ≡ is_another x.body
   pub body : BodyStands types d.of x.body
 
 pub data AreDeclared (types : List GoType) : List Declaration → List Struct → Type 0 where

@@ -2,36 +2,41 @@
 use Rattle.std.proofs.Common.{◌≡◌, ◌∙◌, ℕ, zero, suc, ◌-◌, ◌<◌, ◌≤◌, ◌^◌, List, [], ◌∷◌, ◌++◌, Bool, true, false, refl}
 use Rattle.std.proofs.Common.{ap, sym, subst, append_assoc, append-nil, arith, codes, decimal, replicate, Some, None}
 use Rattle.std.proofs.Common.{◌&&◌, ◌||◌, if◌then◌else◌, ◌==◌, eq-eqb, map}
-use Rattle.std.specs.List.{list_any}
 use Rattle.std.specs.Prelude.{Option}
 use Rattle.gob_types.specs.declared.id.TypeId.{TypeId}
 use Rattle.gob_types.specs.declared.kind.Field.{Field}
 use Rattle.gob_types.specs.declared.kind.Kind.{Kind}
 use Rattle.gob_types.specs.declared.kind.Kind.TheVariants as kind
+use Rattle.gob_types.specs.declared.kind.Marshal.{Marshal}
 use Rattle.gob_types.specs.declared.kind.Shape.{Shape}
 use Rattle.gob_types.specs.Base.{id}
 use Rattle.gob_types.specs.Table.{Table, shape_of}
-use Rattle.gob_source.specs.Library.{kind_package, shape_package}
+use Rattle.gob_source.specs.Library.{package_name, package_of, shape_package}
 use Rattle.gob_source.specs.Names.{name_width, own_name}
 use Rattle.gob_source.specs.Source.{basic_text, comes_by, comment_line, comments_text, declared_text, definition_text}
 use Rattle.gob_source.specs.Source.{definitions_text, encoded_text, field_line, named_source, has_parts, has_parts_kind}
-use Rattle.gob_source.specs.Source.{imports_any, is_among, is_holder, is_key, is_of, key_text, kind_text}
-use Rattle.gob_source.specs.Source.{library_or_own, methods_text, named_text, parts_text, pointer_text, shape_text}
-use Rattle.gob_source.specs.Source.{type_text, used_name, width, basic_namings}
+use Rattle.gob_source.specs.Source.{decoder_text, encoder_text, imports_text, is_among, is_holder, is_key, key_text}
+use Rattle.gob_source.specs.Source.{kind_text, library_or_own, methods_text, named_text, opaque_methods, opaque_text}
+use Rattle.gob_source.specs.Source.{parts_text, pointer_text, shape_text}
+use Rattle.gob_source.specs.Source.{type_text, used_name, width}
 use Rattle.gob_source_back.specs.Alike.{AreFields, EachIsWritten, IsPart, IsWritten, IsWrittenKind, a_basic_part, a_map}
-use Rattle.gob_source_back.specs.Alike.{a_slice, a_struct, a_written_part, an_array, no_fields, none_is_written}
+use Rattle.gob_source_back.specs.Alike.{a_slice, a_struct, a_written_part, an_array, an_opaque, no_fields}
+use Rattle.gob_source_back.specs.Alike.{none_is_written}
 use Rattle.gob_source_back.specs.Alike.{one_field, one_is_written}
 use Rattle.gob_source.specs.Registered.{Naming, names_of, names_text}
+use Rattle.gob_source_back.proofs.NameLaws.{free_word, own_free}
 use Rattle.gob_source_back.proofs.NoteLaws.{named_line, names_are, names_quiet, no_basic, remarks, remarks_are}
 use Rattle.gob_source_back.proofs.Written.{AreQuiet, remarks_text, Body, BodyHasWords, HasWords, IsWordText, Line}
 use Rattle.gob_source_back.proofs.Written.{LinesHaveWords, Struct, Written, array_of, body_then, fields, interface}
 use Rattle.gob_source_back.proofs.Written.{lines_then, map_of, more_words, no_words, pointer, slice, struct_then}
-use Rattle.gob_source_back.proofs.Written.{structs_then, type_then, word}
+use Rattle.gob_source_back.proofs.Written.{another, encoding, methods_then, qualified, structs_then, type_then, word}
+use Rattle.gob_source_back.proofs.LibraryLaws.{Package, of_library, shape_of_library}
 use Rattle.gob_source_back.proofs.TextLaws.{StructsHaveWords, no_words_of, words_of}
 use Rattle.gob_source_back.proofs.TypeLaws.{AreStructsOf, BodyOf, IsStructOf, LinesOf, PartsOf, TypeOf, array_parts}
 use Rattle.gob_source_back.proofs.TypeLaws.{fields_of_body, line_of, map_parts, no_line_of, no_struct_of, of_any}
 use Rattle.gob_source_back.proofs.TypeLaws.{of_basic, of_byte, of_its_parts, of_name, of_pointed, parts_of_body}
-use Rattle.gob_source_back.proofs.TypeLaws.{same_id, slice_parts, struct_of}
+use Rattle.gob_source_back.proofs.TypeLaws.{another_of_body, kind_marshal, of_package, same_id, slice_parts}
+use Rattle.gob_source_back.proofs.TypeLaws.{string_of_body, struct_of}
 use Rattle.gob_source_back.proofs.WordLaws.{plain_word, word_text}
 
 -- ---- types of fields
@@ -129,24 +134,25 @@ keyed false t = pointed true t
 -- the name of its declaration
 used_is_text : (T : Table) (ts : List TypeId) (u : TypeId) (x : IsWritten T ts u) → is_among u ts ≡ true
     → IsText T ts u (used_name T ts u x.shape)
-used_is_text T ts u x among = record {
-  type = word (own_name T ts u x.shape.name);
-  of = of_name x among refl;
-  words = plain_word (own_name T ts u x.shape.name) x.plain;
-  is = λ rest. ap (λ (l : List ℕ). l ++ rest) (used x.shape.kind x.kinds refl);
-}
+used_is_text T ts u x among = by (shape_package x.shape) refl
   where
-    used : (k : Kind) → IsWrittenKind ts k → x.shape.kind ≡ k
-        → library_or_own (shape_package x.shape) x.shape.name (own_name T ts u x.shape.name)
-        ≡ own_name T ts u x.shape.name
-    used k (a_struct f) e = ap (λ (j : Kind). library_or_own (kind_package x.shape.name j) x.shape.name
-        (own_name T ts u x.shape.name)) e
-    used k (a_slice p) e = ap (λ (j : Kind). library_or_own (kind_package x.shape.name j) x.shape.name
-        (own_name T ts u x.shape.name)) e
-    used k (an_array p small) e = ap (λ (j : Kind). library_or_own (kind_package x.shape.name j) x.shape.name
-        (own_name T ts u x.shape.name)) e
-    used k (a_map p q) e = ap (λ (j : Kind). library_or_own (kind_package x.shape.name j) x.shape.name
-        (own_name T ts u x.shape.name)) e
+    own : List ℕ
+    own = own_name T ts u x.shape.name
+
+    by : (o : Option Package) → shape_package x.shape ≡ o → IsText T ts u (library_or_own o x.shape.name own)
+    by None e = record {
+      type = word own;
+      of = of_name x among refl;
+      words = free_word own x.word (own_free T ts u x.shape.name x.small);
+      is = λ rest. refl;
+    }
+    by (Some q) e =
+        let lib = shape_of_library x.shape q e in record {
+          type = qualified (package_name q) x.shape.name;
+          of = of_package x lib.of refl;
+          words = (lib.package_word, plain_word x.shape.name lib.plain);
+          is = λ rest. append_assoc (package_name q) (46 ∷ x.shape.name) rest;
+        }
 
 same_text : {T : Table} {ts : List TypeId} {u : TypeId} {a b : List ℕ} → a ≡ b → IsText T ts u b → IsText T ts u a
 same_text {T = T} {ts = ts} {u = u} e t = subst (λ (l : List ℕ). IsText T ts u l) (sym e) t
@@ -154,6 +160,7 @@ same_text {T = T} {ts = ts} {u = u} e t = subst (λ (l : List ℕ). IsText T ts 
 -- a list or a map
 abbrev is_list : Kind → Bool
 is_list (kind.Struct fs) = false
+is_list (kind.Opaque m) = false
 is_list _ = true
 
 list_kind : {ts : List TypeId} (name : List ℕ) (k : Kind) → IsWrittenKind ts k → has_parts_kind name k ≡ true
@@ -162,6 +169,7 @@ list_kind name k (a_struct f) e = cc
 list_kind name k (a_slice p) e = refl
 list_kind name k (an_array p small) e = refl
 list_kind name k (a_map p q) e = refl
+list_kind name k an_opaque e = cc
 
 -- the text is that of a list or a map of this kind
 record ArePartsText (T : Table) (ts : List TypeId) (k : Kind) (text : List ℕ) : Type 0 where
@@ -184,6 +192,7 @@ parts_are_text : (T : Table) (ts : List TypeId) (of : TypeId) (type : TypeId →
     → ((u : TypeId) → IsPart ts u → IsText T ts u (type u)) → (k : Kind) → IsWrittenKind ts k → is_list k ≡ true
     → ArePartsText T ts k (parts_text (pointer_text T ts of) (key_text T) type k)
 parts_are_text T ts of type texts k (a_struct f) list = cc
+parts_are_text T ts of type texts k an_opaque list = cc
 parts_are_text T ts of type texts k (a_slice {e = e} p) list =
     let t = texts e p in record {
       type = slice t.type;
@@ -316,11 +325,17 @@ struct_text lines rest = simp (append_assoc, append-nil)
 line_end_text : (text rest : List ℕ) → (text ++ codes "\n") ++ rest ≡ text ++ (10 ∷ rest)
 line_end_text text rest = append_assoc text (codes "\n") rest
 
-declaration_text_is : (number names name kind rest : List ℕ)
-    → ((codes "\n// type " ++ (number ++ (names ++ (codes "\ntype " ++ (name ++ (codes " " ++ (kind ++ codes "\n")))))))
-    ++ []) ++ rest
-    ≡ codes "\n// type " ++ (number ++ (names ++ (codes "\ntype " ++ (name ++ (32 ∷ ((kind ++ codes "\n") ++ rest))))))
-declaration_text_is number names name kind rest = simp (append_assoc, append-nil)
+another_text : (owner name rest : List ℕ)
+    → ((codes "= " ++ (owner ++ (codes "." ++ name))) ++ codes "\n") ++ rest
+    ≡ codes "= " ++ (owner ++ (46 ∷ (name ++ (10 ∷ rest))))
+another_text owner name rest = simp append_assoc
+
+declaration_text_is : (number encoded names name kind methods rest : List ℕ)
+    → ((codes "\n// type " ++ (number ++ (encoded ++ (names ++ (codes "\ntype " ++ (name ++ (codes " " ++ (kind
+    ++ codes "\n")))))))) ++ methods) ++ rest
+    ≡ codes "\n// type " ++ (number ++ (encoded ++ (names ++ (codes "\ntype " ++ (name ++ (32 ∷ ((kind ++ codes "\n")
+    ++ (methods ++ rest))))))))
+declaration_text_is number encoded names name kind methods rest = simp append_assoc
 
 -- the text is that of what a declared type of this kind is
 record IsBodyText (T : Table) (ts : List TypeId) (k : Kind) (text : List ℕ) : Type 0 where
@@ -342,6 +357,23 @@ parts_body_is T ts t all k kinds list =
           ∙ p.is (10 ∷ rest);
     }
 
+-- that of a type that encodes itself is another name or a string
+opaque_is_text : (T : Table) (ts : List TypeId) (m : Marshal) (o : Option Package) (name : List ℕ)
+    → package_of name m ≡ o → IsBodyText T ts (kind.Opaque m) (opaque_text o name)
+opaque_is_text T ts m (Some q) name e =
+    let lib = of_library name m q e in record {
+      body = another (qualified (package_name q) name);
+      of = another_of_body;
+      words = (lib.package_word, plain_word name lib.plain);
+      is = λ rest. another_text (package_name q) name rest;
+    }
+opaque_is_text T ts m None name e = record {
+  body = Rattle.gob_source_back.proofs.Written.parts (word (codes "string"));
+  of = string_of_body;
+  words = word_text 115 (codes "tring") refl refl (λ n. refl);
+  is = λ rest. refl;
+}
+
 body_is_text : (T : Table) (ts : List TypeId) (t : TypeId) (name : List ℕ) → EachIsWritten T ts ts → (k : Kind)
     → IsWrittenKind ts k → IsBodyText T ts k (kind_text T ts t name k)
 body_is_text T ts t name all k (a_struct {fs = fs} are) =
@@ -355,6 +387,7 @@ body_is_text T ts t name all k (a_struct {fs = fs} are) =
           f.no_comments
           ∙ struct_text declared rest ∙ ap (λ (l : List ℕ). codes "struct {\n" ++ l) (f.text (codes "}\n" ++ rest));
     }
+body_is_text T ts t name all k (an_opaque {m = m}) = opaque_is_text T ts m (package_of name m) name refl
 body_is_text T ts t name all k (a_slice {e = e} p) = parts_body_is T ts t all (kind.Slice e) (a_slice p) refl
 body_is_text T ts t name all k (an_array {e = e} {n = n} p small) =
     parts_body_is T ts t all (kind.Array e n) (an_array p small) refl
@@ -370,67 +403,79 @@ record IsStructText (T : Table) (ts : List TypeId) (ps : List Naming) (u : TypeI
   quiet : AreQuiet struct.notes
   text : (rest : List ℕ) → definition_text T ts ps u (shape_of T u) ++ rest ≡ struct_then struct rest
 
--- no type of these kinds has methods or says how it encodes itself
-plain_kind : (T : Table) (ts : List TypeId) (u : TypeId) (name own : List ℕ) (k : Kind) → IsWrittenKind ts k
-    → (encoded_text k ≡ []) × (methods_text name own k ≡ [])
-plain_kind T ts u name own k (a_struct f) = (refl, refl)
-plain_kind T ts u name own k (a_slice p) = (refl, refl)
-plain_kind T ts u name own k (an_array p small) = (refl, refl)
-plain_kind T ts u name own k (a_map p q) = (refl, refl)
+-- by what a type encodes itself whose declaration has methods
+abbrev own_methods : Option Package → Marshal → Option Marshal
+own_methods None m = Some m
+own_methods (Some q) m = None
+
+abbrev kind_methods : List ℕ → Kind → Option Marshal
+kind_methods name (kind.Opaque m) = own_methods (package_of name m) m
+kind_methods name _ = None
+
+encoding_is : (k : Kind) → encoded_text k ≡ encoding (kind_marshal k)
+encoding_is (kind.Opaque m) = refl
+encoding_is (kind.Basic b) = refl
+encoding_is (kind.Struct fs) = refl
+encoding_is (kind.Slice e) = refl
+encoding_is (kind.Array e n) = refl
+encoding_is (kind.Map k e) = refl
+
+methods_are : (name own : List ℕ) (k : Kind) (rest : List ℕ)
+    → methods_text name own k ++ rest ≡ methods_then (kind_methods name k) own rest
+methods_are name own (kind.Opaque m) rest = by (package_of name m)
+  where
+    by : (o : Option Package) → opaque_methods o m own ++ rest ≡ methods_then (own_methods o m) own rest
+    by None = append_assoc (encoder_text m own) (decoder_text m own) rest
+    by (Some q) = refl
+methods_are name own (kind.Basic b) rest = refl
+methods_are name own (kind.Struct fs) rest = refl
+methods_are name own (kind.Slice e) rest = refl
+methods_are name own (kind.Array e n) rest = refl
+methods_are name own (kind.Map k e) rest = refl
 
 struct_text_is : {T : Table} {ts : List TypeId} (ps : List Naming) (u : TypeId) → EachIsWritten T ts ts
     → is_among u ts ≡ true → IsWritten T ts u → IsStructText T ts ps u
 struct_text_is {T = T} {ts = ts} ps u all among x =
     let own = own_name T ts u x.shape.name in
     let b = body_is_text T ts u x.shape.name all x.shape.kind x.kinds in
-    let none = plain_kind T ts u x.shape.name own x.shape.kind x.kinds in
     let kind = kind_text T ts u x.shape.name x.shape.kind in
+    let methods = methods_text x.shape.name own x.shape.kind in
+    let marshal = kind_marshal x.shape.kind in
     let names = names_of u ps in
+    let behind = λ (rest : List ℕ). methods_then (kind_methods x.shape.name x.shape.kind) own rest in
     record {
-      struct = record { id = u.0; notes = map named_line names; name = own; body = b.body };
-      of = record { is = x; among = among; named = refl; body = b.of };
+      struct = record {
+        id = u.0;
+        marshal = marshal;
+        notes = map named_line names;
+        name = own;
+        body = b.body;
+        methods = kind_methods x.shape.name x.shape.kind;
+      };
+      of = record { is = x; among = among; named = refl; marshal = refl; body = b.of };
       small = x.small;
-      named = plain_word own x.plain;
+      named = free_word own x.word (own_free T ts u x.shape.name x.small);
       words = b.words;
       quiet = names_quiet names;
       text = λ rest.
           ap (λ (o : Option Shape). definition_text T ts ps u o ++ rest) x.has
-          ∙ ap (λ (e : List ℕ). ((codes "\n// type " ++ (decimal u.0 ++ (e ++ (names_text names ++ (codes "\ntype "
-          ++ (own ++ (codes " " ++ (kind ++ codes "\n")))))))) ++ methods_text x.shape.name own x.shape.kind) ++ rest)
-          none.0
-          ∙ ap (λ (m : List ℕ). ((codes "\n// type " ++ (decimal u.0 ++ (names_text names ++ (codes "\ntype "
-          ++ (own ++ (codes " " ++ (kind ++ codes "\n"))))))) ++ m) ++ rest) none.1
-          ∙ declaration_text_is (decimal u.0) (names_text names) own kind rest
-          ∙ ap (λ (l : List ℕ). codes "\n// type " ++ (decimal u.0 ++ (names_text names ++ (codes "\ntype "
-          ++ (own ++ (32 ∷ l)))))) (b.is rest)
-          ∙ ap (λ (l : List ℕ). codes "\n// type " ++ (decimal u.0 ++ l))
-          (names_are names (codes "\ntype " ++ (own ++ (32 ∷ body_then b.body rest))));
+          ∙ declaration_text_is (decimal u.0) (encoded_text x.shape.kind) (names_text names) own kind methods rest
+          ∙ ap (λ (e : List ℕ). codes "\n// type " ++ (decimal u.0 ++ (e ++ (names_text names ++ (codes "\ntype "
+          ++ (own ++ (32 ∷ ((kind ++ codes "\n") ++ (methods ++ rest))))))))) (encoding_is x.shape.kind)
+          ∙ ap (λ (m : List ℕ). codes "\n// type " ++ (decimal u.0 ++ (encoding marshal ++ (names_text names
+          ++ (codes "\ntype " ++ (own ++ (32 ∷ ((kind ++ codes "\n") ++ m))))))))
+          (methods_are x.shape.name own x.shape.kind rest)
+          ∙ ap (λ (l : List ℕ). codes "\n// type " ++ (decimal u.0 ++ (encoding marshal ++ (names_text names
+          ++ (codes "\ntype " ++ (own ++ (32 ∷ l))))))) (b.is (behind rest))
+          ∙ ap (λ (l : List ℕ). codes "\n// type " ++ (decimal u.0 ++ (encoding marshal ++ l)))
+          (names_are names (codes "\ntype " ++ (own ++ (32 ∷ body_then b.body (behind rest)))));
     }
-
-abbrev arg_of : {A B : Type 0} → (A → B) → Type 0
-arg_of {A = A} f = A
-
-abbrev Package : Type 0
-Package = arg_of (is_of None)
 
 record AreStructsText (T : Table) (ts : List TypeId) (ps : List Naming) (us : List TypeId) : Type 0 where
   structs : List Struct
   of : AreStructsOf T ts us structs
   words : StructsHaveWords structs
   text : (rest : List ℕ) → definitions_text T ts ps us ++ rest ≡ structs_then structs rest
-  not_imported : (p : Package) → list_any (λ t. is_of (shape_of T t) p) us ≡ false
-
-no_package : {T : Table} {ts : List TypeId} (u : TypeId) (x : IsWritten T ts u) (p : Package)
-    → is_of (shape_of T u) p ≡ false
-no_package {T = T} {ts = ts} u x p =
-    ap (λ (o : Option Shape). is_of o p) x.has ∙ by x.shape.kind x.kinds
-  where
-    by : (k : Kind) → IsWrittenKind ts k
-        → is_of (Some (record { name = x.shape.name; kind = k })) p ≡ false
-    by k (a_struct f) = refl
-    by k (a_slice e) = refl
-    by k (an_array e small) = refl
-    by k (a_map e f) = refl
 
 later : (a b : Bool) → b ≡ true → (a || b) ≡ true
 later true b e = refl
@@ -447,7 +492,6 @@ structs_text_are ps all within none_is_written = record {
   of = no_struct_of;
   words = no_words_of;
   text = λ rest. refl;
-  not_imported = λ p. refl;
 }
 structs_text_are {T = T} {ts = ts} ps all within (one_is_written {t = u} {us = us} x more) =
     let others = structs_text_are ps all (λ v e. within v (later (u.0 == v.0) (is_among v us) e)) more in
@@ -459,41 +503,28 @@ structs_text_are {T = T} {ts = ts} ps all within (one_is_written {t = u} {us = u
       text = λ rest.
           append_assoc (definition_text T ts ps u (shape_of T u)) (definitions_text T ts ps us) rest
           ∙ one.text (definitions_text T ts ps us ++ rest) ∙ ap (struct_then one.struct) (others.text rest);
-      not_imported = λ p. ap (λ (b : Bool). b || list_any (λ t. is_of (shape_of T t) p) us) (no_package u x p)
-          ∙ others.not_imported p;
     }
-
-none_imported : (b : Bool) (x : List ℕ) → b ≡ false → (if b then x else []) ≡ []
-none_imported false x e = refl
-none_imported true x e = cc
-
-no_one : (a b c d : Bool) → a ≡ false → b ≡ false → c ≡ false → d ≡ false → (a || (b || (c || d))) ≡ false
-no_one false false false false e f g h = refl
-no_one true b c d e f g h = cc
-no_one false true c d e f g h = cc
-no_one false false true d e f g h = cc
-no_one false false false true e f g h = cc
 
 -- the source of types is the text of types as they are written
 pub record SourceIs (T : Table) (ts : List TypeId) (ps : List Naming) : Type 0 where
   pub structs : List Struct
   pub of : AreStructsOf T ts ts structs
   pub words : StructsHaveWords structs
-  pub text : named_source T ts ps ≡ codes "package types\n" ++ structs_then structs (remarks_text (remarks ps))
+  pub text : named_source T ts ps
+      ≡ codes "package types\n" ++ (imports_text T ts ++ structs_then structs (remarks_text (remarks ps)))
 
 pub source_is : {T : Table} {ts : List TypeId} (ps : List Naming) → EachIsWritten T ts ts → SourceIs T ts ps
 source_is {T = T} {ts = ts} ps written =
     let all = structs_text_are ps written (λ u e. e) written in
-    let n = all.not_imported in
     record {
       structs = all.structs;
       of = all.of;
       words = all.words;
       text =
-          ap (λ (l : List ℕ). codes "package types\n" ++ (l ++ (definitions_text T ts ps ts ++ basic_namings ps)))
-          (none_imported (imports_any T ts) _ (no_one _ _ _ _ (n _) (n _) (n _) (n _)))
-          ∙ ap (λ (l : List ℕ). codes "package types\n" ++ (definitions_text T ts ps ts ++ l)) (remarks_are ps)
-          ∙ ap (λ (l : List ℕ). codes "package types\n" ++ l) (all.text (remarks_text (remarks ps)));
+          ap (λ (l : List ℕ). codes "package types\n" ++ (imports_text T ts ++ (definitions_text T ts ps ts ++ l)))
+          (remarks_are ps)
+          ∙ ap (λ (l : List ℕ). codes "package types\n" ++ (imports_text T ts ++ l))
+          (all.text (remarks_text (remarks ps)));
     }
 
 pub among_is : {T : Table} {ts : List TypeId} (u : TypeId) → EachIsWritten T ts ts → is_among u ts ≡ true

@@ -1,20 +1,22 @@
--- Types of a stream, and the types that reading their Go source gives. Spoken of are structs, slices, arrays, maps and
--- basic types; types that encode themselves are left out. (docs/FORMAT.md, Types as source: this project's own.)
-use Rattle.std.specs.Prelude.{◌≡◌, ℕ, zero, suc, ◌≤◌, ◌<◌, ◌^◌, List, [], ◌∷◌, ◌++◌, Bool, true, ◌&&◌, Option, Some}
-use Rattle.std.specs.Prelude.{None}
+-- Types of a stream, and the types that reading their Go source gives: structs, slices, arrays, maps, basic types and
+-- types that encode themselves. (docs/FORMAT.md, Types as source: this project's own.)
+use Rattle.std.specs.Prelude.{◌≡◌, ℕ, zero, suc, ◌≤◌, ◌<◌, ◌^◌, List, [], ◌∷◌, ◌++◌, Bool, true, ◌&&◌, Option}
+use Rattle.std.specs.Prelude.{IsSome, None, Some, false}
 use Rattle.std.specs.List.{list_all}
 use Rattle.gob_types.specs.declared.id.TypeId.{TypeId}
 use Rattle.gob_types.specs.declared.kind.Field.{Field}
 use Rattle.gob_types.specs.declared.kind.Kind.{Kind}
 use Rattle.gob_types.specs.declared.kind.Kind.TheVariants as kind
+use Rattle.gob_types.specs.declared.kind.Marshal.{Marshal}
 use Rattle.gob_types.specs.declared.kind.Shape.{Shape}
 use Rattle.gob_types.specs.Definable.{greatest_length}
 use Rattle.gob_types.specs.Table.{Table, shape_of}
+use Rattle.gob_source.specs.Library.{shape_package}
 use Rattle.gob_source.specs.Names.{own_name}
 use Rattle.gob_source.specs.Registered.{Naming}
 use Rattle.gob_source.specs.Source.{has_parts, is_among, is_declared, named_source}
 use Rattle.gob_go_source.specs.declared.declarations.GoSource.{GoSource}
-use Rattle.gob_go_source.specs.Scanning.{is_word_byte}
+use Rattle.gob_go_source.specs.Scanning.{is_letter_byte, is_word_byte}
 use Rattle.gob_go_source.specs.Source.{SaysText}
 use Rattle.gob_go_types.specs.declared.numbers.Defined.{Defined}
 use Rattle.gob_go_types.specs.Fields.{is_exported}
@@ -25,6 +27,11 @@ use Rattle.gob_go_types.specs.Types.{AreTypesOf, Has, defined}
 -- the name begins with a capital of ASCII, and goes on with letters and digits of ASCII and underlines
 abbrev pub is_plain_name : List ℕ → Bool
 is_plain_name name = is_exported name && list_all is_word_byte name
+
+-- the name has letters and digits of ASCII and underlines, and begins with no digit: source is read by such words
+abbrev pub is_word_name : List ℕ → Bool
+is_word_name [] = false
+is_word_name (b ∷ bs) = is_letter_byte b && list_all is_word_byte bs
 
 -- one of the types that each stream has, and no type of a description
 abbrev pub IsBasicId : TypeId → Type 0
@@ -41,20 +48,22 @@ pub data AreFields (ts : List TypeId) : (seen rest : List Field) → Type 0 wher
   one_field : {seen fs : List Field} {f : Field} → is_declared seen f ≡ true → is_plain_name f.name ≡ true
       → IsPart ts f.id → AreFields ts (seen ++ f ∷ []) fs → AreFields ts seen (f ∷ fs)
 
--- what a type is, of parts that are basic or among these types
+-- what a type is, of parts that are basic or among these types. One that encodes itself, of Go's library or not, has no
+-- parts
 pub data IsWrittenKind (ts : List TypeId) : Kind → Type 0 where
   a_struct : {fs : List Field} → AreFields ts [] fs → IsWrittenKind ts (kind.Struct fs)
   a_slice : {e : TypeId} → IsPart ts e → IsWrittenKind ts (kind.Slice e)
   an_array : {e : TypeId} {n : ℕ} → IsPart ts e → n ≤ greatest_length → IsWrittenKind ts (kind.Array e n)
   a_map : {k e : TypeId} → IsPart ts k → IsPart ts e → IsWrittenKind ts (kind.Map k e)
+  an_opaque : {m : Marshal} → IsWrittenKind ts (kind.Opaque m)
 
--- a type with the id of a definition, whose name in the source is a plain one
+-- a type with the id of a definition, whose name in the source is a word
 pub record IsWritten (T : Table) (ts : List TypeId) (t : TypeId) : Type 0 where
   pub shape : Shape
   pub has : shape_of T t ≡ Some shape
   pub own : 8 < t.0
   pub small : t.0 < 2 ^ 64
-  pub plain : is_plain_name (own_name T ts t shape.name) ≡ true
+  pub word : is_word_name (own_name T ts t shape.name) ≡ true
   pub kinds : IsWrittenKind ts shape.kind
 
 -- each of these is one
@@ -63,11 +72,12 @@ pub data EachIsWritten (T : Table) (ts : List TypeId) : List TypeId → Type 0 w
   one_is_written : {t : TypeId} {us : List TypeId} → IsWritten T ts t → EachIsWritten T ts us
       → EachIsWritten T ts (t ∷ us)
 
--- each of the types is one, and no two have one name in the source
+-- each of the types is one. Where an id has one digit, which none has that a definition gives, no other type has the
+-- name in the source that its type has: under longer ids no two have one name (SourceNamesDiffer)
 pub record AreWritten (T : Table) (ts : List TypeId) : Type 0 where
   pub each : EachIsWritten T ts ts
-  pub distinct : (t u : TypeId) (r s : Shape) → is_among t ts ≡ true → is_among u ts ≡ true → shape_of T t ≡ Some r
-      → shape_of T u ≡ Some s → own_name T ts t r.name ≡ own_name T ts u s.name → t ≡ u
+  pub distinct : (t u : TypeId) (r s : Shape) → t.0 < 10 → is_among t ts ≡ true → is_among u ts ≡ true
+      → shape_of T t ≡ Some r → shape_of T u ≡ Some s → own_name T ts t r.name ≡ own_name T ts u s.name → t ≡ u
 
 -- ---- what is asked for
 
@@ -79,11 +89,13 @@ pub data IsAsked (T : Table) : Option (List ℕ) → List TypeId → TypeId → 
 
 -- ---- types that are alike
 
--- the name of a type that is made is that of its declaration, which is the one that was sent where source keeps it, or
--- there is none of a list or a map that has no name of its own
+-- the name of a type that is made is that of its declaration, which is the one that was sent where source keeps it.
+-- There is none of a list or a map that has no name of its own. A type of Go's library has the one that was sent where
+-- another type names it, by its package, whatever its declaration has
 pub data IsNameOf (T : Table) (ts : List TypeId) (t : TypeId) (s : Shape) : List ℕ → Type 0 where
   its_own : {name : List ℕ} → name ≡ own_name T ts t s.name → IsNameOf T ts t s name
   without_name : has_parts s ≡ true → IsNameOf T ts t s []
+  of_library : IsSome (shape_package s) → IsNameOf T ts t s s.name
 
 mutual
   -- Down to this depth a type among the definitions is as one of the table: the same basic type, or of the name that it
@@ -95,7 +107,7 @@ mutual
         → shape_of T u ≡ Some s → IsNameOf T ts u s name → HasAlikeKind D T ts depth k s.kind
         → IsAlike D T ts (suc depth) t u
 
-  -- lists, maps and structs of alike parts, arrays of the same length
+  -- lists, maps and structs of alike parts, arrays of the same length, types that encode themselves by the same method
   pub data HasAlikeKind (D : List Defined) (T : Table) (ts : List TypeId) : ℕ → Kind → Kind → Type 0 where
     alike_structs : {depth : ℕ} {fs gs : List Field} → AreAlike D T ts depth fs gs
         → HasAlikeKind D T ts depth (kind.Struct fs) (kind.Struct gs)
@@ -105,6 +117,7 @@ mutual
         → HasAlikeKind D T ts depth (kind.Array e n) (kind.Array f n)
     alike_maps : {depth : ℕ} {k l e f : TypeId} → IsAlike D T ts depth k l → IsAlike D T ts depth e f
         → HasAlikeKind D T ts depth (kind.Map k e) (kind.Map l f)
+    alike_opaques : {depth : ℕ} {m : Marshal} → HasAlikeKind D T ts depth (kind.Opaque m) (kind.Opaque m)
 
   -- fields of the same names in the same order, of alike types
   pub data AreAlike (D : List Defined) (T : Table) (ts : List TypeId) : ℕ → List Field → List Field → Type 0 where
