@@ -3,7 +3,7 @@ _gob() {
     local current=${COMP_WORDS[COMP_CWORD]} previous=${COMP_WORDS[COMP_CWORD - 1]} words=
     COMPREPLY=()
     case $previous in
-    --depth | --item | --only | --as | --at | --size | --values | --line | --types | --type) return ;;
+    --depth | --item | --only | --as | --at | --types | --size | --values | --line | --type) return ;;
     esac
     if [ "$COMP_CWORD" -eq 1 ]; then
         words='values types why explain verify salvage split join show check rewrite take convert write make version help --help -h --version -V'
@@ -16,6 +16,7 @@ _gob() {
         types) words+=' --main --progress --salvage' ;;
         explain) words+=' --fault --at' ;;
         verify) words+=' --progress' ;;
+        salvage) words+=' --types' ;;
         split) words+=' --size --values' ;;
         show) words+=' --go --progress --salvage --numbers-as-text' ;;
         check) words+=' --go --progress' ;;

@@ -35,6 +35,7 @@ complete -c gob -n '__fish_seen_subcommand_from types' -l salvage -d 'Show what 
 complete -c gob -n '__fish_seen_subcommand_from explain' -l fault -d 'Show the item that is refused alone'
 complete -c gob -n '__fish_seen_subcommand_from explain' -l at -x -d 'Show the item around the byte at this offset alone'
 complete -c gob -n '__fish_seen_subcommand_from verify' -l progress -d 'Say on standard error how far it is'
+complete -c gob -n '__fish_seen_subcommand_from salvage' -l types -x -d 'Take the types of this stream for known: of a file that lost its own, of the same program'
 complete -c gob -n '__fish_seen_subcommand_from split' -l size -x -d 'End a file with the value with which it has as many bytes: a number, or one with K, M or G, for units of 2^10, 2^20 or 2^30 bytes; 64M without it'
 complete -c gob -n '__fish_seen_subcommand_from split' -l values -x -d 'End a file with the value with which it has as many'
 complete -c gob -n '__fish_seen_subcommand_from show' -l go -d 'Take all that Go'\''s encoder writes, as values in interfaces'

@@ -1,1 +1,2 @@
 mod AskedLaws
+pub mod SalvagingLaws

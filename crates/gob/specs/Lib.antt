@@ -3,3 +3,4 @@ pub mod Closing
 pub mod Exit
 pub mod Verdicts
 pub mod WayOn
+pub mod Salvaging

@@ -13,7 +13,8 @@
 //! `gob split IN DIR` writes IN as files of the directory DIR, each a whole stream, and `gob join FILE..` the values of
 //! the files as one stream.
 //! `gob salvage [IN]` writes what isn't damaged of IN, and says on standard error what is left out, as `--salvage` of
-//! `values`, `types` and `show` does of what they print.
+//! `values`, `types` and `show` does of what they print; `gob salvage --types GOOD [IN]` does so under the types of the
+//! stream GOOD too.
 //! `gob help` says the rest. Where the program stops at a fault, it prints a line on standard error, but none where
 //! `why` has said it on standard output, and behind a refusal of another view's file what to type. Its exit status is 0
 //! for a whole stream and for help, 1 for an input that is no stream, that is damaged or has values that don't match,
@@ -36,6 +37,7 @@ mod opening;
 mod part_files;
 mod pipe;
 mod progress;
+mod salvage;
 mod split;
 mod types;
 mod verdict;
@@ -48,6 +50,7 @@ use crate::join::join;
 use crate::opening::open;
 use crate::pipe::Pipe;
 use crate::progress::{size_of, watched};
+use crate::salvage::salvage;
 use crate::split::split;
 use crate::types::{TypesFile, wanted_of};
 use crate::verdict::Verdict;
@@ -180,6 +183,7 @@ fn run(rt: &HostRuntime) -> Result<(), Exit> {
         Ok(Asked::Order(order)) if order.command == Chosen::Show => show(rt, &order, &names),
         Ok(Asked::Order(order)) => run_for(rt, &order),
         Ok(Asked::View(view)) if view.command == ViewCommand::Write => write(rt, &view),
+        Ok(Asked::View(view)) if view.command == ViewCommand::Salvage => salvage(rt, &view, &names),
         Ok(Asked::View(view)) => run_view_on(rt, &view, &names),
         Ok(Asked::Made(view, making)) => make(rt, &view, &making),
         Ok(Asked::Parts(view, splitting)) => split(rt, &view, &splitting),

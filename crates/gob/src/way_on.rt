@@ -84,8 +84,8 @@ fn fault_in(alloc: Global, name: &str, fault: ToolFault) -> Exit
     }
 }
 
-// The line that names the file, and the command that says why it is refused.
-fn way_on(alloc: Global, name: &str) -> Result<String, AllocError>
+/// The line that names the file, and the command that says why it is refused.
+pub(crate) fn way_on(alloc: Global, name: &str) -> Result<String, AllocError>
     ensures { IfOk result (λ line. IsWayOn name.now (string_bytes line)) }
 {
     let shown = escaped(alloc, name)?;

@@ -8,3 +8,4 @@ pub mod SearchLaws
 pub mod TakingSteps
 pub mod ReportLaws
 pub mod StreamsLaws
+pub mod BehindLaws

@@ -9,3 +9,4 @@ pub mod Keeping
 pub mod Running
 pub mod Report
 pub mod Joined
+pub mod Behind

@@ -8,10 +8,12 @@
 //! ```
 //!
 //! [`salvage`] keeps what it can of bytes, and [`salvage_all`] of an input; what they leave out is said in [`Gap`]s.
-//! [`run_salvage`] is the run of the program, and [`report`] what that tells on standard error.
+//! [`run_salvage`] is the run of the program, [`run_salvage_behind`] that with the types of another stream, and
+//! [`report`] what they tell on standard error.
 #![tactic(auto)]
 
 mod again;
+mod behind;
 mod frame;
 mod gap;
 mod item;
@@ -23,6 +25,7 @@ mod run;
 mod search;
 mod streams;
 
+pub use behind::run_salvage_behind;
 pub use gap::Gap;
 pub use keeping::Salvaged;
 pub use lines::report;

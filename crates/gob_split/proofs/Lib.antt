@@ -3,3 +3,4 @@ pub mod NextLaws
 pub mod CutterLaws
 pub mod RunLaws
 pub mod PartLaws
+pub mod DefinitionsLaws

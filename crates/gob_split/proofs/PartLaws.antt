@@ -95,7 +95,7 @@ definitions_few (t ∷ texts) =
       length-append t.definitions t.value,
     )
 
-among_more : (items : List FilledItem) (i : FilledItem)
+pub among_more : (items : List FilledItem) (i : FilledItem)
     → definitions_among (items ++ i ∷ []) ≡ definitions_among items ++ definitions_in i
 among_more [] i = append-nil (definitions_in i)
 among_more (j ∷ items) i =

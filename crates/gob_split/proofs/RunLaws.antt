@@ -38,13 +38,13 @@ pub of_parts : {how : PartSize} {r : GoReader} {c : Cutter} {bytes : List ℕ} {
 of_parts h =
     record { texts = h.texts; are = h.are; full = h.full; last = h.last; split = h.cutting.split; holds = h.holds }
 
-texts_under : {L M : Bounds} {bytes : List ℕ} {items : List FilledItem} {texts : List Text} → L ≡ M
+pub texts_under : {L M : Bounds} {bytes : List ℕ} {items : List FilledItem} {texts : List Text} → L ≡ M
     → HaveTexts (within_trees L) bytes items texts → HaveTexts (within_trees M) bytes items texts
 texts_under {bytes = bytes} {items = items} {texts = texts} same h =
     subst (λ (L : Bounds). HaveTexts (within_trees L) bytes items texts) same h
 
 -- the texts of the items that were taken
-texts_more : {L : Bounds} {r r' : GoReader} {read now : Option (List ℕ)} {given : List FilledItem} {x : ItemText}
+pub texts_more : {L : Bounds} {r r' : GoReader} {read now : Option (List ℕ)} {given : List FilledItem} {x : ItemText}
     {texts : List Text} → StandsBy go_stepping (session_of r') → limits_of (session_of r') ≡ L
     → (t : TakesText r r' read now given x) → (bytes : List ℕ) → read ≡ Some bytes
     → HaveTexts (within_trees L) bytes given texts

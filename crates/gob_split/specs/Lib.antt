@@ -4,3 +4,4 @@ pub mod Split
 pub mod Running
 pub mod Machine
 pub mod Laws
+pub mod Definitions

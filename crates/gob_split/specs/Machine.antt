@@ -1,3 +1,4 @@
 pub mod Items
 pub mod Cutting
 pub mod Splitting
+pub mod Defining

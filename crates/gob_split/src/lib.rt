@@ -9,10 +9,11 @@
 //! [`hoist_item`](gob_go_writer::hoist_item) puts it: so each part has the definitions of its values in front of them.
 //!
 //! [`run_split`] splits what a reader gives, over [`Parts`], which say where parts go. That each part is a stream is a
-//! law: [`laws`].
+//! law: [`laws`]. [`push_definitions`] gives the definitions alone.
 #![tactic(auto)]
 
 mod cutter;
+mod definitions;
 mod item_text;
 pub mod laws;
 mod next_text;
@@ -20,6 +21,7 @@ mod part_size;
 mod parts;
 mod run;
 
+pub use definitions::push_definitions;
 pub use part_size::PartSize;
 pub use parts::{NotWritten, Parts};
 pub use run::run_split;

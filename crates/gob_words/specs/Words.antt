@@ -94,6 +94,10 @@ values = with_input (with_salvage (with_elements (with_types (with_flags (with_o
 abbrev pub types : App
 types = with_input (with_salvage (with_progress (with_rule (with_options (codes "types")) (flag_rule (codes "main")))))
 
+-- the command that keeps what isn't damaged, with the option for the file that has types
+abbrev pub salvage : App
+salvage = with_rule (one_stream (codes "salvage")) (option_rule (codes "types"))
+
 -- the flag and the option that say which part of a stream is shown
 abbrev pub with_parts : App → App
 with_parts app = with_rule (with_rule app (flag_rule (codes "fault"))) (option_rule (codes "at"))
@@ -152,7 +156,7 @@ people_program =
     with_subcommand (with_subcommand
     (with_subcommand (with_subcommand (with_subcommand (with_subcommand (with_subcommand
     (with_subcommand bare_program values.top) types.top) (one_stream (codes "why")).top) explain.top) verify.top)
-    (one_stream (codes "salvage")).top) split.top) join.top
+    salvage.top) split.top) join.top
 
 -- and those that write exactly what a stream has
 abbrev pub program : App

@@ -4,7 +4,8 @@ ghost use Rattle.std.specs.Prelude.{◌≡◌, IfOk, codes, false};
 ghost use Rattle.clap.specs.Words.{App, Rule, app_of, new_app, rule_of, with_rule, with_subcommand};
 ghost use Rattle.clap.specs.declared.builder.Command.TheViews.{out-Command};
 ghost use Rattle.gob_words.specs.Words.{bare_program, files_rule, flag_rule, kinds_rule, needed_rule, option_rule};
-ghost use Rattle.gob_words.specs.Words.{check, explain, join, make, people_program, program, rewrite, show, split};
+ghost use Rattle.gob_words.specs.Words.{check, explain, join, make, people_program, program, rewrite, salvage, show};
+ghost use Rattle.gob_words.specs.Words.{split};
 ghost use Rattle.gob_words.specs.Words.{one_stream, two_streams, types, values, verify, write};
 ghost use Rattle.gob_words.specs.Words.{with_elements, with_flags, with_go, with_go_flags, with_input, with_made};
 ghost use Rattle.gob_words.specs.Words.{with_options, with_parts, with_progress, with_salvage, with_sizes, with_types};
@@ -46,8 +47,7 @@ fn people_program<'a>(alloc: Global) -> Built<'a>
     let telling = with_command(typing, why);
     let explaining = with_command(telling, explain(alloc));
     let verifying = with_command(explaining, verify(alloc));
-    let salvage = one_stream(alloc, "salvage", help::SALVAGE);
-    let salvaging = with_command(verifying, salvage);
+    let salvaging = with_command(verifying, salvage(alloc));
     let splitting = with_command(salvaging, split(alloc));
     with_command(splitting, join(alloc))
 }
@@ -200,6 +200,15 @@ fn with_made<'a>(alloc: Global, command: Built<'a>) -> Built<'a>
     let typed = with_arg(command, option(alloc, "types", "TYPES", help::MADE_TYPES));
     let named = with_arg(typed, option(alloc, "type", "NAME", help::MADE_TYPE));
     with_flag(alloc, named, "lenient", help::LENIENT)
+}
+
+// The command that keeps what isn't damaged, with the option for the file that has types.
+fn salvage<'a>(alloc: Global) -> Built<'a>
+    ensures app { IfOk result (λ command. app_of command ≡ salvage) }
+    ensures local { IfOk result (λ command. (out-Command command).has_globals ≡ false) }
+{
+    let reading = one_stream(alloc, "salvage", help::SALVAGE);
+    with_arg(reading, option(alloc, "types", "GOOD", help::GOOD))
 }
 
 // The command that explains bytes, with a flag and an option behind those that other commands have too.

@@ -100,6 +100,9 @@ pub(crate) const WANTED: &str = "The stream that has the wanted type";
 pub(crate) const WANTED_OR_SOURCE: &str =
     "The file that has the wanted type: a stream, or Go source";
 
+pub(crate) const GOOD: &str =
+    "Take the types of this stream for known: of a file that lost its own, of the same program";
+
 pub(crate) const INPUT: &str = "The stream; without it, standard input is read";
 
 pub(crate) const FILE: &str = "The stream; without it, or where it is -, standard input is read";

@@ -25,7 +25,8 @@ pub struct Making<'a> {
 }
 
 /// Under which types the words ask to write a stream, the program's name first among them, for which
-/// [`crate::view_of`] gives [`crate::ViewCommand::Make`].
+/// [`crate::view_of`] gives [`crate::ViewCommand::Make`]. For [`crate::ViewCommand::Salvage`] they say the file alone,
+/// of the stream whose types are known.
 pub fn making_of<'a>(alloc: Global, words: &'a [&'a str]) -> Result<Making<'a>, ViewFault>
     ensures { let asked = map (λ word. word.now) words.entry.now in
         HasNoFault asked → MatchResult result (AsksToMake (subcommand_of program asked))
