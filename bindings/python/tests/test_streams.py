@@ -6,6 +6,8 @@ import os
 import pathlib
 import pickle
 import tempfile
+import threading
+import time
 import unittest
 
 import gob
@@ -99,6 +101,39 @@ class StreamsTest(unittest.TestCase):
         self.assertEqual((caught.exception.place, caught.exception.values), (41, [POINT]))
         with self.assertRaisesRegex(ValueError, "limits"):
             gob.convert(POINT, POINT, limits=gob.Limits(depth=0))
+
+    def test_hostile_texts_end_soon(self):
+        many = 1_000_000
+        deep = '{"type":65,"value":' + "[" * many
+        wide = LINES + '{"type":65,"value":[' + ",".join(f'[{at},"X",0]' for at in range(many // 10)) + "]}"
+        long_name = LINES.replace("Point", "P" * many)
+        for text in (deep, "{" * many, wide, '{"define":65,"fields":[' + '["X",2],' * (many // 10), '"' + "\\" * many):
+            self.assert_soon(lambda text=text: self.assertRaises(gob.BadLine, gob.from_lines, text))
+        self.assert_soon(lambda: self.assertEqual(gob.lines(gob.from_lines(long_name)), long_name))
+        for types in ("type A " + "[]" * many + "int", "type A struct {" * (many // 10), "type " + "A" * many,
+                      "type A struct { " + "X int; " * (many // 10) + "}", "/*" * many):
+            self.assert_soon(lambda types=types: self.assertRaises(gob.BadTypes, gob.convert, POINT, types))
+
+    def assert_soon(self, call):
+        began = time.process_time()
+        call()
+        self.assertLess(time.process_time() - began, 5)
+
+    def test_in_threads(self):
+        made = []
+
+        def make():
+            for _ in range(50):
+                narrow, same = gob.convert(POINT, Line), gob.convert(POINT, POINT)
+                made.append((gob.lines(POINT), gob.from_lines(LINES), narrow, same))
+
+        threads = [threading.Thread(target=make) for _ in range(4)]
+        for thread in threads:
+            thread.start()
+        for thread in threads:
+            thread.join()
+        self.assertEqual(len(made), 200)
+        self.assertEqual({it[:2] + (gob.loads(it[2])[0]["Y"], it[3]) for it in made}, {(LINES, POINT, 33, POINT)})
 
 
 if __name__ == "__main__":

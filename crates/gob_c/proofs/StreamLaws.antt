@@ -8,13 +8,11 @@ use Rattle.gob_stream.specs.Bounds.{AreLimits, Bounds, deepest, within_trees}
 use Rattle.gob_tool.specs.Converting.{ConvertAnswers}
 use Rattle.gob_tool.specs.declared.fault.ToolFault.{ToolFault}
 use Rattle.gob_words.specs.Escaped.{is_obeyed}
-use Rattle.gob_write.specs.Types.{AreTypes, IsRead}
-use Rattle.gob_write.specs.declared.types.Types.{Types}
-use Rattle.gob_c.specs.Converting.{Converts, ConvertTold, IsWantedOfNamed, IsWantedOfStream, IsZeroOf, PutsConverted}
+use Rattle.gob_c.specs.Converting.{Converts, ConvertTold, IsWantedOfNamed, IsWantedOfStream, PutsConverted}
 use Rattle.gob_c.specs.Converting.{is_converted, of_first, of_named}
 use Rattle.gob_c.specs.Streams.{PutsUnobeyed}
 use Rattle.gob_c.specs.Texts.{put_in}
-use Rattle.gob_c.specs.Writing.{named_by, standard}
+use Rattle.gob_c.specs.Writing.{named_by}
 use Rattle.gob_c.specs.declared.streams.StreamTold.{StreamTold}
 
 -- ---- what was written
@@ -48,18 +46,6 @@ nothing_said room = record {
 }
 
 -- ---- the wanted type
-
--- that of a stream is asked for by this name, under the standard limits
-pub named_so : (bytes : List ℕ) (named asked : Option (List ℕ)) (L : Bounds) (now : Option (List ℕ)) (types : Types)
-    (wanted : List ℕ) → L ≡ standard → named ≡ asked → IsRead L bytes now (AreTypes named false types)
-    → IsZeroOf types wanted → IsWantedOfNamed bytes asked wanted
-named_so bytes named asked L now types wanted limits same given made = record {
-  types = types;
-  now = now;
-  given = subst (λ n. IsRead standard bytes now (AreTypes n false types)) same
-      (subst (λ K. IsRead K bytes now (AreTypes named false types)) limits given);
-  zero = made;
-}
 
 -- without a name the stream itself has it
 pub first_wanted : (bytes named : List ℕ) (b : Bool) → b ≡ (length named == 0) → b ≡ true

@@ -1,18 +1,17 @@
 -- What the exports tell C of streams whose values are converted.
-use Rattle.std.specs.Prelude.{◌≡◌, ℕ, List, [], ◌∷◌, length, false, Option, Some, None, Result, Ok, Err}
+use Rattle.std.specs.Prelude.{◌≡◌, ℕ, List, [], ◌∷◌, length, Option, Some, None, Result, Ok, Err}
 use Rattle.gob_types.specs.Reasons.{reason_number}
+use Rattle.gob_types.specs.Table.{Table}
 use Rattle.gob_stream.specs.Bounds.{AreLimits, Bounds, deepest, within_trees}
+use Rattle.gob_stream.specs.Calls.Writing.{HasWritten}
+use Rattle.gob_stream.specs.Item.{StreamItem}
 use Rattle.gob_tool.specs.Converting.{ConvertAnswers}
 use Rattle.gob_tool.specs.declared.fault.ToolFault.{ToolFault}
 use Rattle.gob_tool.specs.declared.fault.ToolFault.TheVariants as tool
-use Rattle.gob_write.specs.Making.{MakeAnswers}
-use Rattle.gob_write.specs.Source.{IsOfSource}
-use Rattle.gob_write.specs.Types.{AreTypes, IsRead}
-use Rattle.gob_write.specs.declared.source.SourceTypesFault.{SourceTypesFault}
-use Rattle.gob_write.specs.declared.source.SourceTypesFault.TheVariants as source
-use Rattle.gob_write.specs.declared.types.Types.{Types}
-use Rattle.gob_write.specs.declared.types.TypesFault.{TypesFault}
-use Rattle.gob_write.specs.declared.types.TypesFault.TheVariants as types
+use Rattle.gob_plain_writer.specs.Opening.{IsWriterOfSource, IsWriterOfStream}
+use Rattle.gob_plain_writer.specs.Writing.{PutAnswers, waiting}
+use Rattle.gob_plain_writer.specs.declared.fault.OpenFault.TheVariants as opening
+use Rattle.gob_plain_writer.specs.declared.writer.PlainWriter.{PlainWriter}
 use Rattle.gob_c.specs.Streams.{PutsStream, stream_told}
 use Rattle.gob_c.specs.Texts.{put_in}
 use Rattle.gob_c.specs.Writing.{standard}
@@ -23,40 +22,33 @@ use Rattle.gob_c.specs.declared.wanted.WantedFault.TheVariants as wanting
 
 -- ---- the wanted type
 
--- the plain JSON of a zero, and the most bytes of it
+-- the plain JSON of a zero
 abbrev pub null_text : List ℕ
 null_text = 110 ∷ 117 ∷ 108 ∷ 108 ∷ []
 
--- the stream of all these definitions and of a zero of the wanted type
-abbrev pub IsZeroOf : Types → (wanted : List ℕ) → Type 0
-IsZeroOf types wanted = MakeAnswers standard types 5 null_text (Some []) (Some wanted) (Ok tt)
+-- what waits in a writer that was given the zero of its type, behind all that it had written
+pub record IsZeroBehind (w : PlainWriter) (wanted : List ℕ) : Type 0 where
+  pub behind : PlainWriter
+  pub puts : (items : List StreamItem) (bytes : List ℕ) (T : Table) → HasWritten w.stream items bytes T
+      → PutAnswers w behind items bytes T null_text (Ok tt)
+  pub waits : wanted ≡ waiting behind
 
 -- a stream of the type that Go source declares, and that is asked for
 pub record IsWantedOfSource (text : List ℕ) (named : Option (List ℕ)) (wanted : List ℕ) : Type 0 where
-  pub types : Types
-  pub given : IsOfSource text named false types
-  pub zero : IsZeroOf types wanted
+  pub writer : PlainWriter
+  pub opened : IsWriterOfSource standard text named writer
+  pub zero : IsZeroBehind writer wanted
 
 -- or of one that another stream has and that is asked for
 pub record IsWantedOfNamed (bytes : List ℕ) (named : Option (List ℕ)) (wanted : List ℕ) : Type 0 where
-  pub types : Types
-  pub now : Option (List ℕ)
-  pub given : IsRead standard bytes now (AreTypes named false types)
-  pub zero : IsZeroOf types wanted
+  pub writer : PlainWriter
+  pub opened : IsWriterOfStream standard bytes named writer
+  pub zero : IsZeroBehind writer wanted
 
 -- where none is asked for that is the stream itself
 pub data IsWantedOfStream (bytes : List ℕ) (wanted : List ℕ) : (named : Option (List ℕ)) → Type 0 where
   of_first : wanted ≡ bytes → IsWantedOfStream bytes wanted None
   of_named : {name : List ℕ} → IsWantedOfNamed bytes (Some name) wanted → IsWantedOfStream bytes wanted (Some name)
-
-abbrev pub source_fault : SourceTypesFault → WantedFault
-source_fault source.Memory = wanting.Memory
-source_fault given = wanting.Source given
-
-abbrev pub types_fault : TypesFault → WantedFault
-types_fault types.Memory = wanting.Memory
-types_fault types.Read = wanting.Memory
-types_fault given = wanting.Types given
 
 -- ---- the run
 
@@ -85,6 +77,8 @@ told_of_run (Err tool.Memory) length words = stream_told 2 0 0 length words
 -- of why there is no wanted type
 abbrev pub told_of_wanted : WantedFault → (words : ℕ) → StreamTold
 told_of_wanted wanting.Memory words = stream_told 2 0 0 0 words
+told_of_wanted (wanting.Types opening.Memory) words = stream_told 2 0 0 0 words
+told_of_wanted (wanting.Types (opening.Refused r)) words = stream_told 1 (reason_number r) 0 0 words
 told_of_wanted _ words = stream_told 1 0 0 0 words
 
 -- the stream was put into the room, and it is told how the run ended

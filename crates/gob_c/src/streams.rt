@@ -12,6 +12,7 @@ use crate::in_memory::{conversion_of, stream_of_lines};
 use crate::limits::Asked;
 use crate::texts::put_front;
 use crate::wanted::{WantedFault, wanted_of_source, wanted_of_stream};
+use gob_plain_writer::OpenFault;
 use gob_stream::Limits;
 use gob_tool::ToolFault;
 use gob_words::escaped;
@@ -179,13 +180,14 @@ impl StreamTold {
     fn of_wanted(alloc: Global, fault: &WantedFault<'_>, said: &mut [u8]) -> StreamTold
         ensures { PutsStream (told_of_wanted fault.now) said.old said.new result }
     {
-        let status = match fault {
-            WantedFault::Memory => 2,
-            WantedFault::Source(_) | WantedFault::Types(_) | WantedFault::NoZero => 1,
+        let (status, reason) = match fault {
+            WantedFault::Types(OpenFault::Memory) | WantedFault::Memory => (2, 0),
+            WantedFault::Types(OpenFault::Refused(reason)) => (1, reason.number() as u32),
+            WantedFault::Types(_) | WantedFault::NoZero => (1, 0),
         };
         StreamTold {
             status,
-            reason: 0,
+            reason,
             column: 0,
             words: put_words(alloc, fault, said),
             length: 0,

@@ -1,39 +1,31 @@
-//! The type that the values of a stream are wanted as.
+//! The stream by which another's values are received: the definitions of a wanted type, and its zero.
 
 ghost use Rattle.std.specs.Prelude.{IfOk};
-ghost use Rattle.gob_c.specs.Converting.{IsWantedOfNamed, IsWantedOfSource, IsZeroOf};
+ghost use Rattle.gob_c.specs.Converting.{IsWantedOfNamed, IsWantedOfSource, IsZeroBehind};
 ghost use Rattle.gob_c.specs.Writing.{named_by};
 
-use crate::writing::name_of;
-use gob_stream::{Input, Limits, Output};
-use gob_write::{
-    LinesFault, SourceTypesFault, Types, TypesFault, read_types, run_make, types_of_source,
-};
-use std::alloc::Global;
+use crate::writing::{of_source, of_stream};
+use gob_plain_writer::{OpenFault, PlainWriter, PutFault};
+use std::alloc::{AllocError, Global};
 use std::fmt;
 
-// The plain JSON of the zero of a type, and the most bytes of it.
+// The plain JSON of the zero of a type.
 const ZERO: &[u8] = b"null";
-
-const MOST_OF_ZERO: u64 = 5;
 
 /// Why there is no wanted type. Display writes the line that the program prints, without the line feed.
 #[derive(Clone, Copy)]
 pub(crate) enum WantedFault<'a> {
-    /// Go source gives none.
-    Source(SourceTypesFault<'a>),
-    /// A stream gives none.
-    Types(TypesFault),
+    /// There are no types, or no memory for them.
+    Types(OpenFault<'a>),
     /// It has no zero.
     NoZero,
-    /// No memory was had.
+    /// No memory was had for its zero.
     Memory,
 }
 
 impl fmt::Display for WantedFault<'_> {
     fn fmt<W: fmt::Write>(&self, f: &mut fmt::Formatter<W>) -> fmt::Result {
         match self {
-            WantedFault::Source(fault) => write!(f, "{fault}"),
             WantedFault::Types(fault) => write!(f, "{fault}"),
             WantedFault::NoZero => write!(f, "gob: types: the type has no zero"),
             WantedFault::Memory => write!(f, "gob: out of memory"),
@@ -41,32 +33,25 @@ impl fmt::Display for WantedFault<'_> {
     }
 }
 
-impl<'a> From<SourceTypesFault<'a>> for WantedFault<'a> {
+impl<'a> From<OpenFault<'a>> for WantedFault<'a> {
     ghost use Rattle.std.specs.Prelude.{◌≡◌};
-    ghost use Rattle.gob_c.specs.Converting.{source_fault};
+    ghost use Rattle.gob_c.specs.declared.wanted.WantedFault.TheVariants as wanting;
 
-    ghost from_gives = { λ given fault. fault ≡ source_fault given };
+    ghost from_gives = { λ given fault. fault ≡ wanting.Types given };
 
-    fn from(fault: SourceTypesFault<'a>) -> WantedFault<'a> {
-        match fault {
-            SourceTypesFault::Memory => WantedFault::Memory,
-            given => WantedFault::Source(given),
-        }
+    fn from(fault: OpenFault<'a>) -> WantedFault<'a> {
+        WantedFault::Types(fault)
     }
 }
 
-impl<'a> From<TypesFault> for WantedFault<'a> {
+impl<'a> From<AllocError> for WantedFault<'a> {
     ghost use Rattle.std.specs.Prelude.{◌≡◌};
-    ghost use Rattle.gob_c.specs.Converting.{types_fault};
+    ghost use Rattle.gob_c.specs.declared.wanted.WantedFault.TheVariants as wanting;
 
-    ghost from_gives = { λ given fault. fault ≡ types_fault given };
+    ghost from_gives = { λ _ fault. fault ≡ wanting.Memory };
 
-    // What is in memory is read without a fault of its own.
-    fn from(fault: TypesFault) -> WantedFault<'a> {
-        match fault {
-            TypesFault::Memory | TypesFault::Read => WantedFault::Memory,
-            given => WantedFault::Types(given),
-        }
+    fn from(_: AllocError) -> WantedFault<'a> {
+        WantedFault::Memory
     }
 }
 
@@ -79,9 +64,8 @@ pub(crate) fn wanted_of_source<'a>(
 ) -> Result<Vec<u8>, WantedFault<'a>>
     ensures { IfOk result (λ wanted. IsWantedOfSource source.now (named_by named.now) wanted.items) }
 {
-    let name = name_of(named)?;
-    let types = types_of_source(alloc, source, name, false)?;
-    zero_of(alloc, &types)
+    let writer = of_source(alloc, source, named)?;
+    zero_behind(alloc, writer)
 }
 
 /// A stream of the type that another stream has by this name or id: all definitions of that stream, and its zero.
@@ -92,30 +76,17 @@ pub(crate) fn wanted_of_stream<'a>(
 ) -> Result<Vec<u8>, WantedFault<'a>>
     ensures { IfOk result (λ wanted. IsWantedOfNamed bytes.now (named_by named.now) wanted.items) }
 {
-    let name = name_of(named)?;
-    let mut input = Input::new(bytes);
-    let types = read_types(alloc, &mut input, name, false, Limits::standard())?;
-    zero_of(alloc, &types)
+    let writer = of_stream(alloc, bytes, named)?;
+    zero_behind(alloc, writer)
 }
 
-// The stream of the definitions and of a zero of the wanted type.
-fn zero_of<'a>(alloc: Global, types: &Types) -> Result<Vec<u8>, WantedFault<'a>>
-    ensures { IfOk result (λ made. IsZeroOf types.now made.items) }
+// What the writer has written, and a zero of its type behind it.
+fn zero_behind<'a>(alloc: Global, mut writer: Box<PlainWriter>) -> Result<Vec<u8>, WantedFault<'a>>
+    ensures { IfOk result (λ wanted. IsZeroBehind writer.value wanted.items) }
 {
-    let mut input = Input::new(ZERO);
-    let mut output = Output::new(Vec::new(alloc));
-    let answer = run_make(
-        alloc,
-        types,
-        &mut input,
-        &mut output,
-        Limits::standard(),
-        MOST_OF_ZERO,
-    );
-    match answer {
-        Ok(_) => Ok(output.into_inner()),
-        // What is in memory is read and written without a fault of its own.
-        Err(LinesFault::Read | LinesFault::Write | LinesFault::Memory) => Err(WantedFault::Memory),
+    match writer.put(alloc, ZERO) {
+        Ok(()) => Ok(Vec::from_slice(alloc, writer.waiting())?),
+        Err(PutFault::Memory | PutFault::Failed) => Err(WantedFault::Memory),
         Err(_) => Err(WantedFault::NoZero),
     }
 }

@@ -188,8 +188,8 @@ fn put_words<F: fmt::Display>(alloc: Global, fault: &F, room: &mut [u8]) -> u64
     words.len() as u64
 }
 
-/// The name that the bytes are, of which no bytes mean that there is none.
-pub(crate) fn name_of(named: &[u8]) -> Result<Option<&str>, TypesFault>
+// The name that the bytes are, of which no bytes mean that there is none.
+fn name_of(named: &[u8]) -> Result<Option<&str>, TypesFault>
     ensures { IfOk result (λ name. text_of name ≡ named_by named.now) }
 {
     if named.is_empty() {
@@ -201,8 +201,8 @@ pub(crate) fn name_of(named: &[u8]) -> Result<Option<&str>, TypesFault>
     }
 }
 
-// A new writer under the types of Go source, on the heap.
-fn of_source<'a>(
+/// A new writer under the types of Go source, on the heap.
+pub(crate) fn of_source<'a>(
     alloc: Global,
     source: &'a [u8],
     named: &'a [u8],
@@ -214,8 +214,8 @@ fn of_source<'a>(
     boxed(alloc, writer)
 }
 
-// A new writer under the types of a stream, on the heap.
-fn of_stream<'a>(
+/// A new writer under the types of a stream, on the heap.
+pub(crate) fn of_stream<'a>(
     alloc: Global,
     bytes: &[u8],
     named: &[u8],
