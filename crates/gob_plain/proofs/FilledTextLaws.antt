@@ -18,13 +18,9 @@ abbrev pub whole_filled : {T : Table} {t : TypeId} {limit : ℕ} {bytes : List �
 whole_filled o w =
     record { value = filled w.value no_filling; spelled = λ base L. contained w.spelled o w.within }
 
-pub unfilled_text : {A E : Type 0} (tagged : Bool) (style : Style) (T : Table) (t : TypeId) (limit : ℕ)
-    (bytes : List ℕ) (text : A → List ℕ) → AreBytes bytes → (r : Result (Option A) E)
-    → IfOk r (λ found. IfSome found (λ x. IsBodyText style T t limit bytes (text x)))
-    → IfOk r (λ found. IfSome found (λ x. IsFilledText tagged style T t limit bytes (text x)))
-unfilled_text tagged style T t limit bytes text o (Err e) h = tt
-unfilled_text tagged style T t limit bytes text o (Ok None) h = tt
-unfilled_text tagged style T t limit bytes text o (Ok (Some x)) (w, j, says, is, read) =
+pub unfilled_body : (tagged : Bool) (style : Style) (T : Table) (t : TypeId) (limit : ℕ) (bytes text : List ℕ)
+    → AreBytes bytes → IsBodyText style T t limit bytes text → IsFilledText tagged style T t limit bytes text
+unfilled_body tagged style T t limit bytes text o (w, j, says, is, read) =
     record {
       are_bytes = o;
       whole = whole_filled o w;
@@ -33,3 +29,12 @@ unfilled_text tagged style T t limit bytes text o (Ok (Some x)) (w, j, says, is,
       text_is = is;
       read = read;
     }
+
+pub unfilled_text : {A E : Type 0} (tagged : Bool) (style : Style) (T : Table) (t : TypeId) (limit : ℕ)
+    (bytes : List ℕ) (text : A → List ℕ) → AreBytes bytes → (r : Result (Option A) E)
+    → IfOk r (λ found. IfSome found (λ x. IsBodyText style T t limit bytes (text x)))
+    → IfOk r (λ found. IfSome found (λ x. IsFilledText tagged style T t limit bytes (text x)))
+unfilled_text tagged style T t limit bytes text o (Err e) h = tt
+unfilled_text tagged style T t limit bytes text o (Ok None) h = tt
+unfilled_text tagged style T t limit bytes text o (Ok (Some x)) h =
+    unfilled_body tagged style T t limit bytes (text x) o h

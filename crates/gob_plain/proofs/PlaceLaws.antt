@@ -4,6 +4,7 @@ use Rattle.std.proofs.Common.{◌≡◌, ◌≢◌, ℕ, List, [], ◌∷◌, �
 use Rattle.std.proofs.Common.{refl, sym, subst, append-nil, ◌∙◌, true}
 use Rattle.std.proofs.Common.{Result, Ok, Err, Some, None, IfSome, arith, false}
 use Rattle.std.specs.Prelude.{◌==◌, slice_get}
+use Rattle.std.specs.Bool.{MatchBool}
 use Rattle.std.specs.Str.{is_utf8}
 use Rattle.std.proofs.lemmas.Str.{is_utf8-from_IsUtf8, IsUtf8-nil}
 use Rattle.std.specs.declared.alloc.AllocError.{AllocError}
@@ -165,3 +166,9 @@ pub all_elements : {O E : Type 0} (tells : O → O → List Event → Result (Un
     → ElementsLeft tells T e limit (count - 0) false old old piece rest (elements_told false T e vs)
 all_elements tells {vs = vs} b counted =
     record { values = vs; begins = b; counted = omega (arith, counted); text = λ new r p. p }
+
+-- what three say where something was made, where they are said of it
+pub if_made : {P Q R S : Type 0} (E : Type 0) (made : Bool) → (made ≡ true → P) → MatchBool made Q E
+    → (made ≡ true → R) → (P → Q → R → S) → MatchBool made S E
+if_made E true p q r f = f (p refl) q (r refl)
+if_made E false p q r f = q

@@ -114,8 +114,8 @@ fn told_text_of<S: Shapes>(
     }
 }
 
-/// The text that the writer holds, where it is that of a value.
-pub(crate) fn text_if_free(place: VisitorPlace, out: Writer) -> Option<String>
+// The text that the writer holds, where it is that of a value.
+fn text_if_free(place: VisitorPlace, out: Writer) -> Option<String>
     requires { out.before ≡ [] }
     ensures free { IfSome result (λ text. place ≡ places.Free) }
     ensures text { IfSome result (λ text. string_bytes text ≡ print out.tokens) }

@@ -1,10 +1,11 @@
 -- The lines of values.
 use Rattle.std.proofs.Common.{◌≡◌, ◌∙◌, ℕ, List, [], ◌∷◌, ◌++◌, append_assoc, ap, min, refl, sym, subst}
-use Rattle.std.proofs.Common.{Bool, true, false}
+use Rattle.std.proofs.Common.{Bool, true, false, None}
 use Rattle.std.proofs.lemmas.List.{append-nil}
 use Rattle.std.proofs.lemmas.List.Elements.{All-cons, All-head, All-nil}
 use Rattle.std.specs.Bool.{IsTrue, MatchBool}
 use Rattle.std.specs.List.{All, flat_map}
+use Rattle.std.specs.Prelude.{if◌then◌else◌}
 use Rattle.json.specs.Json.{Json}
 use Rattle.json.specs.Lex.{tokens}
 use Rattle.json.specs.Print.{print}
@@ -13,7 +14,7 @@ use Rattle.json.specs.Tree.{json_tokens}
 use Rattle.json_controls.specs.Controls.{shown_text}
 use Rattle.json_parts.specs.Parts.{HasLeft, IsFirst}
 use Rattle.json_parts.specs.declared.parts.Form.{Form}
-use Rattle.gob_types.specs.Table.{Table}
+use Rattle.gob_types.specs.Table.{Table, shape_of}
 use Rattle.gob_types.specs.declared.id.TypeId.{TypeId}
 use Rattle.gob_num.specs.Unsigned.{AreBytes}
 use Rattle.gob_value.specs.declared.value.Value.{Value}
@@ -28,13 +29,13 @@ use Rattle.gob_go.specs.declared.filled.Filled.{Filled}
 use Rattle.gob_go.specs.declared.item.GoItem.{GoItem}
 use Rattle.gob_go.specs.declared.item.GoItem.TheVariants as item
 use Rattle.gob_go.specs.Calls.Reader.{GoReader}
-use Rattle.gob_plain.specs.HeldPlain.{SaysFilled}
+use Rattle.gob_plain.specs.HeldPlain.{SaysFilled, tagged_json}
 use Rattle.gob_tool.specs.TextsGo.{IsWholeText}
 use Rattle.gob_tool.proofs.Profile.FilledLineLaws.{filled_text}
 use Rattle.gob_views.specs.Machine.Lines.{IsBodyLine}
 use Rattle.gob_words.specs.Words.{text_of}
 use Rattle.gob_views.specs.Values.{AreLinesBehind, IsChosen, IsLineOf, is_shown, is_left_out, IsPlainLine, IsReadBack}
-use Rattle.gob_views.specs.Values.{SaysStyled, json_line, line_jsons, shown_json}
+use Rattle.gob_views.specs.Values.{SaysStyled, json_line, line_jsons, parts_form_at, parts_in, shown_json, type_name}
 use Rattle.gob_views.specs.declared.value_line.ValueLines.{ValueLines}
 
 -- a reader that reads JSON in its text reads it in the line
@@ -82,6 +83,19 @@ line_behind {lines = lines} {T = T} {t = t} {old = old} j prints read reads made
       (ap (λ (l : List ℕ). tokens (shown_text l)) (sym prints) ∙ reads (shown_json lines T t j) prints read)
       (All-nil (IsReadBack lines T t));
 }
+
+-- the line where values stand on one each, under no name
+pub line_alone : {lines : ValueLines} {T : Table} {t : TypeId} {text line : List ℕ} → lines.each ≡ false
+    → lines.typed ≡ false → (j : Json) → text ≡ print (json_tokens j) → tokens text ≡ json_tokens j
+    → ReadsInLine text → line ≡ shown_text text ++ 10 ∷ []
+    → AreLinesBehind lines T t (line_jsons lines T t j) [] line
+line_alone {lines = lines} {T = T} {t = t} {line = line} each typed j prints read reads made =
+    let one : line_jsons lines T t j ≡ j ∷ [] =
+    ap (λ (b : Bool). parts_in (if b then parts_form_at (shape_of T t) else None) j) each in
+    let bare : shown_json lines T t j ≡ j = ap (λ (b : Bool). tagged_json b (type_name T t) j) typed in
+    subst (λ (js : List Json). AreLinesBehind lines T t js [] line) (sym one)
+    (line_behind j (prints ∙ ap (λ (j : Json). print (json_tokens j)) (sym bare))
+    (read ∙ ap (λ (j : Json). json_tokens j) (sym bare)) reads made)
 
 -- ---- the lines of its parts
 

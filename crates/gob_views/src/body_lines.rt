@@ -1,7 +1,7 @@
 //! The lines of a value that stands whole, straight from its bytes.
 
 ghost use Rattle.std.specs.Prelude.{◌≡◌, ◌<◌, ◌≤◌, ◌+◌, ◌++◌, ◌∷◌, [], ℕ, List, true, drop, length};
-ghost use Rattle.std.specs.Prelude.{IfOk, IfSome, MatchBool, None, OnOk, string_bytes};
+ghost use Rattle.std.specs.Prelude.{IfOk, IfSome, MatchBool, None, OnOk, false, string_bytes};
 ghost use Rattle.gob_num.specs.Unsigned.{IsUnsigned};
 ghost use Rattle.json.specs.Json.{Json};
 ghost use Rattle.json.specs.Lex.{tokens};
@@ -13,15 +13,16 @@ ghost use Rattle.gob_value.specs.Tree.{Tree};
 ghost use Rattle.gob_stream.specs.Bounds.{greatest_depth};
 ghost use Rattle.gob_plain.specs.Filled.{SaysValue};
 ghost use Rattle.gob_views.specs.Machine.Lines.{AreStyledLines, IsBodyLine};
-ghost use Rattle.gob_views.specs.Values.{IsStyleOf};
+ghost use Rattle.gob_views.specs.Values.{IsChosen, IsStyleOf};
+ghost use Rattle.gob_words.specs.Words.{text_of};
 ghost use Rattle.gob_views.specs.Machine.PartLines.{ArePartsIn, AreParts, ArePut, HasParts, HasWholeParts, PrintsEach};
 ghost use Rattle.gob_views.specs.Machine.PartLines.{SaysLines};
 
-use crate::value_line::{ValueLines, is_chosen, push_lines};
+use crate::value_line::{ValueLines, is_chosen, push_lines, show_line};
 use gob_go::is_filled_whole;
 use gob_json_writer::tape_of;
 use gob_num::{Memory, write_uint};
-use gob_plain::{HeldStyle, Style, filled_text_of, plain_text, plain_text_of};
+use gob_plain::{HeldStyle, Style, filled_text_of, plain_text, plain_text_of, push_filled_text};
 use gob_stream::Limits;
 use gob_types::{Kind, Shapes, Table, TypeId};
 use gob_value::{WholeParts, number_at, whole_elements, whole_entries};
@@ -86,18 +87,55 @@ pub(crate) fn push_body_line(
     if !is_chosen(of.lines.only, of.table, of.id) {
         return Ok(is_filled_whole(of.table, of.id, body, depth));
     }
+    if !of.lines.each && !of.lines.typed {
+        return push_alone(alloc, of, body, depth, text);
+    }
     if push_parts(alloc, of, body, depth, text)? {
         return Ok(true);
     }
-    let how = HeldStyle {
-        style: of.style,
-        tagged: of.lines.tagged,
-    };
+    let how = held_style(of);
     let Some(json) = filled_text_of(alloc, of.table, of.id, body, depth, how)? else {
         return Ok(false);
     };
     push_lines(alloc, json, of.table, of.id, of.lines, text)?;
     Ok(true)
+}
+
+/// Makes the line of the value of the type that the body is, which is chosen, if it is one no deeper than `depth` that
+/// defines nothing, where it stands on one line under no name, in `text`, which is empty. False says nothing of the
+/// body, and leaves `text` empty.
+fn push_alone(
+    alloc: Global,
+    of: &TypeLines<'_, '_, '_>,
+    body: &[u8],
+    depth: u64,
+    text: &mut Vec<u8>,
+) -> Result<bool, Memory>
+    requires depth { depth ≤ greatest_depth }
+    requires style { IsStyleOf of.now.lines of.now.style }
+    requires alone { of.now.lines.each ≡ false }
+    requires untyped { of.now.lines.typed ≡ false }
+    requires chosen { IsChosen (text_of of.now.lines.only) (types of.now.table.now) of.now.id }
+    requires empty { text.old.items ≡ [] }
+    ensures { IfOk result (λ made. MatchBool made (IsBodyLine of.now.lines (types of.now.table.now) of.now.id depth
+        body.now text.new.items) (text.new.items ≡ [])) }
+{
+    if !push_filled_text(of.table, of.id, body, depth, held_style(of), text)? {
+        return Ok(false);
+    }
+    show_line(alloc, text)?;
+    Ok(true)
+}
+
+/// How what interfaces hold is written in them.
+fn held_style<'s>(of: &TypeLines<'_, '_, 's>) -> HeldStyle<'s>
+    ensures style { result.style ≡ of.now.style }
+    ensures tagged { result.tagged ≡ of.now.lines.tagged }
+{
+    HeldStyle {
+        style: of.style,
+        tagged: of.lines.tagged,
+    }
 }
 
 /// Makes the lines of the parts of the value that the body is, if it is one no deeper than `depth` and each of its

@@ -20,7 +20,7 @@ use gob_plain::{Content, Filler, Fillers, NilTexts, Style, Taken, filled_text};
 use gob_types::{Kind, Shapes, Table, TypeId};
 use gob_words::{OpaqueKind, TypeKind, number_of};
 use json::{Scratch, Writer};
-use json_controls::push_shown;
+use json_controls::{push_shown, show};
 use json_parts::{Form, Parts, text_of};
 use std::alloc::{AllocError, Global};
 
@@ -271,5 +271,15 @@ fn push_line(json: &str, text: &mut Vec<u8>) -> Result<(), Memory>
         → tokens (shown_text json.now) ≡ json_tokens j }
 {
     push_shown(json.as_bytes(), text)?;
+    Ok(text.push(b'\n')?)
+}
+
+/// Makes a line of the JSON in `text`. No character of it controls how a terminal shows it.
+pub(crate) fn show_line(alloc: Global, text: &mut Vec<u8>) -> Result<(), Memory>
+    ensures shown { OnOk result (text.new.items ≡ shown_text text.old.items ++ 10 ∷ []) }
+    ensures reads { (j : Json) → text.old.items ≡ print (json_tokens j) → tokens text.old.items ≡ json_tokens j
+        → tokens (shown_text text.old.items) ≡ json_tokens j }
+{
+    show(alloc, text)?;
     Ok(text.push(b'\n')?)
 }

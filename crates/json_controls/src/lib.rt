@@ -10,4 +10,4 @@
 mod held;
 mod shown;
 
-pub use shown::push_shown;
+pub use shown::{push_shown, show};

@@ -9,7 +9,7 @@ ghost use Rattle.std.specs.Char.{digit_char};
 ghost use Rattle.json_controls.specs.Controls.{AreBelowControls, emitted, escape_of, held_bytes, shown_text};
 
 use crate::held::HeldBack;
-use std::alloc::AllocError;
+use std::alloc::{AllocError, Global};
 
 /// Appends JSON text with its control characters escaped. Where the text is the compact text of JSON, and a reader
 /// reads that JSON in it, a reader reads it in what is appended.
@@ -23,6 +23,22 @@ pub fn push_shown(text: &[u8], out: &mut Vec<u8>) -> Result<(), AllocError>
     }
     let held = push_known(text, out)?;
     push_held(held, out)
+}
+
+/// Escapes the control characters of JSON text in place: where it has none, it stays as it is and nothing is allocated.
+/// Where it is the compact text of JSON, and a reader reads that JSON in it, a reader reads it in what it becomes.
+pub fn show(alloc: Global, text: &mut Vec<u8>) -> Result<(), AllocError>
+    ensures shown { OnOk result (text.new.items ≡ shown_text text.old.items) }
+    ensures read { (j : Json) → text.old.items ≡ print (json_tokens j) → tokens text.old.items ≡ json_tokens j
+        → tokens (shown_text text.old.items) ≡ json_tokens j }
+{
+    if are_below_controls(text) {
+        return Ok(());
+    }
+    let mut shown = Vec::with_capacity(alloc, text.len())?;
+    push_shown(text, &mut shown)?;
+    *text = shown;
+    Ok(())
 }
 
 // Whether no byte is one of a character that is escaped. It looks at all: a loop that doesn't end early takes many

@@ -2,7 +2,7 @@
 
 use gob_go::{GoItem, GoSession};
 use gob_num::Memory;
-use gob_plain::{HeldStyle, Style, filled_text, filled_text_of};
+use gob_plain::{HeldStyle, Style, filled_text, filled_text_of, push_filled_text};
 use gob_stream::{Limits, Steps};
 use gob_test_rows::{bytes_of, part};
 use std::alloc::Global;
@@ -73,7 +73,8 @@ fn shown(alloc: Global, bytes: &[u8], column: usize) -> Result<String, Memory> {
     }
 }
 
-// The JSON of the value that stands whole at the front of the piece, from its bytes, if one does.
+// The JSON of the value that stands whole at the front of the piece, from its bytes, if one does. It is also made in
+// room that is there, where it is the same.
 fn text_of(
     alloc: Global,
     session: &GoSession,
@@ -87,7 +88,17 @@ fn text_of(
         style: style_of(column),
         tagged: column == 3,
     };
-    filled_text_of(alloc, session.table(), item.id, item.body, 9, how)
+    let json = filled_text_of(alloc, session.table(), item.id, item.body, 9, how)?;
+    let mut made = Vec::with_capacity(alloc, 1)?;
+    let is_made = push_filled_text(session.table(), item.id, item.body, 9, how, &mut made)?;
+    let same = match &json {
+        Some(json) => is_made && made.as_slice() == json.as_bytes(),
+        None => !is_made && made.is_empty(),
+    };
+    if !same {
+        return Err(Memory);
+    }
+    Ok(json)
 }
 
 // The JSON of the last value of the stream, from the bytes in which it stands whole; nothing where it has none so.

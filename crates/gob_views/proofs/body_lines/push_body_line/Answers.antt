@@ -35,7 +35,9 @@ returns-then-branch c =
 pub returns : goal.returns
 returns c =
     let none = rw c.if-branch.false at c.in_ok-push_parts.ensures in
-    let s = rw c.in-Some.is at c.in_ok-json.ensures in
+    let s =
+    rw c.held_style-how.ensures.tagged at (rw c.held_style-how.ensures.style at (rw c.in-Some.is at
+    c.in_ok-json.ensures)) in
     record {
       are_bytes = s.are_bytes;
       whole = s.whole;
