@@ -1,3 +1,4 @@
+pub mod Appended
 pub mod Asked
 pub mod Closing
 pub mod Exit

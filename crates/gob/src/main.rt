@@ -31,6 +31,7 @@ ghost use Rattle.gob_words.specs.Escaped.{IsUnobeyed};
 ghost use Rattle.gob.specs.Exit.{stop_status, ending_status, HasAnswered, EndsRun, EndsView, IsAnswered, IsSettled};
 ghost use Rattle.gob.specs.Exit.{IsQuietIfClosed, IsToldOnce, IsUnopened, seen_after, seen_of, unused};
 
+mod appended;
 mod asked;
 mod join;
 mod opening;
@@ -45,6 +46,7 @@ mod verify;
 mod way_on;
 mod write;
 
+use crate::appended::{in_input, leaves_out};
 use crate::asked::{Asked, asked_by};
 use crate::join::join;
 use crate::opening::open;
@@ -57,7 +59,9 @@ use crate::verdict::Verdict;
 use crate::verify::verify;
 use crate::way_on::with_way_on;
 use crate::write::{make, write};
+use gob_appended::Appended;
 use gob_salvage::{Salvaged, report};
+use gob_progress::Watched;
 use gob_stream::{Input, Output};
 use gob_tool::{ToolFault, run_order, status};
 use gob_views::run_view;
@@ -67,7 +71,7 @@ use gob_words::{
 use json_number_texts::LinesOut;
 use std::alloc::{AllocError, Global};
 use std::fs::File;
-use std::io::{BufWriter, ErrorKind, Read, Write};
+use std::io::{BufWriter, ErrorKind, Read, Stderr, Write};
 use std::process::ExitCode;
 use std::{env, fmt, io};
 
@@ -311,9 +315,29 @@ fn show_watched<R: Read + Drop, W: Write + Drop>(
     writer: BufWriter<Pipe<W>>,
     told: &mut Option<Salvaged>,
 ) -> Result<(), Exit> {
-    let mut input = Input::new(watched(rt, reader, size, view.progress));
+    let reader = watched(rt, reader, size, view.progress);
+    if leaves_out(view) {
+        return show_appended(rt, view, reader, writer, told);
+    }
+    let mut input = Input::new(reader);
     let ending = show_out(rt.alloc(), view, &mut input, writer, told).ending;
     input.into_inner().end();
+    ending
+}
+
+// Shows it without the definitions that are said again, and tells a refusal by the offsets of all that was read.
+fn show_appended<R: Read + Drop, W: Write + Drop>(
+    rt: &HostRuntime,
+    view: &View,
+    reader: Watched<'_, R, Stderr, HostRuntime>,
+    writer: BufWriter<Pipe<W>>,
+    told: &mut Option<Salvaged>,
+) -> Result<(), Exit> {
+    let mut input = Input::new(Appended::new(rt.alloc(), reader)?);
+    let ending = show_out(rt.alloc(), view, &mut input, writer, told).ending;
+    let appended = input.into_inner();
+    let ending = in_input(&appended, ending);
+    appended.into_inner().end();
     ending
 }
 
