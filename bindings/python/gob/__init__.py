@@ -450,7 +450,7 @@ def types(source: Source, *, piece: int = 1 << 20, **options: Any) -> dict[int, 
 
 
 def source(source: Source, *, limits: Limits | None = None) -> str:
-    """The types of a stream as Go source that compiles, in ASCII: what `gob types` prints.
+    """The types of a stream as Go source that compiles: what `gob types` prints.
 
     Where the bytes are refused, `Refused` has the source of the types before the fault as its one value. A file of
     which the path is given is mapped; the bytes of any other source are held in memory.

@@ -5,7 +5,7 @@ use crate::{Exit, opened_by_name};
 use gob_go_source::begins_as_source;
 use gob_stream::{Input, Limits, Output};
 use gob_tool::ToolFault;
-use gob_words::Making;
+use gob_words::{Making, escaped};
 use gob_write::{
     LinesFault, SourceTypesFault, Types, TypesFault, read_types, run_make, types_of_source,
 };
@@ -117,7 +117,10 @@ fn types_of(alloc: Global, text: &[u8], named: Option<&str>, lenient: bool) -> R
     match types_of_source(alloc, text, named, lenient) {
         Ok(types) => Ok(types),
         Err(SourceTypesFault::Memory) => Err(Exit::Run(ToolFault::Memory)),
-        Err(fault) => Err(Exit::Lines(fault.to_string(alloc)?)),
+        Err(fault) => {
+            let line = fault.to_string(alloc)?;
+            Err(Exit::Lines(escaped(alloc, line.as_str())?))
+        }
     }
 }
 

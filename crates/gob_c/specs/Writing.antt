@@ -46,12 +46,6 @@ told_of_putting (Err (putting.Refused r)) length = writer_told 1 (reason_number 
 told_of_putting (Err putting.Memory) length = writer_told 2 0 0 length
 told_of_putting (Err putting.Failed) length = writer_told 3 0 0 length
 
--- words were put into the room, as many as there is room for, and so many bytes they have
-pub record PutsWords (room room' : List ℕ) (count : ℕ) : Type 0 where
-  pub words : List ℕ
-  pub put : room' ≡ put_in words room
-  pub counted : count ≡ length words
-
 -- this is told of words that were put into the room
 pub record IsTold (told_with : ℕ → WriterTold) (room room' : List ℕ) (told : WriterTold) : Type 0 where
   pub words : List ℕ

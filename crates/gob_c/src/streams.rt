@@ -222,9 +222,9 @@ fn put_fault<F: fmt::Display>(alloc: Global, answer: &Result<(), F>, room: &mut 
     }
 }
 
-// Puts as much of what a fault says into the room as there is room for, with what a terminal obeys as `\u{..}`, and
-// answers how long it is. Without memory nothing is said.
-fn put_words<F: fmt::Display>(alloc: Global, fault: &F, room: &mut [u8]) -> u64
+/// Puts as much of what a fault says into the room as there is room for, with what a terminal obeys as `\u{..}`, and
+/// answers how long it is. Without memory nothing is said.
+pub(crate) fn put_words<F: fmt::Display>(alloc: Global, fault: &F, room: &mut [u8]) -> u64
     ensures { PutsUnobeyed room.old room.new result }
 {
     let mut words = String::new(alloc);

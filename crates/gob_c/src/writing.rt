@@ -4,10 +4,11 @@ ghost use Rattle.std.specs.Prelude.{◌≡◌, IfOk, IsSome, length};
 ghost use Rattle.gob_words.specs.Words.{text_of};
 ghost use Rattle.gob_plain_writer.specs.Opening.{IsWriterOfSource, IsWriterOfStream};
 ghost use Rattle.gob_c.specs.Held.{GoesOn};
-ghost use Rattle.gob_c.specs.Writing.{IsTold, OpensWriter, PutTold, PutsWords, TakesWaiting, named_by, standard};
+ghost use Rattle.gob_c.specs.Writing.{IsTold, OpensWriter, PutTold, TakesWaiting, named_by, standard};
 ghost use Rattle.gob_c.specs.Writing.{told_of_opening, told_of_putting, writer_told};
 
 use crate::parts::Parts;
+use crate::streams::put_words;
 use crate::texts::put_front;
 use crate::writer_handle::WriterHandle;
 use gob_plain_writer::{OpenFault, PlainWriter, PutFault, writer_of_source, writer_of_stream};
@@ -15,7 +16,7 @@ use gob_stream::Limits;
 use gob_write::TypesFault;
 use std::alloc::Global;
 use std::mem::replace;
-use std::{fmt, str};
+use std::str;
 
 /// What is told of a call of a writer.
 #[repr(C)]
@@ -175,17 +176,6 @@ impl WriterTold {
             length: put_words(alloc, fault, room),
         }
     }
-}
-
-// Puts as much of what a fault says into the room as there is room for, and answers how long it is. Without memory it
-// is cut.
-fn put_words<F: fmt::Display>(alloc: Global, fault: &F, room: &mut [u8]) -> u64
-    ensures { PutsWords room.old room.new result }
-{
-    let mut words = String::new(alloc);
-    let _ = write!(words, "{fault}");
-    put_front(words.as_bytes(), room);
-    words.len() as u64
 }
 
 // The name that the bytes are, of which no bytes mean that there is none.

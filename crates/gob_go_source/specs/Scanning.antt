@@ -1,7 +1,7 @@
 -- Where the pieces of source end. (The Go Programming Language Specification, Comments, Tokens, Identifiers, String
 -- literals.)
 use Rattle.std.specs.Prelude.{ℕ, ◌+◌, List, [], ◌∷◌, Bool, true, false, ◌==◌, ◌&&◌, ◌||◌, not, if◌then◌else◌}
-use Rattle.std.specs.Prelude.{Option, Some, None, option_map}
+use Rattle.std.specs.Prelude.{Option, Some, None, nat_le, option_map}
 use Rattle.std.specs.Char.{is_ascii_digit, is_ascii_alphabetic}
 use Rattle.gob_go_source.specs.declared.scan.Scan.{Scan}
 use Rattle.gob_go_source.specs.declared.scan.Scan.TheVariants as scan
@@ -11,9 +11,9 @@ use Rattle.gob_go_source.specs.declared.scan.Step.TheVariants as steps
 abbrev pub is_blank : ℕ → Bool
 is_blank b = (b == 32) || ((b == 9) || (b == 13))
 
--- a letter of ASCII or the underline
+-- a letter of ASCII, the underline, or a byte of a character beyond ASCII: these hold Go's other letters and digits
 abbrev pub is_letter_byte : ℕ → Bool
-is_letter_byte b = is_ascii_alphabetic b || (b == 95)
+is_letter_byte b = is_ascii_alphabetic b || ((b == 95) || nat_le 128 b)
 
 abbrev pub is_word_byte : ℕ → Bool
 is_word_byte b = is_letter_byte b || is_ascii_digit b

@@ -147,11 +147,12 @@ pub(crate) fn is_blank(byte: u8) -> bool
     byte == b' ' || byte == b'\t' || byte == b'\r'
 }
 
-/// Whether the byte is a letter of ASCII or the underline.
+/// Whether the byte is a letter of ASCII, the underline, or of a character beyond ASCII: these hold Go's other letters
+/// and digits.
 pub(crate) fn is_letter_byte(byte: u8) -> bool
     ensures { result ≡ is_letter_byte byte }
 {
-    byte.is_ascii_alphabetic() || byte == b'_'
+    byte.is_ascii_alphabetic() || byte == b'_' || byte >= 128
 }
 
 /// Whether the byte is such a one or a digit.

@@ -1,3 +1,4 @@
+pub mod CapitalLaws
 pub mod CodeLaws
 pub mod KeptLaws
 pub mod KindLaws

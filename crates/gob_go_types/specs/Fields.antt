@@ -1,8 +1,11 @@
 -- The fields of structs. (The Go Programming Language Specification, Exported identifiers and Struct types; Go's
 -- encoding/gob documentation, Types and Values: fields that aren't exported aren't sent.)
-use Rattle.std.specs.Prelude.{◌≡◌, ℕ, List, [], ◌∷◌, Bool, true, false, filter, map, Option, Some, None, slice_get}
+use Rattle.std.specs.Prelude.{◌≡◌, ℕ, List, [], ◌∷◌, Bool, true, false, ◌&&◌, filter, map, Option, Some, None}
+use Rattle.std.specs.Prelude.{slice_get}
 use Rattle.std.specs.Borrow.{Bor}
-use Rattle.std.specs.Char.{is_ascii_uppercase}
+use Rattle.std.specs.Str.{chars, is_utf8}
+use Rattle.ucd_category.specs.declared.GeneralCategory.TheVariants as category
+use Rattle.ucd_category.specs.GeneralCategory.{general_category, general_category_eq}
 use Rattle.gob_types.specs.declared.id.TypeId.{TypeId}
 use Rattle.gob_types.specs.declared.kind.Field.{Field}
 use Rattle.gob_go_source.specs.declared.declarations.GoSource.{GoSource}
@@ -10,10 +13,17 @@ use Rattle.gob_go_source.specs.declared.go_type.GoField.{GoField}
 use Rattle.gob_go_source.specs.declared.go_type.GoType.{GoType}
 use Rattle.gob_go_source.specs.declared.go_type.GoType.TheVariants as go
 
--- a name that begins with a capital is seen in other packages
+-- an upper-case letter of Unicode
+abbrev pub is_capital : ℕ → Bool
+is_capital c = general_category_eq (general_category c) category.UppercaseLetter
+
+abbrev pub begins_with_capital : List ℕ → Bool
+begins_with_capital [] = false
+begins_with_capital (c ∷ cs) = is_capital c
+
+-- a name that begins with one is seen in other packages
 abbrev pub is_exported : List ℕ → Bool
-is_exported [] = false
-is_exported (b ∷ bs) = is_ascii_uppercase b
+is_exported name = is_utf8 name && begins_with_capital (chars name)
 
 abbrev pub exported : List (Bor (List ℕ)) → List (Bor (List ℕ))
 exported ws = filter (λ w. is_exported w.now) ws

@@ -1,14 +1,16 @@
 //! The fields that gob sends.
 
-ghost use Rattle.std.specs.Prelude.{◌≡◌, ◌∷◌, ◌++◌, [], IfOk, OnOk, Some};
-ghost use Rattle.gob_go_types.specs.Fields.{EmbeddedName, SendsNames, are_none, exported, fields_of, is_exported};
-ghost use Rattle.gob_go_types.specs.Fields.{last_name};
+ghost use Rattle.std.specs.Prelude.{◌≡◌, ◌∷◌, ◌++◌, [], IfOk, OnOk, Some, chars};
+ghost use Rattle.gob_go_types.specs.Fields.{EmbeddedName, SendsNames, are_none, begins_with_capital, exported};
+ghost use Rattle.gob_go_types.specs.Fields.{fields_of, is_capital, is_exported, last_name};
 
 use crate::code::Code;
 use crate::fault::TypesFault;
 use gob_go_source::{GoField, GoType};
 use gob_types::{Field, Name, TypeId};
 use std::alloc::{AllocError, Global};
+use std::str;
+use ucd_category::GeneralCategory;
 
 /// The names of the fields of a line that other packages see: gob sends no others.
 pub(crate) fn exported_names<'a>(
@@ -51,10 +53,27 @@ fn push_exported<'a>(name: &'a [u8], names: &mut Vec<&'a [u8]>) -> Result<(), Al
 fn is_exported(name: &[u8]) -> bool
     ensures { result ≡ is_exported name.now }
 {
-    match name {
-        [first, ..] => first.is_ascii_uppercase(),
-        [] => false,
+    match str::from_utf8(name) {
+        Ok(text) => begins_with_capital(text),
+        Err(_) => false,
     }
+}
+
+// Whether the first character of the text is an upper-case letter.
+fn begins_with_capital(text: &str) -> bool
+    ensures { result ≡ begins_with_capital (chars text.now) }
+{
+    match text.chars().next() {
+        Some(first) => is_capital(first),
+        None => false,
+    }
+}
+
+// Whether the character is an upper-case letter of Unicode.
+fn is_capital(character: char) -> bool
+    ensures { result ≡ is_capital character }
+{
+    GeneralCategory::for_char(character).number() == GeneralCategory::UppercaseLetter.number()
 }
 
 // The name of a field that is embedded as the type at a place, or as a pointer to one.

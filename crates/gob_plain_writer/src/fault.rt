@@ -11,8 +11,8 @@ use gob_write::{SourceTypesFault, TypesFault};
 use std::alloc::Global;
 use std::fmt;
 
-/// Why there is no writer. Display writes the line that `gob make` prints, without the line feed and with no character
-/// that a terminal obeys.
+/// Why there is no writer. Display writes the line that `gob make` prints, without the line feed. A name of the source
+/// that stands there may have characters that a terminal obeys, which `gob make` escapes.
 #[derive(Clone, Copy)]
 pub enum OpenFault<'a> {
     /// The Go source gives no types.

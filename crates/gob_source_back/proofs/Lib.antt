@@ -1,5 +1,6 @@
 mod DifferLaws
 mod GrammarLaws
+mod IdentifierLaws
 mod LibraryLaws
 mod NameLaws
 mod Named

@@ -1,6 +1,6 @@
 -- The types of Go's library that encode themselves: their names are words, and source that names them is known.
 use Rattle.std.proofs.Common.{◌≡◌, ℕ, List, [], ◌∷◌, Bool, true, false, refl, ap, sym, subst, codes, Some}
-use Rattle.std.proofs.Common.{◌||◌, if◌then◌else◌}
+use Rattle.std.proofs.Common.{◌&&◌, ◌||◌, if◌then◌else◌, not}
 use Rattle.std.proofs.lemmas.Slice.Eq.{bytes_eq-Decides}
 use Rattle.std.specs.List.{list_all}
 use Rattle.std.specs.Prelude.{IsSome, Option}
@@ -12,8 +12,9 @@ use Rattle.gob_types.specs.declared.kind.Marshal.{Marshal}
 use Rattle.gob_types.specs.declared.kind.Marshal.TheVariants as marshal
 use Rattle.gob_types.specs.declared.kind.Shape.{Shape}
 use Rattle.gob_source.specs.Library.{is_one_of, kind_package, package_name, package_of, shape_package}
+use Rattle.gob_source.specs.Names.{is_reserved}
 use Rattle.gob_go_types.specs.Library.{known_of}
-use Rattle.gob_source_back.specs.Alike.{is_plain_name}
+use Rattle.gob_source_back.proofs.NameLaws.{free_word, is_word_name}
 use Rattle.gob_source_back.proofs.Named.{item_of, known_opaque}
 use Rattle.gob_source_back.proofs.TypeLaws.{IsOfLibrary}
 use Rattle.gob_source_back.proofs.WordLaws.{both_true, word_text}
@@ -24,24 +25,37 @@ Package = item_of (package_of [] marshal.Text)
 
 -- ---- names among words
 
-one_of_plain : (name : List ℕ) (words : List (List ℕ)) → list_all is_plain_name words ≡ true
-    → is_one_of name words ≡ true → is_plain_name name ≡ true
-one_of_plain name [] all one = cc
-one_of_plain name (w ∷ ws) all one = by (bytes_eq w name) refl one (λ e. one_of_plain name ws h.1 e)
+-- a word for which Go has no other use
+abbrev is_free_name : List ℕ → Bool
+is_free_name name = is_word_name name && not (is_reserved name)
+
+free_is : (name : List ℕ) → is_free_name name ≡ true → IsWordText name
+free_is name h =
+    let both = both_true (is_word_name name) (not (is_reserved name)) h in
+    free_word name both.0 (unreserved (is_reserved name) both.1)
   where
-    h : (is_plain_name w ≡ true) × (list_all is_plain_name ws ≡ true)
-    h = both_true (is_plain_name w) (list_all is_plain_name ws) all
+    unreserved : (b : Bool) → not b ≡ true → b ≡ false
+    unreserved false e = refl
+    unreserved true e = cc
+
+one_of_free : (name : List ℕ) (words : List (List ℕ)) → list_all is_free_name words ≡ true
+    → is_one_of name words ≡ true → IsWordText name
+one_of_free name [] all one = cc
+one_of_free name (w ∷ ws) all one = by (bytes_eq w name) refl one (λ e. one_of_free name ws h.1 e)
+  where
+    h : (is_free_name w ≡ true) × (list_all is_free_name ws ≡ true)
+    h = both_true (is_free_name w) (list_all is_free_name ws) all
 
     by : (b : Bool) → bytes_eq w name ≡ b → (b || is_one_of name ws) ≡ true
-        → (is_one_of name ws ≡ true → is_plain_name name ≡ true) → is_plain_name name ≡ true
-    by true same one go = subst (λ (l : List ℕ). is_plain_name l ≡ true) ((bytes_eq-Decides w name).0 same) h.0
+        → (is_one_of name ws ≡ true → IsWordText name) → IsWordText name
+    by true same one go = subst (λ (l : List ℕ). IsWordText l) ((bytes_eq-Decides w name).0 same) (free_is w h.0)
     by false same one go = go one
 
 -- ---- packages
 
 -- the type of the name is known as one of the package that encodes itself so
 pub record IsKnown (name : List ℕ) (m : Marshal) (q : Package) : Type 0 where
-  pub plain : is_plain_name name ≡ true
+  pub type_word : IsWordText name
   pub package_word : IsWordText (package_name q)
   pub known : known_of (package_name q) name ≡ known_opaque m
 
@@ -51,10 +65,10 @@ chosen true x y q e f g = f refl e
 chosen false x y q e f g = g refl e
 
 known_by : {name : List ℕ} {m : Marshal} {q : Package} (owner : List ℕ) (words : List (List ℕ))
-    → list_all is_plain_name words ≡ true → IsWordText owner → is_one_of name words ≡ true → owner ≡ package_name q
+    → list_all is_free_name words ≡ true → IsWordText owner → is_one_of name words ≡ true → owner ≡ package_name q
     → known_of owner name ≡ known_opaque m → IsKnown name m q
 known_by {name = name} {m = m} owner words all word one is known = record {
-  plain = one_of_plain name words all one;
+  type_word = one_of_free name words all one;
   package_word = subst (λ (l : List ℕ). IsWordText l) is word;
   known = subst (λ (l : List ℕ). known_of l name ≡ known_opaque m) is known;
 }
@@ -96,7 +110,7 @@ of_library name marshal.Text q e = cc
 -- a type of the library, of a package of this name
 pub record IsShapeOf (s : Shape) (q : Package) : Type 0 where
   pub of : IsOfLibrary s (package_name q)
-  pub plain : is_plain_name s.name ≡ true
+  pub type_word : IsWordText s.name
   pub package_word : IsWordText (package_name q)
 
 pub shape_of_library : (s : Shape) (q : Package) → shape_package s ≡ Some q → IsShapeOf s q
@@ -109,7 +123,7 @@ shape_of_library s q e = by s.kind refl e
     by (kind.Opaque m) is f =
         let known = of_library s.name m q f in record {
           of = record { marshal = m; is = is; some = some; known = known.known };
-          plain = known.plain;
+          type_word = known.type_word;
           package_word = known.package_word;
         }
     by (kind.Basic b) is f = cc

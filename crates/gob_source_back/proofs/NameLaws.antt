@@ -14,7 +14,6 @@ use Rattle.gob_go_source.specs.declared.token.Note.{Note}
 use Rattle.gob_go_source.specs.declared.token.Token.TheVariants as token
 use Rattle.gob_go_source.specs.Lexing.{keyword, other_keywords}
 use Rattle.gob_go_source.specs.Scanning.{is_letter_byte, is_word_byte}
-use Rattle.gob_source_back.specs.Alike.{is_word_name}
 use Rattle.gob_source_back.proofs.WordLaws.{are_digits, both_true, word_text}
 use Rattle.gob_source_back.proofs.Written.{IsWordText}
 
@@ -131,6 +130,11 @@ no_keyword w free n =
     ∙ skipped _ _ _ (unlike (codes "struct") w refl free) ∙ skipped _ _ _ (unlike (codes "map") w refl free)
     ∙ skipped _ _ _ (unlike (codes "interface") w refl free) ∙ skipped _ _ _ (unlike (codes "chan") w refl free)
     ∙ skipped _ _ _ (none_of other_keywords w refl free))
+
+-- letters and digits, no digit first
+abbrev pub is_word_name : List ℕ → Bool
+is_word_name [] = false
+is_word_name (b ∷ bs) = is_letter_byte b && list_all is_word_byte bs
 
 -- such a name is a word
 pub free_word : (w : List ℕ) → is_word_name w ≡ true → is_reserved w ≡ false → IsWordText w

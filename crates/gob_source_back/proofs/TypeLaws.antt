@@ -40,7 +40,7 @@ use Rattle.gob_go_types.specs.Types.{no_lines, none_seen, nothing_sent, of_parts
 use Rattle.gob_go_types.specs.Types as types
 use Rattle.gob_source_back.specs.Alike.{AreAlike, HasAlikeKind, IsAlike, IsBasicId, IsWritten, alike_arrays}
 use Rattle.gob_source_back.specs.Alike.{alike_field, alike_maps, alike_slices, alike_structs, alike_types, its_own}
-use Rattle.gob_source_back.specs.Alike.{no_more, without_name, IsAsked, is_plain_name, not_looked, same_basic}
+use Rattle.gob_source_back.specs.Alike.{no_more, without_name, IsAsked, not_looked, same_basic}
 use Rattle.gob_source_back.specs.Alike.{the_first, the_named, alike_opaques, of_library}
 use Rattle.gob_source_back.proofs.Named.{Sight, Step, known_opaque, sight_basic, sight_opaque, sight_own, step_at}
 use Rattle.gob_source_back.proofs.Named.{step_on}
@@ -50,7 +50,6 @@ use Rattle.gob_source_back.proofs.Written.{Struct, Written, at_interface, at_poi
 use Rattle.gob_source_back.proofs.Written.{more_declared, no_line, none_declared, one_line, pointer, slice, word}
 use Rattle.gob_source_back.proofs.Written.{another, another_stands, at_qualified, is_another, qualified}
 use Rattle.gob_source_back.proofs.NameLaws.{no_name, own_free}
-use Rattle.gob_source_back.proofs.WordLaws.{plain_exported}
 
 -- ---- what is written of types
 
@@ -91,7 +90,7 @@ mutual
 
 pub data LinesOf (T : Table) (ts : List TypeId) : List Field → List Line → Type 0 where
   no_line_of : LinesOf T ts [] []
-  line_of : {f : Field} {fs : List Field} {l : Line} {ls : List Line} → l.name ≡ f.name → is_plain_name f.name ≡ true
+  line_of : {f : Field} {fs : List Field} {l : Line} {ls : List Line} → l.name ≡ f.name → is_exported f.name ≡ true
       → TypeOf T ts f.id l.type → LinesOf T ts fs ls → LinesOf T ts (f ∷ fs) (l ∷ ls)
 
 -- a declared type of this kind is written so
@@ -718,8 +717,8 @@ module _ (T : Table) (ts : List TypeId) (s : GoSource) (xs : List Struct)
         → AreAlike D T ts depth fs gs
     fields_alike depth go no_line no_line_of none_have = no_more
     fields_alike depth go {gs = gs} (one_line {f = l} {b = b} names named stands more)
-        (line_of {f = g} {fs = others} name plain type rest) (one_has {fs = fs} line has is) =
-        let one = line_is l b line names (ap is_exported (named ∙ name) ∙ plain_exported g.name plain) stands type in
+        (line_of {f = g} {fs = others} name shown type rest) (one_has {fs = fs} line has is) =
+        let one = line_is l b line names (ap is_exported (named ∙ name) ∙ shown) stands type in
         subst (λ (x : List Field). AreAlike D T ts depth x (g ∷ others))
         (sym (is ∙ ap (λ (x : List Field). x ++ fs) one.is))
         (alike_field (named ∙ name) (go l.of _ g.id one.id stands type one.has) (fields_alike depth go more rest has))

@@ -1,18 +1,16 @@
 -- Words that source has, and the fronts of texts.
 use Rattle.std.proofs.Common.{subst, sym, ◌≡◌, ◌∙◌, ℕ, zero, suc, ◌+◌, ◌<◌, ◌≤◌, ◌%◌, ◌^◌, List, [], ◌∷◌, ◌++◌}
 use Rattle.std.proofs.Common.{Bool, true, false, refl, ap, arith, codes, decimal, drop, length, replicate, Some, None}
-use Rattle.std.proofs.Common.{◌&&◌, nat_eq, nat_le, ◌==◌}
+use Rattle.std.proofs.Common.{◌&&◌, nat_eq, ◌==◌}
 use Rattle.std.proofs.lemmas.Bool.Decides.{nat_tests}
 use Rattle.std.proofs.lemmas.Fmt.{decimal_by_steps, decimal_nonempty}
-use Rattle.std.specs.Char.{is_ascii_digit, is_ascii_uppercase}
+use Rattle.std.specs.Char.{is_ascii_digit}
 use Rattle.std.specs.List.{list_all, starts_with}
 use Rattle.std.specs.Prelude.{Option}
 use Rattle.gob_go_source.specs.declared.token.Note.{Note}
 use Rattle.gob_go_source.specs.Lexing.{front, keyword, of_length, piece_of, scan_of}
 use Rattle.gob_go_source.specs.Notes.{marshal_of}
 use Rattle.gob_go_source.specs.Scanning.{end_of, is_blank, is_letter_byte, is_word_byte}
-use Rattle.gob_go_types.specs.Fields.{is_exported}
-use Rattle.gob_source_back.specs.Alike.{is_plain_name}
 use Rattle.gob_types.specs.declared.kind.Marshal.{Marshal}
 use Rattle.gob_types.specs.declared.kind.Marshal.TheVariants as marshal
 use Rattle.gob_source.specs.Source.{marshal_text}
@@ -79,41 +77,6 @@ word_text b bs letter all none = record {
         ∙ ap (λ (p : Piece). of_length p 1 (end_of (scan_of b p) (bs ++ c ∷ rest))) (letter_piece b letter)
         ∙ ap (of_length word_piece 1) (end_word bs c rest all e)
         ∙ ap (λ (k : ℕ). Some (record { piece = word_piece; len = k })) (omega arith)
-
-differs : (k b : ℕ) → is_ascii_uppercase b ≡ true → nat_le 97 k ≡ true → nat_eq k b ≡ false
-differs k b h small = grind (arith, nat_tests)
-
-no_keyword : (b : ℕ) (bs : List ℕ) → is_ascii_uppercase b ≡ true → (n : Note) → keyword n (b ∷ bs) ≡ None
-no_keyword b bs h n =
-    simp (
-      differs 98 b h refl,
-      differs 99 b h refl,
-      differs 100 b h refl,
-      differs 101 b h refl,
-      differs 102 b h refl,
-      differs 103 b h refl,
-      differs 105 b h refl,
-      differs 109 b h refl,
-      differs 112 b h refl,
-      differs 114 b h refl,
-      differs 115 b h refl,
-      differs 116 b h refl,
-      differs 118 b h refl,
-    ) refl
-
--- a plain name is a word
-pub plain_word : (w : List ℕ) → is_plain_name w ≡ true → IsWordText w
-plain_word [] h = cc
-plain_word (b ∷ bs) h =
-    let exported = both_true (is_ascii_uppercase b) (list_all is_word_byte (b ∷ bs)) h in
-    let all = both_true (is_word_byte b) (list_all is_word_byte bs) exported.1 in
-    word_text b bs (letter b exported.0) all.1 (no_keyword b bs exported.0)
-  where
-    letter : (b : ℕ) → is_ascii_uppercase b ≡ true → is_letter_byte b ≡ true
-    letter b h = grind (arith, nat_tests)
-
-pub plain_exported : (w : List ℕ) → is_plain_name w ≡ true → is_exported w ≡ true
-plain_exported w h = (both_true (is_exported w) (list_all is_word_byte w) h).0
 
 -- ---- signs and spaces
 
@@ -247,6 +210,18 @@ quiet_front c rest q =
 
 -- ---- numbers
 
+digit_words : (ds : List ℕ) → list_all is_ascii_digit ds ≡ true → list_all is_word_byte ds ≡ true
+digit_words [] all = refl
+digit_words (d ∷ ds) all =
+    let h = both_true (is_ascii_digit d) (list_all is_ascii_digit ds) all in
+    rw (of_word d h.0, digit_words ds h.1) refl
+  where
+    of_word : (d : ℕ) → is_ascii_digit d ≡ true → is_word_byte d ≡ true
+    of_word d h = grind (arith, nat_tests)
+
+pub number_words : (n : ℕ) → n < 2 ^ 64 → list_all is_word_byte (decimal n) ≡ true
+number_words n small = digit_words (decimal n) (are_digits n small)
+
 digits_front : (ds : List ℕ) (c : ℕ) (rest : List ℕ) → 0 < length ds → list_all is_ascii_digit ds ≡ true
     → is_word_byte c ≡ false
     → front (ds ++ c ∷ rest) ≡ Some (record { piece = number_piece; len = length ds })
@@ -255,7 +230,7 @@ digits_front (d ∷ ds) c rest some all e =
     let h = both_true (is_ascii_digit d) (list_all is_ascii_digit ds) all in
     single_front d (ds ++ c ∷ rest) (slash d h.0) (less d h.0)
     ∙ ap (λ (p : Piece). of_length p 1 (end_of (scan_of d p) (ds ++ c ∷ rest))) (digit_piece d h.0)
-    ∙ ap (of_length number_piece 1) (end_word ds c rest (words ds h.1) e)
+    ∙ ap (of_length number_piece 1) (end_word ds c rest (digit_words ds h.1) e)
     ∙ ap (λ (k : ℕ). Some (record { piece = number_piece; len = k })) (omega arith)
   where
     slash : (d : ℕ) → is_ascii_digit d ≡ true → (d == 47) ≡ false
@@ -272,15 +247,6 @@ digits_front (d ∷ ds) c rest some all e =
 
     digit_piece : (d : ℕ) → is_ascii_digit d ≡ true → piece_of d ≡ number_piece
     digit_piece d h = rw (no_blank d h, no_end d h, h) refl
-
-    of_word : (d : ℕ) → is_ascii_digit d ≡ true → is_word_byte d ≡ true
-    of_word d h = grind (arith, nat_tests)
-
-    words : (ds : List ℕ) → list_all is_ascii_digit ds ≡ true → list_all is_word_byte ds ≡ true
-    words [] all = refl
-    words (d ∷ ds) all =
-        let h = both_true (is_ascii_digit d) (list_all is_ascii_digit ds) all in
-        rw (of_word d h.0, words ds h.1) refl
 
 pub number_front : (n : ℕ) (rest : List ℕ) → n < 2 ^ 64
     → front (decimal n ++ 93 ∷ rest) ≡ Some (record { piece = number_piece; len = length (decimal n) })

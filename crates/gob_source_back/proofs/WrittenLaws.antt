@@ -24,7 +24,7 @@ use Rattle.gob_source_back.specs.Alike.{a_slice, a_struct, a_written_part, an_ar
 use Rattle.gob_source_back.specs.Alike.{none_is_written}
 use Rattle.gob_source_back.specs.Alike.{one_field, one_is_written}
 use Rattle.gob_source.specs.Registered.{Naming, names_of, names_text}
-use Rattle.gob_source_back.proofs.NameLaws.{free_word, own_free}
+use Rattle.gob_source_back.proofs.IdentifierLaws.{declared_word, own_word}
 use Rattle.gob_source_back.proofs.NoteLaws.{named_line, names_are, names_quiet, no_basic, remarks, remarks_are}
 use Rattle.gob_source_back.proofs.Written.{AreQuiet, remarks_text, Body, BodyHasWords, HasWords, IsWordText, Line}
 use Rattle.gob_source_back.proofs.Written.{LinesHaveWords, Struct, Written, array_of, body_then, fields, interface}
@@ -37,7 +37,7 @@ use Rattle.gob_source_back.proofs.TypeLaws.{fields_of_body, line_of, map_parts, 
 use Rattle.gob_source_back.proofs.TypeLaws.{of_basic, of_byte, of_its_parts, of_name, of_pointed, parts_of_body}
 use Rattle.gob_source_back.proofs.TypeLaws.{another_of_body, kind_marshal, of_package, same_id, slice_parts}
 use Rattle.gob_source_back.proofs.TypeLaws.{string_of_body, struct_of}
-use Rattle.gob_source_back.proofs.WordLaws.{plain_word, word_text}
+use Rattle.gob_source_back.proofs.WordLaws.{word_text}
 
 -- ---- types of fields
 
@@ -143,14 +143,14 @@ used_is_text T ts u x among = by (shape_package x.shape) refl
     by None e = record {
       type = word own;
       of = of_name x among refl;
-      words = free_word own x.word (own_free T ts u x.shape.name x.small);
+      words = own_word T ts u x.shape.name x.small;
       is = λ rest. refl;
     }
     by (Some q) e =
         let lib = shape_of_library x.shape q e in record {
           type = qualified (package_name q) x.shape.name;
           of = of_package x lib.of refl;
-          words = (lib.package_word, plain_word x.shape.name lib.plain);
+          words = (lib.package_word, lib.type_word);
           is = λ rest. append_assoc (package_name q) (46 ∷ x.shape.name) rest;
         }
 
@@ -291,15 +291,15 @@ fields_text_is of w structs no_fields = record {
   text = λ rest. refl;
   no_comments = refl;
 }
-fields_text_is {T = T} {ts = ts} of w structs (one_field {seen = seen} {fs = fs} {f = f} declared plain type more) =
+fields_text_is {T = T} {ts = ts} of w structs (one_field {seen = seen} {fs = fs} {f = f} declared shown type more) =
     let others = fields_text_is of w structs more in
     let base = type_is_text 3 T ts of f.id structs type in
     let t = pointed (comes_by ts of f.id && is_holder (shape_of T f.id)) base in
     let pad = w - name_width f.name in
     record {
       lines = record { name = f.name; pad = pad; type = t.type } ∷ others.lines;
-      are = line_of refl plain t.of others.are;
-      words = more_words (plain_word f.name plain) t.words others.words;
+      are = line_of refl shown t.of others.are;
+      words = more_words (declared_word seen f declared) t.words others.words;
       text = λ rest.
           ap (λ (b : Bool). ((if b then field_line T ts of w f else []) ++ declared_text T ts of w (seen ++ f ∷ []) fs)
           ++ rest) declared
@@ -364,7 +364,7 @@ opaque_is_text T ts m (Some q) name e =
     let lib = of_library name m q e in record {
       body = another (qualified (package_name q) name);
       of = another_of_body;
-      words = (lib.package_word, plain_word name lib.plain);
+      words = (lib.package_word, lib.type_word);
       is = λ rest. another_text (package_name q) name rest;
     }
 opaque_is_text T ts m None name e = record {
@@ -454,7 +454,7 @@ struct_text_is {T = T} {ts = ts} ps u all among x =
       };
       of = record { is = x; among = among; named = refl; marshal = refl; body = b.of };
       small = x.small;
-      named = free_word own x.word (own_free T ts u x.shape.name x.small);
+      named = own_word T ts u x.shape.name x.small;
       words = b.words;
       quiet = names_quiet names;
       text = λ rest.

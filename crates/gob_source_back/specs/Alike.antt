@@ -1,8 +1,7 @@
 -- Types of a stream, and the types that reading their Go source gives: structs, slices, arrays, maps, basic types and
 -- types that encode themselves. (docs/FORMAT.md, Types as source: this project's own.)
-use Rattle.std.specs.Prelude.{◌≡◌, ℕ, zero, suc, ◌≤◌, ◌<◌, ◌^◌, List, [], ◌∷◌, ◌++◌, Bool, true, ◌&&◌, Option}
-use Rattle.std.specs.Prelude.{IsSome, None, Some, false}
-use Rattle.std.specs.List.{list_all}
+use Rattle.std.specs.Prelude.{◌≡◌, ℕ, zero, suc, ◌≤◌, ◌<◌, ◌^◌, List, [], ◌∷◌, ◌++◌, true, Option}
+use Rattle.std.specs.Prelude.{IsSome, None, Some}
 use Rattle.gob_types.specs.declared.id.TypeId.{TypeId}
 use Rattle.gob_types.specs.declared.kind.Field.{Field}
 use Rattle.gob_types.specs.declared.kind.Kind.{Kind}
@@ -16,22 +15,12 @@ use Rattle.gob_source.specs.Names.{own_name}
 use Rattle.gob_source.specs.Registered.{Naming}
 use Rattle.gob_source.specs.Source.{has_parts, is_among, is_declared, named_source}
 use Rattle.gob_go_source.specs.declared.declarations.GoSource.{GoSource}
-use Rattle.gob_go_source.specs.Scanning.{is_letter_byte, is_word_byte}
 use Rattle.gob_go_source.specs.Source.{SaysText}
 use Rattle.gob_go_types.specs.declared.numbers.Defined.{Defined}
 use Rattle.gob_go_types.specs.Fields.{is_exported}
 use Rattle.gob_go_types.specs.Types.{AreTypesOf, Has, defined}
 
 -- ---- what is written
-
--- the name begins with a capital of ASCII, and goes on with letters and digits of ASCII and underlines
-abbrev pub is_plain_name : List ℕ → Bool
-is_plain_name name = is_exported name && list_all is_word_byte name
-
--- the name has letters and digits of ASCII and underlines, and begins with no digit: source is read by such words
-abbrev pub is_word_name : List ℕ → Bool
-is_word_name [] = false
-is_word_name (b ∷ bs) = is_letter_byte b && list_all is_word_byte bs
 
 -- one of the types that each stream has, and no type of a description
 abbrev pub IsBasicId : TypeId → Type 0
@@ -42,10 +31,10 @@ pub data IsPart (ts : List TypeId) (t : TypeId) : Type 0 where
   a_basic_part : IsBasicId t → IsPart ts t
   a_written_part : is_among t ts ≡ true → IsPart ts t
 
--- behind the fields that were seen, each of these is declared, under a plain name
+-- behind the fields that were seen, each of these is declared, and its name begins with a capital
 pub data AreFields (ts : List TypeId) : (seen rest : List Field) → Type 0 where
   no_fields : {seen : List Field} → AreFields ts seen []
-  one_field : {seen fs : List Field} {f : Field} → is_declared seen f ≡ true → is_plain_name f.name ≡ true
+  one_field : {seen fs : List Field} {f : Field} → is_declared seen f ≡ true → is_exported f.name ≡ true
       → IsPart ts f.id → AreFields ts (seen ++ f ∷ []) fs → AreFields ts seen (f ∷ fs)
 
 -- what a type is, of parts that are basic or among these types. One that encodes itself, of Go's library or not, has no
@@ -57,13 +46,12 @@ pub data IsWrittenKind (ts : List TypeId) : Kind → Type 0 where
   a_map : {k e : TypeId} → IsPart ts k → IsPart ts e → IsWrittenKind ts (kind.Map k e)
   an_opaque : {m : Marshal} → IsWrittenKind ts (kind.Opaque m)
 
--- a type with the id of a definition, whose name in the source is a word
+-- a type with the id of a definition
 pub record IsWritten (T : Table) (ts : List TypeId) (t : TypeId) : Type 0 where
   pub shape : Shape
   pub has : shape_of T t ≡ Some shape
   pub own : 8 < t.0
   pub small : t.0 < 2 ^ 64
-  pub word : is_word_name (own_name T ts t shape.name) ≡ true
   pub kinds : IsWrittenKind ts shape.kind
 
 -- each of these is one

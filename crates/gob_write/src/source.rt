@@ -86,10 +86,16 @@ fn words(fault: DeclaredFault<'_>) -> &'static str {
     }
 }
 
-// The first bytes of a name, which are ASCII.
+// The first characters of a name, which have no more bytes than are shown.
 fn front(name: &[u8]) -> &str {
     let shown = name.get(..LONGEST_SHOWN).unwrap_or(name);
-    str::from_utf8(shown).unwrap_or("")
+    match str::from_utf8(shown) {
+        Ok(text) => text,
+        Err(error) => {
+            let whole = shown.get(..error.valid_up_to()).unwrap_or(b"".as_slice());
+            str::from_utf8(whole).unwrap_or("")
+        }
+    }
 }
 
 impl<'a> From<SourceFault> for SourceTypesFault<'a> {

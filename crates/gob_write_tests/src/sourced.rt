@@ -8,7 +8,7 @@ use std::alloc::Global;
 use std::test::*;
 
 // Source, the word for the type or nothing, JSON, and the stream that is due.
-const STREAMS: [(&str, &str, &str, &str); 5] = [
+const STREAMS: [(&str, &str, &str, &str); 6] = [
     (
         "type Point struct { X, Y int }",
         "",
@@ -26,6 +26,13 @@ const STREAMS: [(&str, &str, &str, &str); 5] = [
         "Point",
         "{}",
         "POINT 03 ff 82 00",
+    ),
+    (
+        "type Größe struct { Länge int; 世界 int }",
+        "",
+        "{\"Länge\":3}",
+        "20 ff 81 03 01 01 07 47 72 c3 b6 c3 9f 65 01 ff 82 00 01 01 01 06 4c c3 a4 6e 67 65 01 04 00 00 00 \
+         05 ff 82 01 06 00",
     ),
     ("type Small int", "", "3", "03 04 00 06"),
     (
