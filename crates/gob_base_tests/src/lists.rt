@@ -1,7 +1,7 @@
 //! The lists of rows, and who judges the rows of each.
 use crate::{descriptions, numbers, tables, values, whole};
 use gob_num::Memory;
-use gob_test_rows::{Row, part, table_of};
+use gob_test_rows::{Judge, List, Row, part, wrong_row, wrong_row_wanting};
 use gob_types::Table;
 use std::alloc::Global;
 
@@ -24,11 +24,8 @@ enum Judged {
     Definable,
 }
 
-// A list of rows, which stand behind a table of these types.
-struct List(Judged, &'static str, &'static str);
-
 // What is judged, under a table of which types, and the rows.
-static LISTS: [List; 14] = [
+static LISTS: [List<Judged>; 14] = [
     List(Judged::Number, "", numbers::SPELLED),
     List(Judged::NoNumber, "", numbers::NOT_WHOLE),
     List(Judged::Place, "", numbers::PLACES),
@@ -46,10 +43,15 @@ static LISTS: [List; 14] = [
 ];
 
 // Those of which each allocation is refused.
-static WANTING: [List; 2] = [
+static WANTING: [List<Judged>; 2] = [
     List(Judged::Number, "", numbers::SPELLED),
     List(Judged::Description, "", descriptions::SHAPE),
 ];
+
+// The lists, named in one function, since a table costs the proof of each that names it.
+fn lists() -> &'static [List<Judged>; 14] {
+    &LISTS
+}
 
 // Whether the row is as it says.
 fn is_as_said(
@@ -78,49 +80,22 @@ fn is_as_said(
     }
 }
 
-fn is_right(alloc: Global, table: &Table, judged: Judged, text: &str) -> Result<bool, Memory> {
-    let row = Row::read(alloc, text)?;
-    is_as_said(alloc, table, judged, text, &row)
-}
-
-// The first row that isn't as it says, or no text. Where memory may be refused want of it is no fault.
-fn wrong_row(
-    alloc: Global,
-    table: &Table,
-    judged: Judged,
-    rows: &'static str,
-    may_want: bool,
-) -> &'static str {
-    for row in rows.trim().lines() {
-        let answer = is_right(alloc, table, judged, row);
-        let is_wanting = may_want && answer.is_err();
-        if answer != Ok(true) && !is_wanting {
-            return row;
-        }
+impl Judge for Judged {
+    fn is_right(&self, alloc: Global, table: &Table, text: &str) -> Result<bool, Memory> {
+        let row = Row::read(alloc, text)?;
+        is_as_said(alloc, table, *self, text, &row)
     }
-    ""
-}
-
-// The first row of the list that isn't as it says, or no text.
-fn wrong(alloc: Global, list: &List, may_want: bool) -> Result<&'static str, Memory> {
-    let List(judged, types, rows) = list;
-    let table = table_of(alloc, types)?;
-    Ok(wrong_row(alloc, &table, *judged, rows, may_want))
 }
 
 #[test]
 fn rows_are_as_they_say(rt: HostRuntime) {
-    for list in &LISTS {
-        let row = wrong(rt.alloc(), list, false).unwrap_or("want of memory");
-        assert!(rt; row.is_empty(), "{row}");
-    }
+    let row = wrong_row(rt.alloc(), lists());
+    assert!(rt; row.is_empty(), "{row}");
 }
 
 // tools/refuse-memory runs this with each allocation refused in turn.
 #[test]
 fn rows_want_memory(rt: HostRuntime) {
-    for list in &WANTING {
-        let row = wrong(rt.alloc(), list, true).unwrap_or("");
-        assert!(rt; row.is_empty(), "{row}");
-    }
+    let row = wrong_row_wanting(rt.alloc(), &WANTING);
+    assert!(rt; row.is_empty(), "{row}");
 }

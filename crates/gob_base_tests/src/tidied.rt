@@ -1,7 +1,7 @@
 //! What the tidy forms of values are, in bytes.
 
 use gob_num::Memory;
-use gob_test_rows::{Row, bytes_of, part, table_of};
+use gob_test_rows::{Judge, List, Row, bytes_of, part, wrong_row, wrong_row_wanting};
 use gob_tidy::tidy_whole;
 use gob_types::{Table, TypeId};
 use std::alloc::Global;
@@ -74,7 +74,7 @@ a type that isn't defined | 75 3 |  | 00 00 | none
 ";
 
 // A row whose allocations are refused.
-const WANTING: &str = "
+const SHORT: &str = "
 a map of structs | 73 4 |  | 00 01 01 00 01 42 00 02 01 00 00 00 | 00 01 02 42 00 02 00 00
 ";
 
@@ -91,32 +91,33 @@ fn is_tidied(alloc: Global, table: &Table, row: &Row, due: &str) -> Result<bool,
     })
 }
 
-fn is_right(alloc: Global, table: &Table, text: &str) -> Result<bool, Memory> {
-    is_tidied(alloc, table, &Row::read(alloc, text)?, part(text, 4))
+// Judges tidy forms.
+struct TidyForm;
+
+impl Judge for TidyForm {
+    fn is_right(&self, alloc: Global, table: &Table, text: &str) -> Result<bool, Memory> {
+        is_tidied(alloc, table, &Row::read(alloc, text)?, part(text, 4))
+    }
 }
 
-// The first row that isn't tidied as it says, or no text. Where memory may be refused want of it is no fault.
-fn wrong_row(alloc: Global, rows: &'static str, may_want: bool) -> Result<&'static str, Memory> {
-    let table = table_of(alloc, TYPES)?;
-    for row in rows.trim().lines() {
-        let answer = is_right(alloc, &table, row);
-        let is_wanting = may_want && answer.is_err();
-        if answer != Ok(true) && !is_wanting {
-            return Ok(row);
-        }
-    }
-    Ok("")
+static LISTS: [List<TidyForm>; 1] = [List(TidyForm, TYPES, ROWS)];
+
+static WANTING: [List<TidyForm>; 1] = [List(TidyForm, TYPES, SHORT)];
+
+// The lists, named in one function, since a table costs the proof of each that names it.
+fn lists() -> &'static [List<TidyForm>; 1] {
+    &LISTS
 }
 
 #[test]
 fn values_are_tidied(rt: HostRuntime) {
-    let row = wrong_row(rt.alloc(), ROWS, false).unwrap_or("want of memory");
+    let row = wrong_row(rt.alloc(), lists());
     assert!(rt; row.is_empty(), "{row}");
 }
 
 // tools/refuse-memory runs this with each allocation refused in turn.
 #[test]
 fn want_of_memory_gives_no_other_form(rt: HostRuntime) {
-    let row = wrong_row(rt.alloc(), WANTING, true).unwrap_or("");
+    let row = wrong_row_wanting(rt.alloc(), &WANTING);
     assert!(rt; row.is_empty(), "{row}");
 }

@@ -8,6 +8,15 @@ use gob_stream::{Fault, Limits};
 use gob_test_rows::{bytes_of, part};
 use std::alloc::Global;
 
+/// What is judged, or want of memory: where another fault came in its place, it isn't so.
+pub(crate) fn judged(answer: Result<bool, PutFault>) -> Result<bool, Memory> {
+    match answer {
+        Ok(is_right) => Ok(is_right),
+        Err(PutFault::Memory) => Err(Memory),
+        Err(_) => Ok(false),
+    }
+}
+
 /// The items that the bytes give, up to a refusal.
 pub(crate) fn items_of(alloc: Global, bytes: &[u8], limits: Limits) -> Result<Vec<GoItem>, Memory> {
     let mut session = GoSession::new(alloc, limits)?;

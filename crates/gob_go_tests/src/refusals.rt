@@ -1,11 +1,12 @@
 //! Items that a writer refuses: of each kind one, and those beside it that it puts.
 
-use crate::putting::{items_of, put_all, put_with};
+use crate::putting::{items_of, judged, put_all, put_with};
 use gob_go::{Filled, Filling, GoItem};
 use gob_go_writer::{GoWriter, PutFault};
+use gob_num::Memory;
 use gob_stream::Limits;
-use gob_test_rows::{bytes_of, number, part};
-use gob_types::{Reason, TypeId};
+use gob_test_rows::{Judge, List, bytes_of, number, part, wrong_row};
+use gob_types::{Reason, Table, TypeId};
 use gob_value::Value;
 use std::alloc::{AllocError, Global};
 use std::test::*;
@@ -162,13 +163,6 @@ fn is_right(alloc: Global, row: &str) -> Result<bool, PutFault> {
     Ok(is_reason(alloc, reason, part(row, 4)))
 }
 
-#[test]
-fn values_are_put_or_refused(rt: HostRuntime) {
-    for row in VALUES.trim().lines() {
-        assert!(rt; is_right(rt.alloc(), row) == Ok(true), "{row}");
-    }
-}
-
 // The ids under which the description of LIST is put behind it, and the reasons for which it is refused.
 const DEFINITIONS: &str = "
 66 WrongId
@@ -202,11 +196,36 @@ fn is_refused(alloc: Global, row: &str) -> Result<bool, PutFault> {
     Ok(is_reason(alloc, reason, row.split(' ').nth(1).unwrap_or("")))
 }
 
-#[test]
-fn definitions_of_something_else_are_refused(rt: HostRuntime) {
-    for row in DEFINITIONS.trim().lines() {
-        assert!(rt; is_refused(rt.alloc(), row) == Ok(true), "{row}");
+// What is judged of a row.
+#[derive(Clone, Copy)]
+enum Judged {
+    Value,
+    Definition,
+}
+
+impl Judge for Judged {
+    fn is_right(&self, alloc: Global, _table: &Table, row: &str) -> Result<bool, Memory> {
+        match *self {
+            Judged::Value => judged(is_right(alloc, row)),
+            Judged::Definition => judged(is_refused(alloc, row)),
+        }
     }
+}
+
+static LISTS: [List<Judged>; 2] = [
+    List(Judged::Value, "", VALUES),
+    List(Judged::Definition, "", DEFINITIONS),
+];
+
+// The lists, named in one function, since a table costs the proof of each that names it.
+fn lists() -> &'static [List<Judged>; 2] {
+    &LISTS
+}
+
+#[test]
+fn values_and_definitions_are_put_or_refused(rt: HostRuntime) {
+    let row = wrong_row(rt.alloc(), lists());
+    assert!(rt; row.is_empty(), "{row}");
 }
 
 // Whether a value that is no description is refused as that of type 66.

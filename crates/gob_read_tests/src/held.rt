@@ -69,8 +69,8 @@ fn is_held<B: Builder>(
     Ok(ended && are_numbers(&held, text))
 }
 
-/// Whether the texts say what is held by builders of trees and of counts, and one that keeps nothing holds nothing.
-pub(crate) fn is_right(
+// Whether the texts say what is held by builders of trees and of counts, and one that keeps nothing holds nothing.
+fn are_held(
     alloc: Global,
     table: &Table,
     body: &Body,
@@ -82,4 +82,19 @@ pub(crate) fn is_right(
             && is_held::<CheckBuilder>(alloc, table, body, by_counts)?
             && is_held::<SkipBuilder>(alloc, table, body, "")?,
     )
+}
+
+/// Whether that is so, where there is memory for it.
+pub(crate) fn is_right(
+    alloc: Global,
+    table: &Table,
+    body: &Body,
+    by_trees: &str,
+    by_counts: &str,
+) -> Result<bool, Memory> {
+    match are_held(alloc, table, body, by_trees, by_counts) {
+        Ok(are_held) => Ok(are_held),
+        Err(Stop::Memory) => Err(Memory),
+        Err(_) => Ok(false),
+    }
 }

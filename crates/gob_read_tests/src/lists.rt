@@ -2,8 +2,7 @@
 
 use crate::{bodies, held, skipped, to_nil};
 use gob_num::Memory;
-use gob_read::Stop;
-use gob_test_rows::{Body, body_of, part, table_of};
+use gob_test_rows::{Body, Judge, List, body_of, part, wrong_row, wrong_row_wanting};
 use gob_types::Table;
 use std::alloc::Global;
 
@@ -27,18 +26,20 @@ enum Judged {
     Held,
 }
 
-// A list of rows.
-struct List(Judged, &'static str);
-
-static LISTS: [List; 7] = [
-    List(Judged::Read, bodies::ACCEPTED),
-    List(Judged::Read, bodies::REFUSED),
-    List(Judged::Counted, bodies::COUNTED),
-    List(Judged::Built, bodies::BUILT),
-    List(Judged::Skipped, skipped::ROWS),
-    List(Judged::Filled, to_nil::ROWS),
-    List(Judged::Held, held::ROWS),
+static LISTS: [List<Judged>; 7] = [
+    List(Judged::Read, TYPES, bodies::ACCEPTED),
+    List(Judged::Read, TYPES, bodies::REFUSED),
+    List(Judged::Counted, TYPES, bodies::COUNTED),
+    List(Judged::Built, TYPES, bodies::BUILT),
+    List(Judged::Skipped, TYPES, skipped::ROWS),
+    List(Judged::Filled, TYPES, to_nil::ROWS),
+    List(Judged::Held, TYPES, held::ROWS),
 ];
+
+// The lists, named in one function, since a table costs the proof of each that names it.
+fn lists() -> &'static [List<Judged>; 7] {
+    &LISTS
+}
 
 // Whether the row's body is read as it says.
 fn is_as_said(
@@ -54,53 +55,33 @@ fn is_as_said(
         Judged::Built => bodies::is_built(alloc, table, body, usize::MAX),
         Judged::Skipped => skipped::is_skipped(alloc, table, body),
         Judged::Filled => to_nil::is_filled(alloc, table, body, part(text, 4)),
-        Judged::Held => {
-            match held::is_right(alloc, table, body, part(text, 3), part(text, 4)) {
-                Ok(is_right) => Ok(is_right),
-                Err(Stop::Memory) => Err(Memory),
-                Err(_) => Ok(false),
-            }
-        }
+        Judged::Held => held::is_right(alloc, table, body, part(text, 3), part(text, 4)),
     }
 }
 
-fn is_right(alloc: Global, table: &Table, judged: Judged, text: &str) -> Result<bool, Memory> {
-    let body = body_of(alloc, text)?;
-    is_as_said(alloc, table, judged, text, &body)
-}
-
-// The first row that isn't read as it says, or no text. Where memory may be refused want of it is no fault.
-fn wrong_row(alloc: Global, list: &List, may_want: bool) -> Result<&'static str, Memory> {
-    let List(judged, rows) = list;
-    let table = table_of(alloc, TYPES)?;
-    for row in rows.trim().lines() {
-        let answer = is_right(alloc, &table, *judged, row);
-        let is_wanting = may_want && answer.is_err();
-        if answer != Ok(true) && !is_wanting {
-            return Ok(row);
-        }
+impl Judge for Judged {
+    fn is_right(&self, alloc: Global, table: &Table, text: &str) -> Result<bool, Memory> {
+        let body = body_of(alloc, text)?;
+        is_as_said(alloc, table, *self, text, &body)
     }
-    Ok("")
 }
 
 #[test]
 fn bodies_are_read_as_rows_say(rt: HostRuntime) {
-    for list in &LISTS {
-        let row = wrong_row(rt.alloc(), list, false).unwrap_or("want of memory");
-        assert!(rt; row.is_empty(), "{row}");
-    }
+    let row = wrong_row(rt.alloc(), lists());
+    assert!(rt; row.is_empty(), "{row}");
 }
 
 // Run by tools/refuse-memory with each allocation refused in turn: the right answer, or want of memory.
 #[test]
 fn reading_wants_memory(rt: HostRuntime) {
-    let row = wrong_row(rt.alloc(), &LISTS[0], true).unwrap_or("");
+    let row = wrong_row_wanting(rt.alloc(), &lists()[..1]);
     assert!(rt; row.is_empty(), "{row}");
 }
 
 // Run so too.
 #[test]
 fn deep_reading_wants_memory(rt: HostRuntime) {
-    let row = wrong_row(rt.alloc(), &LISTS[2], true).unwrap_or("");
+    let row = wrong_row_wanting(rt.alloc(), &lists()[2..3]);
     assert!(rt; row.is_empty(), "{row}");
 }

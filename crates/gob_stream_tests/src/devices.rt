@@ -170,9 +170,9 @@ impl Small {
         }
     }
 
-    /// What it has taken; none beyond what it holds.
-    pub(crate) fn taken(&self) -> Option<&[u8]> {
-        self.bytes.get(..self.count)
+    /// What it has taken, up to what it holds.
+    pub(crate) fn taken(&self) -> &[u8] {
+        self.bytes.get(..self.count).unwrap_or(b"")
     }
 }
 

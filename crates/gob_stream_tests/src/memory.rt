@@ -42,7 +42,7 @@ fn are_written(alloc: Global, items: &[Item<Value>], bytes: &[u8]) -> bool {
         items,
         Limits::standard(),
     );
-    let prefix = small.taken().unwrap_or(&[]);
+    let prefix = small.taken();
     match answer {
         Ok(()) => prefix == bytes,
         Err(stop) => stop.fault == WriteFault::Memory && bytes.starts_with(prefix),

@@ -52,8 +52,8 @@ fn put_spelled<W: Write>(
 // Whether these bytes were written, or none for want of memory.
 fn is_right(answer: Result<(), WriteFault>, small: &Small, bytes: &[u8]) -> Result<bool, Memory> {
     match answer {
-        Ok(()) => Ok(small.taken() == Some(bytes)),
-        Err(WriteFault::Memory) if small.taken() == Some(&[]) => Err(Memory),
+        Ok(()) => Ok(small.taken() == bytes),
+        Err(WriteFault::Memory) if small.taken().is_empty() => Err(Memory),
         Err(_) => Ok(false),
     }
 }

@@ -6,8 +6,8 @@ use gob_num::Memory;
 use gob_stream::{
     Input, Item, Limits, Output, StreamWriter, WriteFault, WriteStop, read_stream, write_stream,
 };
-use gob_test_rows::{Row, bytes_of, part, value_of};
-use gob_types::{Reason, TypeId};
+use gob_test_rows::{Judge, List, Row, part, value_of, wrong_row, wrong_row_wanting};
+use gob_types::{Reason, Table, TypeId};
 use gob_value::Value;
 use std::alloc::{AllocError, Global};
 use std::io::Write;
@@ -15,51 +15,64 @@ use std::io::Write;
 // How writers go wrong.
 static WRONGS: [Wrong; 3] = [Wrong::Interrupted, Wrong::Broken, Wrong::Zero];
 
-// Whether a writer answers so when it is given an int, then the same as a uint and as a description, and the int again.
+// Whether this writer answers so when it is given an int, then the same as a uint and as a description, and the int
+// again.
 fn are_answers(
     alloc: Global,
-    device: &mut Device,
-    first: Result<(), WriteFault>,
-    wrong: WriteFault,
-    last: Result<(), WriteFault>,
+    writer: &mut StreamWriter,
+    output: &mut Output<&mut Device>,
+    due: &[Result<(), WriteFault>],
 ) -> bool {
     let int = Value::Int(3);
-    let mut output = Output::new(device);
-    let Ok(mut writer) = StreamWriter::new(alloc, Limits::standard()) else {
-        return false;
-    };
-    writer.put(alloc, &mut output, TypeId(2), &int) == first
-        && writer.put(alloc, &mut output, TypeId(3), &int) == Err(wrong)
-        && writer.define(alloc, &mut output, TypeId(65), &int) == Err(wrong)
-        && writer.put(alloc, &mut output, TypeId(2), &int) == last
+    let answers = [
+        writer.put(alloc, output, TypeId(2), &int),
+        writer.put(alloc, output, TypeId(3), &int),
+        writer.define(alloc, output, TypeId(65), &int),
+        writer.put(alloc, output, TypeId(2), &int),
+    ];
+    answers.as_slice() == due
 }
 
-// Whether a writer answers so, and writes these bytes.
+// Whether a new writer does.
+fn answers_so(alloc: Global, device: &mut Device, due: &[Result<(), WriteFault>]) -> bool {
+    let mut output = Output::new(device);
+    match StreamWriter::new(alloc, Limits::standard()) {
+        Ok(mut writer) => are_answers(alloc, &mut writer, &mut output, due),
+        Err(Memory) => false,
+    }
+}
+
+// Whether it does, and writes these bytes.
 fn is_answered(
     alloc: Global,
     mut device: Device,
-    first: Result<(), WriteFault>,
-    wrong: WriteFault,
-    last: Result<(), WriteFault>,
+    due: &[Result<(), WriteFault>],
     bytes: &[u8],
 ) -> bool {
-    are_answers(alloc, &mut device, first, wrong, last) && device.taken.as_slice() == bytes
+    answers_so(alloc, &mut device, due) && device.taken.as_slice() == bytes
 }
 
 #[test]
 fn writers_go_on_after_a_refusal(rt: HostRuntime) {
-    let refused = WriteFault::Refused(Reason::DoesNotFit);
-    let bytes = b"\x03\x04\x00\x06\x03\x04\x00\x06";
+    let refused = Err(WriteFault::Refused(Reason::DoesNotFit));
+    let due = [Ok(()), refused, refused, Ok(())];
     let device = Device::sound(rt.alloc());
-    assert!(rt; is_answered(rt.alloc(), device, Ok(()), refused, Ok(()), bytes));
+    assert!(rt;
+        is_answered(
+            rt.alloc(),
+            device,
+            &due,
+            b"\x03\x04\x00\x06\x03\x04\x00\x06"
+        )
+    );
 }
 
 #[test]
 fn writers_write_no_more_after_a_failed_write(rt: HostRuntime) {
-    let failed = WriteFault::Failed;
-    let first = Err(WriteFault::Write);
+    let failed = Err(WriteFault::Failed);
+    let due = [Err(WriteFault::Write), failed, failed, failed];
     let device = Device::slow(rt.alloc(), 3, Wrong::Broken);
-    assert!(rt; is_answered(rt.alloc(), device, first, failed, Err(failed), b"\x03\x04"));
+    assert!(rt; is_answered(rt.alloc(), device, &due, b"\x03\x04"));
 }
 
 // Three items of 4 bytes each.
@@ -109,6 +122,22 @@ fn is_cut_anywhere(alloc: Global, items: &[Item<Value>]) -> bool {
         }
     }
     true
+}
+
+// Whether a slow writer is given all of these items, and a failed write is the last.
+fn are_written(alloc: Global, items: &[Item<Value>]) -> bool {
+    is_slowly_written(alloc, items) && is_cut_anywhere(alloc, items)
+}
+
+// Whether it is so with the three items.
+fn are_three_written(alloc: Global) -> bool {
+    let items = three(alloc, &THREE);
+    are_written(alloc, &items)
+}
+
+#[test]
+fn slow_writers_are_given_all_up_to_a_failed_write(rt: HostRuntime) {
+    assert!(rt; are_three_written(rt.alloc()), "three items");
 }
 
 // How many failures an output counts when it is flushed, where its answer says as much.
@@ -161,14 +190,34 @@ fn is_named(alloc: Global, fault: WriteFault, name: &str) -> bool {
     }
 }
 
-// Whether the writing of the three items stops as the row says.
-fn stops_so(alloc: Global, items: &[Item<Value>], row: &Row, reason: &str) -> bool {
-    let Some(limits) = Limits::new(row.number(0), 1, 0, row.number(1)) else {
-        return false;
-    };
+// Whether it is a refusal for the reason of this name that is answered.
+fn is_due(alloc: Global, answer: Result<(), WriteFault>, name: &str) -> bool {
+    match answer {
+        Ok(()) => false,
+        Err(fault) => is_named(alloc, fault, name),
+    }
+}
+
+// Whether the writing of these items stops there for this reason, and those before it are written.
+fn stops_there(
+    alloc: Global,
+    items: &[Item<Value>],
+    limits: Limits,
+    item: u64,
+    reason: &str,
+) -> bool {
     let mut device = Device::sound(alloc);
     let answer = write_stream(alloc, &mut Output::new(&mut device), items, limits);
-    is_stopped(alloc, answer, row.number(2), reason) && device.calls == row.number(2)
+    is_stopped(alloc, answer, item, reason) && device.calls == item
+}
+
+// Whether the writing of the three items stops as the row says.
+fn stops_so(alloc: Global, row: &Row, reason: &str) -> bool {
+    let items = three(alloc, &THREE);
+    match Limits::new(row.number(0), 1, 0, row.number(1)) {
+        Some(limits) => stops_there(alloc, &items, limits, row.number(2), reason),
+        None => false,
+    }
 }
 
 // What is refused behind the definition of type 65 as an array of one element of some type, under a depth of 4: the
@@ -238,45 +287,58 @@ fn answers(
     tell(alloc, &mut writer, &mut output, row, call)
 }
 
-// Whether it is refused as the row says, and the definition before it is all that goes out.
-fn is_refused(alloc: Global, described: &Value, row: &Row, text: &str) -> bool {
-    let Some(limits) = Limits::new(row.number(0), 4, row.number(1), row.number(2)) else {
-        return false;
-    };
+// Whether it is refused for this reason, and the definition before it is all that goes out.
+fn is_refused(
+    alloc: Global,
+    limits: Limits,
+    described: &Value,
+    row: &Row,
+    reason: &str,
+    call: &str,
+) -> bool {
     let mut device = Device::sound(alloc);
-    let answer = answers(alloc, &mut device, limits, described, row, part(text, 5));
-    let is_named = match answer {
-        Ok(()) => false,
-        Err(fault) => is_named(alloc, fault, part(text, 4)),
-    };
-    is_named && device.calls == 1
+    let answer = answers(alloc, &mut device, limits, described, row, call);
+    is_due(alloc, answer, reason) && device.calls == 1
+}
+
+// Whether it is refused as the row says.
+fn is_refused_so(alloc: Global, row: &Row, text: &str) -> Result<bool, Memory> {
+    let described = described_array(alloc, row.number(3))?;
+    match Limits::new(row.number(0), 4, row.number(1), row.number(2)) {
+        Some(limits) => {
+            let (reason, call) = (part(text, 4), part(text, 5));
+            Ok(is_refused(alloc, limits, &described, row, reason, call))
+        }
+        None => Ok(false),
+    }
 }
 
 // What is judged of a row.
 #[derive(Clone, Copy)]
 enum Judged {
+    // Its value is written, also by its spelling, and that is cut anywhere.
+    Value,
     Written,
     Spelled,
-    Cut,
     Stopped,
     Refused,
 }
 
-// A list of rows.
-struct List(Judged, &'static str);
-
-static LISTS: [List; 5] = [
-    List(Judged::Written, values::VALUES),
-    List(Judged::Spelled, values::VALUES),
-    List(Judged::Cut, values::VALUES),
-    List(Judged::Stopped, STOPS),
-    List(Judged::Refused, REFUSED),
+static LISTS: [List<Judged>; 3] = [
+    List(Judged::Value, "", values::VALUES),
+    List(Judged::Stopped, "", STOPS),
+    List(Judged::Refused, "", REFUSED),
 ];
 
+// The lists, named in one function, since a table costs the proof of each that names it.
+fn lists() -> &'static [List<Judged>; 3] {
+    &LISTS
+}
+
 // Those of which each allocation is refused.
-static WANTING: [List; 2] = [
-    List(Judged::Written, values::VALUES),
-    List(Judged::Spelled, values::SPELLED),
+static WANTING: [List<Judged>; 2] = [
+    List(Judged::Written, "", values::VALUES),
+    List(Judged::Spelled, "", values::SPELLED),
 ];
 
 // Whether the writing of the row's value by its spelling is cut anywhere, however it goes wrong.
@@ -289,78 +351,42 @@ fn is_spelling_cut(alloc: Global, row: &Row) -> bool {
     true
 }
 
+// Whether the row's value is written, also by its spelling, and that is cut anywhere.
+fn is_value(alloc: Global, row: &Row) -> Result<bool, Memory> {
+    Ok(
+        values::is_written(alloc, row)?
+            && values::is_written_spelled(alloc, row)?
+            && is_spelling_cut(alloc, row),
+    )
+}
+
 // Whether the row's value is written as it says.
-fn is_as_said(
-    alloc: Global,
-    items: &[Item<Value>],
-    judged: Judged,
-    text: &str,
-    row: &Row,
-) -> Result<bool, Memory> {
+fn is_as_said(alloc: Global, judged: Judged, text: &str, row: &Row) -> Result<bool, Memory> {
     match judged {
+        Judged::Value => is_value(alloc, row),
         Judged::Written => values::is_written(alloc, row),
         Judged::Spelled => values::is_written_spelled(alloc, row),
-        Judged::Cut => Ok(is_spelling_cut(alloc, row)),
-        Judged::Stopped => Ok(stops_so(alloc, items, row, part(text, 4))),
-        Judged::Refused => {
-            let described = described_array(alloc, row.number(3))?;
-            Ok(is_refused(alloc, &described, row, text))
-        }
+        Judged::Stopped => Ok(stops_so(alloc, row, part(text, 4))),
+        Judged::Refused => is_refused_so(alloc, row, text),
     }
 }
 
-fn is_right(
-    alloc: Global,
-    items: &[Item<Value>],
-    judged: Judged,
-    text: &str,
-) -> Result<bool, Memory> {
-    let row = Row::read(alloc, text)?;
-    is_as_said(alloc, items, judged, text, &row)
-}
-
-// The first row that isn't written as it says, or no text. Where memory may be refused want of it is no fault.
-fn wrong_row(alloc: Global, items: &[Item<Value>], list: &List, may_want: bool) -> &'static str {
-    let List(judged, rows) = list;
-    for row in rows.trim().lines() {
-        let answer = is_right(alloc, items, *judged, row);
-        let is_wanting = may_want && answer.is_err();
-        if answer != Ok(true) && !is_wanting {
-            return row;
-        }
+impl Judge for Judged {
+    fn is_right(&self, alloc: Global, _table: &Table, text: &str) -> Result<bool, Memory> {
+        let row = Row::read(alloc, text)?;
+        is_as_said(alloc, *self, text, &row)
     }
-    ""
-}
-
-// The first row of the lists that isn't; or what is wrong with the writing of the three items; or no text.
-fn wrong(alloc: Global) -> &'static str {
-    let items = three(alloc, &THREE);
-    if !is_slowly_written(alloc, &items) {
-        return "a slow writer is given all";
-    }
-    if !is_cut_anywhere(alloc, &items) {
-        return "a failed write is the last";
-    }
-    for list in &LISTS {
-        let row = wrong_row(alloc, &items, list, false);
-        if !row.is_empty() {
-            return row;
-        }
-    }
-    ""
 }
 
 #[test]
 fn items_are_written_as_rows_say(rt: HostRuntime) {
-    let row = wrong(rt.alloc());
+    let row = wrong_row(rt.alloc(), lists());
     assert!(rt; row.is_empty(), "{row}");
 }
 
 // tools/refuse-memory runs this with each allocation refused in turn.
 #[test]
 fn writing_wants_memory(rt: HostRuntime) {
-    for list in &WANTING {
-        let row = wrong_row(rt.alloc(), &[], list, true);
-        assert!(rt; row.is_empty(), "{row}");
-    }
+    let row = wrong_row_wanting(rt.alloc(), &WANTING);
+    assert!(rt; row.is_empty(), "{row}");
 }

@@ -4,7 +4,9 @@ use crate::sums::sum_of_ints;
 use crate::{flat, tapes, tidied};
 use gob_num::Memory;
 use gob_tape::{Tape, TapeBuilder};
-use gob_test_rows::{Body, body_of, is_refusal, part, read, table_of};
+use gob_test_rows::{
+    Body, Judge, List, body_of, is_refusal, part, read, wrong_row, wrong_row_wanting,
+};
 use gob_types::Table;
 use std::alloc::Global;
 
@@ -42,16 +44,18 @@ enum Judged {
     TidyForm,
 }
 
-// A list of rows.
-struct List(Judged, &'static str);
-
-static LISTS: [List; 5] = [
-    List(Judged::Tape(Shown::Parts), tapes::ROWS),
-    List(Judged::TidyForm, tidied::ROWS),
-    List(Judged::Tape(Shown::Depth), tapes::DEEP),
-    List(Judged::Tape(Shown::Flat), flat::ROWS),
-    List(Judged::Tape(Shown::Sum), SUMS),
+static LISTS: [List<Judged>; 5] = [
+    List(Judged::Tape(Shown::Parts), TYPES, tapes::ROWS),
+    List(Judged::TidyForm, TYPES, tidied::ROWS),
+    List(Judged::Tape(Shown::Depth), TYPES, tapes::DEEP),
+    List(Judged::Tape(Shown::Flat), TYPES, flat::ROWS),
+    List(Judged::Tape(Shown::Sum), TYPES, SUMS),
 ];
+
+// The lists, named in one function, since a table costs the proof of each that names it.
+fn lists() -> &'static [List<Judged>; 5] {
+    &LISTS
+}
 
 // The lengths of the pieces in which each body is read.
 const PIECES: [usize; 3] = [1, 3, usize::MAX];
@@ -105,47 +109,32 @@ fn is_tape(
     Ok(true)
 }
 
-// Whether the row's body is as it says.
-fn is_right(alloc: Global, table: &Table, judged: Judged, text: &str) -> Result<bool, Memory> {
-    let body = body_of(alloc, text)?;
-    match judged {
-        Judged::Tape(shown) => is_tape(alloc, table, shown, text, &body),
-        Judged::TidyForm => tidied::is_tidied(alloc, table, &body, text),
-    }
-}
-
-// The first row that isn't as it says, or no text. Where memory may be refused want of it is no fault.
-fn wrong_row(alloc: Global, list: &List, may_want: bool) -> Result<&'static str, Memory> {
-    let List(judged, rows) = list;
-    let table = table_of(alloc, TYPES)?;
-    for row in rows.trim().lines() {
-        let answer = is_right(alloc, &table, *judged, row);
-        let is_wanting = may_want && answer.is_err();
-        if answer != Ok(true) && !is_wanting {
-            return Ok(row);
+impl Judge for Judged {
+    fn is_right(&self, alloc: Global, table: &Table, text: &str) -> Result<bool, Memory> {
+        let body = body_of(alloc, text)?;
+        match *self {
+            Judged::Tape(shown) => is_tape(alloc, table, shown, text, &body),
+            Judged::TidyForm => tidied::is_tidied(alloc, table, &body, text),
         }
     }
-    Ok("")
 }
 
 #[test]
 fn tapes_are_as_rows_say(rt: HostRuntime) {
-    for list in &LISTS {
-        let row = wrong_row(rt.alloc(), list, false).unwrap_or("want of memory");
-        assert!(rt; row.is_empty(), "{row}");
-    }
+    let row = wrong_row(rt.alloc(), lists());
+    assert!(rt; row.is_empty(), "{row}");
 }
 
 // Run by tools/refuse-memory with each allocation refused in turn: the right answer, or want of memory.
 #[test]
 fn tapes_want_memory(rt: HostRuntime) {
-    let row = wrong_row(rt.alloc(), &LISTS[0], true).unwrap_or("");
+    let row = wrong_row_wanting(rt.alloc(), &lists()[..1]);
     assert!(rt; row.is_empty(), "{row}");
 }
 
 // Run so too.
 #[test]
 fn tidy_forms_want_memory(rt: HostRuntime) {
-    let row = wrong_row(rt.alloc(), &LISTS[1], true).unwrap_or("");
+    let row = wrong_row_wanting(rt.alloc(), &lists()[1..2]);
     assert!(rt; row.is_empty(), "{row}");
 }

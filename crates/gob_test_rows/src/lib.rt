@@ -1,8 +1,9 @@
-//! What tests share: rows in the notation of docs/FORMAT.md, with types, values and bodies, the spelling of values, and
-//! the reading of bodies in pieces.
+//! What tests share: rows in the notation of docs/FORMAT.md, with types, values and bodies, lists of them that are
+//! judged, the spelling of values, and the reading of bodies in pieces.
 #![tactic(auto)]
 
 mod body;
+mod list;
 mod reading;
 mod row;
 mod spelling;
@@ -10,6 +11,7 @@ mod types;
 mod value;
 
 pub use body::Body;
+pub use list::{Judge, List, wrong_row, wrong_row_wanting};
 pub use reading::{is_refusal, read, reader};
 pub use row::{Row, body_of, bytes_of, number, numbers, part};
 pub use spelling::is_spelled;
