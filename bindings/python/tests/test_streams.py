@@ -110,9 +110,10 @@ class StreamsTest(unittest.TestCase):
         for text in (deep, "{" * many, wide, '{"define":65,"fields":[' + '["X",2],' * (many // 10), '"' + "\\" * many):
             self.assert_soon(lambda text=text: self.assertRaises(gob.BadLine, gob.from_lines, text))
         self.assert_soon(lambda: self.assertEqual(gob.lines(gob.from_lines(long_name)), long_name))
-        for types in ("type A " + "[]" * many + "int", "type A struct {" * (many // 10), "type " + "A" * many,
-                      "type A struct { " + "X int; " * (many // 10) + "}", "/*" * many):
+        for types in ("type A " + "[]" * many + "int", "type A struct {" * (many // 10), "type " + "A" * many, "/*" * many):
             self.assert_soon(lambda types=types: self.assertRaises(gob.BadTypes, gob.convert, POINT, types))
+        repeated = "type A struct { " + "X int; " * (many // 10) + "}"
+        self.assert_soon(lambda: self.assertRaises(gob.Clash, gob.convert, POINT, repeated))
 
     def assert_soon(self, call):
         began = time.process_time()
