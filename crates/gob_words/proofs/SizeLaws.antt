@@ -9,10 +9,8 @@ use Rattle.std.specs.List.{All}
 use Rattle.clap.specs.Words.{Row, Text, first_of}
 use Rattle.gob_words.specs.Splitting.{AreUnits, AsksToSplit, IsPartSize, IsSizeWord, in_bytes, in_units, IsUnit}
 use Rattle.gob_words.specs.Splitting.{kilo, mega, giga, RefusesToSplit}
-use Rattle.gob_words.specs.Views.{IsWordAtFault}
 use Rattle.gob_words.specs.Words.{IsDigit, IsNumber, text_of}
 use Rattle.gob_words.specs.declared.splitting.PartWords.{PartWords}
-use Rattle.gob_words.specs.declared.splitting.PartWords.TheVariants as size
 use Rattle.gob_words.specs.declared.splitting.Splitting.{Splitting}
 use Rattle.gob_words.specs.declared.view.ViewFault.{ViewFault}
 use Rattle.gob_words.specs.declared.view.ViewFault.TheVariants as view_fault

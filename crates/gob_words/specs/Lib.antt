@@ -8,4 +8,5 @@ pub mod Shell
 pub mod Paths
 pub mod Splitting
 pub mod Making
+pub mod Converting
 pub mod Numbers

@@ -1,14 +1,13 @@
 -- Whether the words ask for texts in place of numbers. (docs/FORMAT.md, The program: this project's own.)
-use Rattle.std.specs.Prelude.{◌≡◌, List, codes, Bool, false, Option, Some, None}
-use Rattle.clap.specs.Words.{Row, Text, first_of}
+use Rattle.std.specs.Prelude.{◌≡◌, List, codes, Bool, Option}
+use Rattle.clap.specs.Words.{Row, Text}
 use Rattle.gob_words.specs.declared.words.OrderFault.{OrderFault}
 use Rattle.gob_words.specs.declared.words.OrderFault.TheVariants as fault
-use Rattle.gob_words.specs.Views.{IsGiven}
+use Rattle.gob_words.specs.Views.{IsFlagIn}
 
--- clap met a subcommand with these rows, in which the flag is given or not; without a subcommand it isn't
+-- clap met a subcommand with these rows, in which the flag is given or not
 abbrev pub AsksForTexts : Option (Text × List Row) → Bool → Type 0
-AsksForTexts (Some (name, rows)) given = IsGiven (first_of (codes "numbers-as-text") rows) given
-AsksForTexts None given = given ≡ false
+AsksForTexts met given = IsFlagIn (codes "numbers-as-text") met given
 
 abbrev pub IsNoMemory : OrderFault → Type 0
 IsNoMemory given = given ≡ fault.Memory

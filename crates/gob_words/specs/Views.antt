@@ -90,6 +90,11 @@ abbrev pub words_in : Text → Option (Text × List Row) → List Text
 words_in name None = []
 words_in name (Some met) = unwrap_or (all_of name met.1) []
 
+-- whether they give this flag: without a command they don't
+abbrev pub IsFlagIn : Text → Option (Text × List Row) → Bool → Type 0
+IsFlagIn name (Some met) flag = IsGiven (first_of name met.1) flag
+IsFlagIn name None flag = flag ≡ false
+
 -- those that say of types what their bytes are
 abbrev pub kind_words_in : Option (Text × List Row) → List Text
 kind_words_in met = words_in (codes "as") met

@@ -98,6 +98,14 @@ types = with_input (with_salvage (with_progress (with_rule (with_options (codes 
 abbrev pub salvage : App
 salvage = with_rule (one_stream (codes "salvage")) (option_rule (codes "types"))
 
+-- which field has another name, in a word of an option that may be given several times
+abbrev pub renames_rule : Rule
+renames_rule = record (option_rule (codes "rename")) { action = Some Append }
+
+-- the command that writes values of a wanted type, with the flag for values all of whose fields are wanted
+abbrev pub convert : App
+convert = with_rule (with_rule (two_streams (codes "convert")) renames_rule) (flag_rule (codes "all"))
+
 -- the flag and the option that say which part of a stream is shown
 abbrev pub with_parts : App → App
 with_parts app = with_rule (with_rule app (flag_rule (codes "fault"))) (option_rule (codes "at"))
@@ -164,7 +172,7 @@ program =
     with_subcommand (with_subcommand
     (with_subcommand (with_subcommand (with_subcommand (with_subcommand (with_subcommand
     (with_subcommand people_program show.top) check.top) rewrite.top) (two_streams (codes "take")).top)
-    (two_streams (codes "convert")).top) write.top) make.top) (new_app (codes "version")).top
+    convert.top) write.top) make.top) (new_app (codes "version")).top
 
 -- ---- what they say
 

@@ -4,8 +4,8 @@ ghost use Rattle.std.specs.Prelude.{◌≡◌, IfOk, codes, false};
 ghost use Rattle.clap.specs.Words.{App, Rule, app_of, new_app, rule_of, with_rule, with_subcommand};
 ghost use Rattle.clap.specs.declared.builder.Command.TheViews.{out-Command};
 ghost use Rattle.gob_words.specs.Words.{bare_program, files_rule, flag_rule, kinds_rule, needed_rule, option_rule};
-ghost use Rattle.gob_words.specs.Words.{check, explain, join, make, people_program, program, rewrite, salvage, show};
-ghost use Rattle.gob_words.specs.Words.{split};
+ghost use Rattle.gob_words.specs.Words.{check, convert, explain, join, make, people_program, program, renames_rule};
+ghost use Rattle.gob_words.specs.Words.{rewrite, salvage, show, split};
 ghost use Rattle.gob_words.specs.Words.{one_stream, two_streams, types, values, verify, write};
 ghost use Rattle.gob_words.specs.Words.{with_elements, with_flags, with_go, with_go_flags, with_input, with_made};
 ghost use Rattle.gob_words.specs.Words.{with_options, with_parts, with_progress, with_salvage, with_sizes, with_types};
@@ -30,8 +30,7 @@ pub(crate) fn program<'a>(alloc: Global) -> Built<'a>
     let rewriting = with_command(checking, rewrite(alloc));
     let take = two_streams(alloc, "take", help::TAKE, help::WANTED);
     let taking = with_command(rewriting, take);
-    let convert = two_streams(alloc, "convert", help::CONVERT, help::WANTED_OR_SOURCE);
-    let converting = with_command(taking, convert);
+    let converting = with_command(taking, convert(alloc));
     let writing = with_command(converting, write(alloc));
     let making = with_command(writing, make(alloc));
     with_command(making, version(alloc))
@@ -209,6 +208,24 @@ fn salvage<'a>(alloc: Global) -> Built<'a>
 {
     let reading = one_stream(alloc, "salvage", help::SALVAGE);
     with_arg(reading, option(alloc, "types", "GOOD", help::GOOD))
+}
+
+// The command that writes values of a wanted type, with the flag for values all of whose fields are wanted.
+fn convert<'a>(alloc: Global) -> Built<'a>
+    ensures app { IfOk result (λ command. app_of command ≡ convert) }
+    ensures local { IfOk result (λ command. (out-Command command).has_globals ≡ false) }
+{
+    let wanting = two_streams(alloc, "convert", help::CONVERT, help::WANTED_OR_SOURCE);
+    let renaming = with_arg(wanting, renames(alloc));
+    with_flag(alloc, renaming, "all", help::ALL)
+}
+
+// The option that says which field has another name: of several fields where it is given several times.
+fn renames<'a>(alloc: Global) -> Arg<'a>
+    ensures rule { rule_of result ≡ renames_rule }
+    ensures local { result.global ≡ false }
+{
+    option(alloc, "rename", "OLD=NEW", help::RENAME).action(ArgAction::Append)
 }
 
 // The command that explains bytes, with a flag and an option behind those that other commands have too.

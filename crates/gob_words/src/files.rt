@@ -1,12 +1,12 @@
 //! The files that the words name where a command reads some.
 
 ghost use Rattle.std.specs.Prelude.{◌≡◌, IfOk, map};
-ghost use Rattle.clap.specs.Words.{subcommand_of, subcommand_rows_of};
+ghost use Rattle.clap.specs.Words.{subcommand_of};
 ghost use Rattle.gob_words.specs.Views.{files_in};
 ghost use Rattle.gob_words.specs.Words.{HasNoFault, program};
 
 use crate::command_line::program;
-use clap::ArgMatches;
+use crate::matched::words_among;
 use clap::error::ErrorKind;
 use std::alloc::{AllocError, Global};
 
@@ -19,24 +19,10 @@ pub fn files_of<'a>(alloc: Global, words: &'a [&'a str]) -> Result<Vec<&'a str>,
         map (λ file. file.now) files.items ≡ files_in (subcommand_of program asked)) }
 {
     match program(alloc)?.try_get_matches_from(words) {
-        Ok(matches) => files_among(alloc, &matches),
+        Ok(matches) => words_among(alloc, &matches, "FILE"),
         Err(error) => match error.kind() {
             ErrorKind::OutOfMemory => Err(AllocError),
             _ => Ok(Vec::new(alloc)),
         },
-    }
-}
-
-// The names that clap's matches have.
-fn files_among<'a>(alloc: Global, matches: &ArgMatches<'a>) -> Result<Vec<&'a str>, AllocError>
-    ensures { IfOk result (λ files.
-        map (λ file. file.now) files.items ≡ files_in (subcommand_rows_of matches.now)) }
-{
-    let Some((_, matches)) = matches.subcommand() else {
-        return Ok(Vec::new(alloc));
-    };
-    match matches.get_strs("FILE") {
-        Some(files) => files.to_vec(alloc),
-        None => Ok(Vec::new(alloc)),
     }
 }

@@ -100,6 +100,12 @@ pub(crate) const WANTED: &str = "The stream that has the wanted type";
 pub(crate) const WANTED_OR_SOURCE: &str =
     "The file that has the wanted type: a stream, or Go source";
 
+pub(crate) const RENAME: &str =
+    "Fill the wanted field NEW from the field OLD of the stream, with STRUCT.OLD=NEW \
+    in the wanted struct STRUCT alone; it may be given several times";
+
+pub(crate) const ALL: &str = "Stop at a value that has a field which isn't wanted";
+
 pub(crate) const GOOD: &str =
     "Take the types of this stream for known: of a file that lost its own, of the same program";
 

@@ -3,11 +3,13 @@
 #![tactic(auto)]
 
 mod command_line;
+mod converting;
 mod decimal;
 mod files;
 mod help;
 mod kinds;
 mod making;
+mod matched;
 mod message;
 mod numbers;
 mod orders;
@@ -18,6 +20,7 @@ mod view;
 mod views;
 mod words;
 
+pub use converting::{Converting, converting_of};
 pub use decimal::number_of;
 pub use files::files_of;
 pub use help::VERSION;

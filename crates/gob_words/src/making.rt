@@ -3,10 +3,10 @@
 ghost use Rattle.std.specs.Prelude.{MatchOption, MatchResult, map};
 ghost use Rattle.clap.specs.Words.{subcommand_of, subcommand_rows_of};
 ghost use Rattle.gob_words.specs.Making.{AsksToMake, RefusesToMake};
-ghost use Rattle.gob_words.specs.Views.{IsGiven};
-ghost use Rattle.gob_words.specs.Words.{HasNoFault, program, text_of};
+ghost use Rattle.gob_words.specs.Words.{HasNoFault, program};
 
 use crate::command_line::program;
+use crate::matched::is_true;
 use crate::view::ViewFault;
 use crate::words::OrderFault;
 use clap::ArgMatches;
@@ -60,11 +60,4 @@ fn making_in<'a>(matches: &ArgMatches<'a>) -> Option<Making<'a>>
         named: matches.get_str("type"),
         lenient: is_true(matches.get_str("lenient")),
     })
-}
-
-// Whether a flag is given, by clap's value of it.
-pub(crate) fn is_true(value: Option<&str>) -> bool
-    ensures { IsGiven (text_of value.entry) result }
-{
-    matches!(value, Some("true"))
 }

@@ -1,14 +1,13 @@
 //! Whether the words ask for texts in place of numbers.
 
 ghost use Rattle.std.specs.Prelude.{IfErr, IfOk, map};
-ghost use Rattle.clap.specs.Words.{subcommand_of, subcommand_rows_of};
+ghost use Rattle.clap.specs.Words.{subcommand_of};
 ghost use Rattle.gob_words.specs.Numbers.{AsksForTexts, IsNoMemory};
 ghost use Rattle.gob_words.specs.Words.{HasNoFault, program};
 
 use crate::command_line::program;
-use crate::making::is_true;
+use crate::matched::has_flag;
 use crate::words::OrderFault;
-use clap::ArgMatches;
 use std::alloc::Global;
 
 /// Whether the words, the program's name first among them, ask `show` for each number as a text. They are words that
@@ -19,17 +18,7 @@ pub fn numbers_are_texts<'a>(alloc: Global, words: &'a [&'a str]) -> Result<bool
     ensures memory { IfErr result IsNoMemory }
 {
     match program(alloc)?.try_get_matches_from(words) {
-        Ok(matches) => Ok(texts_in(&matches)),
+        Ok(matches) => Ok(has_flag(&matches, "numbers-as-text")),
         Err(_) => Err(OrderFault::Memory),
     }
-}
-
-// Whether clap's matches ask for texts.
-fn texts_in(matches: &ArgMatches<'_>) -> bool
-    ensures { AsksForTexts (subcommand_rows_of matches.now) result }
-{
-    let Some((_, matches)) = matches.subcommand() else {
-        return false;
-    };
-    is_true(matches.get_str("numbers-as-text"))
 }

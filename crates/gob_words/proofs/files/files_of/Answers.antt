@@ -14,8 +14,8 @@ returns-in-Ok c = λ none.
     let words = map (λ word. word.now) c.args.words.now in
     let same = c.in_ok-program.ensures in
     let met = (c.in-Ok.ensures.matches (simple _ same)).1 ∙ ap (λ app. subcommand_of app words) same in
-    subst (λ m. IfOk c.files_among.result (λ files.
-    map (λ (file : Bor (List ℕ)). file.now) files.items ≡ files_in m)) met c.files_among.ensures
+    subst (λ m. IfOk c.words_among.result (λ files.
+    map (λ (file : Bor (List ℕ)). file.now) files.items ≡ files_in m)) met c.words_among.ensures
 
 pub returns : goal.returns
 returns c = λ none.

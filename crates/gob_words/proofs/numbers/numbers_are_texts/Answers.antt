@@ -10,4 +10,4 @@ returns-in-Ok-clause-asked c = λ none.
     let words = map (λ word. word.now) c.args.words.now in
     let same = c.in_ok-program.ensures in
     let met = (c.in-Ok.ensures.matches (simple _ same)).1 ∙ ap (λ app. subcommand_of app words) same in
-    subst (λ m. AsksForTexts m c.texts_in.result) met c.texts_in.ensures
+    subst (λ m. AsksForTexts m c.has_flag.result) met c.has_flag.ensures
