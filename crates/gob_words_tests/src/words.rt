@@ -94,6 +94,8 @@ show --deep 5
 show -d 5
 show --zeros
 take --raw w
+take --all w
+take --rename a=b w
 take
 take w a b
 convert
