@@ -1,0 +1,12 @@
+-- It tells of none of the types so far.
+use Rattle.gob_types.specs.declared.id.TypeId.{TypeId}
+use Rattle.gob_types.specs.declared.kind.Shape.{Shape}
+use Rattle.gob_types.specs.Defined.{types}
+use Rattle.gob_types.proofs.FirstLaws.{FirstAre}
+use Rattle.gob_rename.specs.Fitting.{TellsOf}
+use Rattle.gob_rename.specs.Renaming.{definitions_of}
+use Rattle.gob_rename.proofs.judging.is_found.Given as goal
+
+abbrev pub invariant-loop-id : goal.invariant-loop-id
+invariant-loop-id l = FirstAre (λ (e : TypeId × Shape). ¬ TellsOf l.fn.rename e.1) (definitions_of (types l.fn.table))
+    l.id-index

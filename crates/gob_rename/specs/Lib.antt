@@ -1,0 +1,4 @@
+pub mod Renaming
+pub mod Words
+pub mod Fitting
+pub mod Laws
