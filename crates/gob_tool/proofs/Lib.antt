@@ -14,3 +14,4 @@ mod TidiedLaws
 mod FormLaws
 pub mod ReaderRuns
 pub mod Profile
+mod ConvertWithRuns

@@ -49,7 +49,7 @@ use Rattle.gob_tool.specs.Machine.Receiver.{Clashes, clashes_with, IsReceived, K
 use Rattle.gob_tool.specs.Machine.Receiver.{ReceivesNone, StaysKnown, TextsOrClash}
 use Rattle.gob_tool.specs.Showing.{AppendsPrefix, CountsReadFaults}
 use Rattle.gob_tool.specs.Machine.Counting.{CountsCounting}
-use Rattle.gob_tool.specs.Machine.Taken.{AreSent, defined, sent, views_given}
+use Rattle.gob_tool.specs.Machine.Taken.{AreSent, KnowsWanted, defined, sent, views_given}
 use Rattle.gob_tool.proofs.EndLaws.{all_kept, prefix_kept}
 use Rattle.gob_tool.proofs.LinesStay.{keeps_itself}
 use Rattle.gob_tool.proofs.ReaderRuns.{last_item, read_alone}
@@ -149,14 +149,6 @@ prefix_behind old mid new x y a p = record {
   out = Appends-trans old mid new x p.prefix a p.out;
 }
 
--- what is known of the wanted stream: its items, and the spelling of the definitions in front of the wanted type
-pub record KnowsWanted (L : Bounds) (U : Table) (u : TypeId) (definitions : List ℕ) (given : List StreamItem) : Type
-    0 where
-  pub bytes : List ℕ
-  pub stream : Stream base_table L given bytes U
-  pub first : first_type given ≡ Some u
-  pub front : AreSpelled (in_front given) definitions
-
 module _ (how : ReceivedForm) {U : Table} {u : TypeId} (wanted : IsReady U u) {L : Bounds} {bytes definitions : List ℕ}
     {given : List StreamItem} (knows : KnowsWanted L U u definitions given) where
   -- by the types behind all of them
@@ -178,7 +170,7 @@ module _ (how : ReceivedForm) {U : Table} {u : TypeId} (wanted : IsReady U u) {L
           → BeginsWithStream base_table L bytes items → AreReceivedIn how T U u items text
           → P (text_in_front how definitions ++ text) → HasIn how L given U u P T items
       in_form form.Line {text = text} P b r p = record { lines = text; received = lines_received r; holds = p }
-      in_form form.Item P b r p = has_converted {P = P} knows.stream knows.first knows.front b r p
+      in_form form.Item P b r p = has_converted {P = P} knows.stream knows.first knows.front knows.back b r p
 
   module _ (now old mid new : Option (List ℕ)) (front : Appends old mid (text_in_front how definitions)) where
     all_written : {T : Table} (items : List StreamItem) (b : BeginsWithStream base_table L bytes items)
@@ -285,7 +277,7 @@ module _ (how : ReceivedForm) (L : Bounds) (bytes : List ℕ) (now old mid new :
   cut (receives w) = receives (ended_begins strict w (has_as how L given U u (Appends old mid) (AppendsPrefix old new)
       (λ all a. all_kept old mid new all a k)))
 
-  flushed : {answer result : Result (Unit {0}) ToolFault} → EndsRun answer result
+  pub flushed : {answer result : Result (Unit {0}) ToolFault} → EndsRun answer result
       → Behind how L bytes now old mid given U u answer → Behind how L bytes now old new given U u result
   flushed (ends_so e) h = subst (λ r. Behind how L bytes now old new given U u r) (sym e) (kept_behind h)
   flushed (flush_fails o e) h =

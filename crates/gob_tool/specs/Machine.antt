@@ -8,3 +8,4 @@ pub mod Taken
 pub mod Received
 pub mod FormsGo
 pub mod LinesGo
+pub mod Renamed

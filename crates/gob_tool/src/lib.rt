@@ -12,6 +12,8 @@
 #![tactic(auto)]
 
 mod check;
+mod convert;
+mod convert_fault;
 mod end;
 mod fault;
 mod go;
@@ -32,6 +34,8 @@ mod tidied;
 mod wanted;
 
 pub use check::{Tally, run_check, run_check_in};
+pub use convert::{ConvertOptions, run_convert_with};
+pub use convert_fault::ConvertFault;
 pub use end::{end_run, flush_before_waiting};
 pub use fault::{ToolFault, status};
 pub use go::{run_check_go, run_rewrite_go, run_show_go};
@@ -39,7 +43,7 @@ pub use gob_words::{Chosen, Order, OrderFault, order_of};
 pub use item_json::{json_of, json_of_tape};
 pub use item_line::push_whole_line;
 pub use rewrite::run_rewrite;
-pub use run::run_order;
+pub use run::{limits_of, run_order};
 pub use sending::Sending;
 pub use show::run_show;
 pub use take::{run_convert, run_take};

@@ -51,8 +51,8 @@ pub fn run_order<Q: Read, R: Read, W: Write>(
     }
 }
 
-// The limits under which the streams are read: the order's depth and item, and else the standard ones.
-fn limits_of(order: &Order) -> Limits
+/// The limits under which the streams of an order are read: its depth and item, and else the standard ones.
+pub fn limits_of(order: &Order) -> Limits
     ensures { result ≡ order_limits order.now }
 {
     let standard = Limits::standard();
