@@ -3,7 +3,7 @@ _gob() {
     local current=${COMP_WORDS[COMP_CWORD]} previous=${COMP_WORDS[COMP_CWORD - 1]} words=
     COMPREPLY=()
     case $previous in
-    --depth | --item | --only | --as | --at | --types | --size | --values | --line | --type) return ;;
+    --depth | --item | --only | --as | --at | --types | --size | --values | --rename | --line | --type) return ;;
     esac
     if [ "$COMP_CWORD" -eq 1 ]; then
         words='values types why explain verify salvage split join show check rewrite take convert write make version help --help -h --version -V'
@@ -21,6 +21,7 @@ _gob() {
         show) words+=' --go --progress --salvage --numbers-as-text' ;;
         check) words+=' --go --progress' ;;
         rewrite) words+=' --go --hoist' ;;
+        convert) words+=' --rename --all' ;;
         write) words+=' --go --line' ;;
         make) words+=' --line --types --type --lenient' ;;
         esac

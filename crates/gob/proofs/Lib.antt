@@ -1,2 +1,3 @@
 mod AskedLaws
+mod ConvertLaws
 pub mod SalvagingLaws

@@ -4,10 +4,10 @@
 //! standard output. `gob check [IN]` prints one line that says how much there is in a whole stream, and `gob rewrite
 //! [IN]` writes the stream without the fields that are zero.
 //! `gob take WANTED [IN]` receives each value of IN as one of the type of the first value in the file WANTED, and
-//! prints a line for each; `gob convert WANTED [IN]` writes the stream of what is received. `gob values [IN]` prints
-//! each value as plain JSON, `gob types [IN]` the types as Go source, `gob why [IN]` why IN is refused or how much is
-//! in it, `gob explain [IN]` the bytes row by row, and `gob version` the version. `gob verify FILE..` prints a line for
-//! each file that says whether it is a whole stream.
+//! prints a line for each; `gob convert WANTED [IN]` writes the stream of what is received, by `--rename` also of fields
+//! that have other names in IN. `gob values [IN]` prints each value as plain JSON, `gob types [IN]` the types as Go
+//! source, `gob why [IN]` why IN is refused or how much is in it, `gob explain [IN]` the bytes row by row, and `gob
+//! version` the version. `gob verify FILE..` prints a line for each file that says whether it is a whole stream.
 //! `gob write [LINES]` writes the stream that lines of `gob show` say, and `gob make --types TYPES [JSON]` that of the
 //! values that plain JSON says.
 //! `gob split IN DIR` writes IN as files of the directory DIR, each a whole stream, and `gob join FILE..` the values of
@@ -33,6 +33,7 @@ ghost use Rattle.gob.specs.Exit.{IsQuietIfClosed, IsToldOnce, IsUnopened, seen_a
 
 mod appended;
 mod asked;
+mod convert;
 mod join;
 mod opening;
 mod part_files;
@@ -48,13 +49,13 @@ mod write;
 
 use crate::appended::{in_input, leaves_out};
 use crate::asked::{Asked, asked_by};
+use crate::convert::convert;
 use crate::join::join;
 use crate::opening::open;
 use crate::pipe::Pipe;
 use crate::progress::{size_of, watched};
 use crate::salvage::salvage;
 use crate::split::split;
-use crate::types::{TypesFile, wanted_of};
 use crate::verdict::Verdict;
 use crate::verify::verify;
 use crate::way_on::with_way_on;
@@ -185,6 +186,7 @@ fn run(rt: &HostRuntime) -> Result<(), Exit> {
         .collect::<Vec<&str>>(rt.alloc())?;
     match asked_by(rt.alloc(), &names) {
         Ok(Asked::Order(order)) if order.command == Chosen::Show => show(rt, &order, &names),
+        Ok(Asked::Order(order)) if order.command == Chosen::Convert => convert(rt, &order, &names),
         Ok(Asked::Order(order)) => run_for(rt, &order),
         Ok(Asked::View(view)) if view.command == ViewCommand::Write => write(rt, &view),
         Ok(Asked::View(view)) if view.command == ViewCommand::Salvage => salvage(rt, &view, &names),
@@ -229,40 +231,15 @@ fn numbers_as_text<'a>(alloc: Global, names: &'a [&'a str]) -> Result<bool, Exit
     numbers_are_texts(alloc, names).map_err(|fault| Exit::Words(fault))
 }
 
-// Opens the file that has the wanted type, if the command wants one, which of `convert` may be Go source itself.
+// Opens the file that has the wanted type, if the command wants one.
 fn run_for(rt: &HostRuntime, order: &Order) -> Result<(), Exit> {
     match order.wanted {
         None => run_on(rt, order, b"".as_slice(), false),
-        Some(word) if order.command == Chosen::Convert && is_declaration(word) => {
-            run_declared(rt, order, word.as_bytes())
-        }
         Some(path) => {
             let wanted = opened(File::open(rt, path))?;
-            run_wanting(rt, order, wanted)
+            run_on(rt, order, wanted, false)
         }
     }
-}
-
-// Runs with the file that has the wanted type, which of `convert` may be Go source.
-fn run_wanting(rt: &HostRuntime, order: &Order, wanted: File) -> Result<(), Exit> {
-    if order.command != Chosen::Convert {
-        return run_on(rt, order, wanted, false);
-    }
-    match TypesFile::begun(rt.alloc(), wanted)? {
-        TypesFile::Stream(first, rest) => run_on(rt, order, first.as_slice().chain(rest), false),
-        TypesFile::Source(text) => run_declared(rt, order, &text),
-    }
-}
-
-// Runs with the first type that Go source declares as the wanted one.
-fn run_declared(rt: &HostRuntime, order: &Order, source: &[u8]) -> Result<(), Exit> {
-    let stream = wanted_of(rt.alloc(), source)?;
-    run_on(rt, order, stream.as_slice(), false)
-}
-
-// Whether a word is the declaration of a type, and names no file: a file of such a name has its folder before it.
-fn is_declaration(word: &str) -> bool {
-    word.starts_with("type ")
 }
 
 // Opens the input, then runs, with texts in place of the numbers of its lines or without.

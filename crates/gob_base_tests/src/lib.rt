@@ -1,4 +1,4 @@
-//! Tests of numbers, types, values, tidy forms and matching, by their public calls alone. Each row is one of
+//! Tests of numbers, types, values, tidy forms, matching and renames, by their public calls alone. Each row is one of
 //! docs/FORMAT.md, or worked out by hand from it. What the rows of a list say behind what they are, stands before the
 //! list: numbers, a value, bytes, and what is due.
 #![tactic(auto)]
@@ -13,6 +13,8 @@ mod matching;
 mod memory;
 #[cfg(test)]
 mod numbers;
+#[cfg(test)]
+mod renames;
 #[cfg(test)]
 mod tables;
 #[cfg(test)]

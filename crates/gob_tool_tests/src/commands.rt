@@ -1,7 +1,11 @@
 //! Runs of the commands, and how they end.
 
+use gob_rename::Rename;
 use gob_stream::{Input, Limits, Output};
-use gob_tool::{ToolFault, run_check, run_convert, run_rewrite, run_show, run_take};
+use gob_tool::{
+    ConvertFault, ConvertOptions, ToolFault, run_check, run_convert, run_convert_with, run_rewrite,
+    run_show, run_take,
+};
 use std::alloc::Global;
 use std::io::{Read, Write};
 
@@ -13,6 +17,8 @@ pub(crate) enum Command<'a> {
     Rewrite,
     Take(&'a [u8]),
     Convert(&'a [u8]),
+    /// With fields that have other names in the stream. Each fits the wanted types.
+    Rename(&'a [u8], &'a [Rename<'a>]),
 }
 
 impl<'a> Command<'a> {
@@ -49,7 +55,21 @@ impl<'a> Command<'a> {
                 let mut wanted = Input::new(wanted);
                 run_convert(alloc, &mut wanted, input, output, limits)
             }
+            Command::Rename(wanted, renames) => {
+                let asked = ConvertOptions { renames };
+                let mut wanted = Input::new(wanted);
+                fitting(run_convert_with(alloc, &asked, &mut wanted, input, output, limits))
+            }
         }
+    }
+}
+
+// How a conversion ended whose renames fit.
+fn fitting(ended: Result<(), ConvertFault>) -> Result<(), ToolFault> {
+    match ended {
+        Ok(()) => Ok(()),
+        Err(ConvertFault::Run(fault)) => Err(fault),
+        Err(ConvertFault::Misfits { .. }) => Err(ToolFault::NoWantedType),
     }
 }
 

@@ -7,6 +7,8 @@ mod checks;
 #[cfg(test)]
 mod commands;
 #[cfg(test)]
+mod conversions;
+#[cfg(test)]
 mod converts;
 #[cfg(test)]
 mod device_faults;

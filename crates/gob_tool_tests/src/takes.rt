@@ -23,6 +23,11 @@ pub(crate) const B_ALONE: &[u8] = b"\
     \x1b\xff\x81\x03\x01\x01\x01W\x01\xff\x82\x00\x01\x02\x01\x01B\x01\x04\x00\x01\x01C\x01\x04\x00\x00\x00\
     \x05\xff\x82\x01\x04\x00";
 
+/// The definition of that struct, and B 2, C 1.
+pub(crate) const B_AND_A_AS_C: &[u8] = b"\
+    \x1b\xff\x81\x03\x01\x01\x01W\x01\xff\x82\x00\x01\x02\x01\x01B\x01\x04\x00\x01\x01C\x01\x04\x00\x00\x00\
+    \x07\xff\x82\x01\x04\x01\x02\x00";
+
 /// The line of B 2 as the first field.
 pub(crate) const B_LINE: &[u8] = b"{\"type\":65,\"value\":[[0,\"B\",2]]}\n";
 
@@ -75,6 +80,7 @@ pub(crate) fn stream_of(alloc: Global, text: &str) -> Result<Vec<u8>, AllocError
         "B_AND_C" => B_AND_C.to_vec(alloc),
         "X_TWICE" => X_TWICE.to_vec(alloc),
         "B_ALONE" => B_ALONE.to_vec(alloc),
+        "B_AND_A_AS_C" => B_AND_A_AS_C.to_vec(alloc),
         _ => bytes_of(alloc, text),
     }
 }

@@ -2,7 +2,8 @@
 
 use crate::commands::Command;
 use crate::streams::{THREE, THREE_LINES};
-use crate::takes::{A_AND_B, B_ALONE, B_AND_C, B_LINE};
+use crate::takes::{A_AND_B, B_ALONE, B_AND_A_AS_C, B_AND_C, B_LINE};
+use gob_rename::Rename;
 
 /// What is tried: a command, and a stream that it goes through to the end.
 #[derive(Clone, Copy)]
@@ -32,7 +33,7 @@ impl Trial {
 }
 
 // The trials.
-const TRIALS: [Trial; 6] = [
+const TRIALS: [Trial; 7] = [
     Trial {
         what: "three items shown: whole lines are written",
         command: Command::Show,
@@ -83,9 +84,23 @@ const TRIALS: [Trial; 6] = [
         written: B_ALONE,
         ends: &[(0, 28), (36, 34)],
     },
+    Trial {
+        what: "the same value received by another name of C: the types are renamed before the definition is written",
+        command: Command::Rename(B_AND_C, &A_AS_C),
+        stream: A_AND_B,
+        written: B_AND_A_AS_C,
+        ends: &[(0, 28), (36, 36)],
+    },
 ];
 
+// The field C has the name A in the stream.
+const A_AS_C: [Rename<'static>; 1] = [Rename {
+    of: None,
+    old: b"A",
+    new: b"C",
+}];
+
 /// The trials.
-pub(crate) fn trials() -> [Trial; 6] {
+pub(crate) fn trials() -> [Trial; 7] {
     TRIALS
 }

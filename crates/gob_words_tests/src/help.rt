@@ -142,7 +142,10 @@ const HELPS: [(&str, &str); 15] = [
     ("why --help", "1 to 1000,"),
     ("help explain", EXPLAIN),
     ("help write", WRITE),
-    ("help convert", "<WANTED> [IN]\na stream, or Go source\n--rename <OLD=NEW>\n--all"),
+    (
+        "help convert",
+        "<WANTED> [IN]\na stream, or Go source\n--rename <OLD=NEW>\n--all",
+    ),
 ];
 
 // Whether the help has the one text, and the other behind it.

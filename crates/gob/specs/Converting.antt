@@ -1,0 +1,59 @@
+-- How the program ends that converts a stream. (docs/FORMAT.md, The program: this project's own.)
+use Rattle.std.specs.Prelude.{◌≡◌, ℕ, List, Option, Some, Result, Ok, Err, IsErrAnd, string_bytes}
+use Rattle.std.specs.Io.KnownBytes.{append_known}
+use Rattle.gob_rename.specs.declared.rename.Rename.{Rename}
+use Rattle.gob_stream.specs.Bounds.{within_trees}
+use Rattle.gob_tool.specs.declared.convert_fault.ConvertFault.{ConvertFault}
+use Rattle.gob_tool.specs.declared.convert_fault.ConvertFault.TheVariants as stop
+use Rattle.gob_tool.specs.declared.fault.ToolFault.{ToolFault}
+use Rattle.gob_tool.specs.declared.fault.ToolFault.TheVariants as run_fault
+use Rattle.gob_tool.specs.ConvertWith.{ConvertWithAnswers, OfRun}
+use Rattle.gob_tool.specs.Running.{order_limits}
+use Rattle.gob_tool.specs.Showing.{CountsWriteFaults}
+use Rattle.gob_tool.specs.Taking.{CountsTakeReads}
+use Rattle.gob_words.specs.Escaped.{IsUnobeyed}
+use Rattle.gob_words.specs.declared.words.Order.{Order}
+use Rattle.gob.specs.Exit.{HasAnswered, IsTold, Seen}
+use Rattle.gob.specs.declared.Exit.{Exit}
+use Rattle.gob.specs.declared.Exit.TheVariants as end
+
+-- a line says what is wrong with a word, in characters of which a terminal obeys none, unless no memory was had
+abbrev pub TellsWord : Exit → Type 0
+TellsWord (end.View line) = IsUnobeyed (string_bytes line)
+TellsWord told = told ≡ end.Run run_fault.Memory
+
+-- a run that answered so ends so, where its last bytes, these, were lost
+pub record EndsAs (answer : Result (Unit {0}) ToolFault) (lost : List ℕ) (result : Result (Unit {0}) Exit) : Type 0
+  where
+    pub told : Result (Unit {0}) ToolFault
+    pub tells : IsTold answer lost told
+    pub answered : HasAnswered told result
+
+-- and so does a conversion, but where one of the renames doesn't fit
+abbrev pub EndsConversionAs : Result (Unit {0}) ConvertFault → (lost : List ℕ) → Result (Unit {0}) Exit → Type 0
+EndsConversionAs (Ok u) lost result = EndsAs (Ok u) lost result
+EndsConversionAs (Err (stop.Run fault)) lost result = EndsAs (Err fault) lost result
+EndsConversionAs (Err (stop.Misfits number why)) lost result = IsErrAnd result TellsWord
+
+-- a conversion that answered so ends so, where it wrote these bytes, and the writer behind it has the new ones
+pub record IsSettledAs (answer : Result (Unit {0}) ConvertFault) (wrote new : Option (List ℕ))
+    (result : Result (Unit {0}) Exit) : Type 0 where
+  -- what it wrote and the writer didn't take
+  pub lost : List ℕ
+  pub ends : EndsConversionAs answer lost result
+  pub all : wrote ≡ append_known new lost
+
+-- how a conversion ends, where the wanted stream, the input and the output were the first of each pair, and are the
+-- second
+pub record EndsConversion (order : Order) (renames : List Rename) (wanted wanted_now input now old new : Seen)
+    (result : Result (Unit {0}) Exit) : Type 0 where
+  pub answer : Result (Unit {0}) ConvertFault
+  -- what it wrote and the writer behind it didn't take
+  pub lost : List ℕ
+  pub ends : EndsConversionAs answer lost result
+  -- a read or a write failed where it answers so
+  pub reads : OfRun (CountsTakeReads wanted.failures wanted_now.failures input.failures now.failures) answer
+  pub writes : OfRun (CountsWriteFaults old.failures new.failures) answer
+  pub does : (wanted_bytes bytes : List ℕ) → wanted.bytes ≡ Some wanted_bytes → input.bytes ≡ Some bytes
+      → ConvertWithAnswers renames (within_trees (order_limits order)) wanted_bytes bytes wanted_now.bytes now.bytes old.bytes
+      (append_known new.bytes lost) answer

@@ -1,0 +1,214 @@
+//! The stream of what is received of a stream's values, as the words ask.
+
+ghost use Rattle.std.specs.Prelude.{◌≡◌, length, IfErr, IfOk, string_bytes};
+ghost use Rattle.std.specs.Io.Buffered.{writer_contents};
+ghost use Rattle.gob_stream.specs.Calls.Ends.{failed_writes, writer_of};
+ghost use Rattle.gob_tool.specs.ConvertWith.{IsAmongRenames};
+ghost use Rattle.gob_words.specs.Escaped.{IsUnobeyed};
+ghost use Rattle.gob.specs.Converting.{EndsConversion, IsSettledAs, TellsWord};
+ghost use Rattle.gob.specs.Exit.{IsQuietIfClosed, seen_after, seen_of, unused};
+
+use crate::pipe::Pipe;
+use crate::types::{TypesFile, wanted_of};
+use crate::{AfterRun, Exit, buffered, opened, settled};
+use gob_rename::{Misfit, Rename, WordFault, WordsFault, renames_said_by};
+use gob_stream::{Input, Output};
+use gob_tool::{ConvertFault, ConvertOptions, ToolFault, limits_of, run_convert_with};
+use gob_words::{Order, converting_of, escaped};
+use std::alloc::{AllocError, Global};
+use std::fs::File;
+use std::io::{BufWriter, Read, Write};
+
+/// Fields of the wanted types that have another name in the stream.
+#[derive(Drop)]
+struct Renaming<'a> {
+    /// The words that say so.
+    words: Vec<&'a str>,
+    /// What each of them says.
+    renames: Vec<Rename<'a>>,
+    ghost as_many: { length renames.items ≡ length words.items },
+}
+
+/// Writes the stream of the values as those of the wanted type, whose fields have the names there that the words
+/// say.
+pub(crate) fn convert<'a>(
+    rt: &HostRuntime,
+    order: &Order,
+    names: &'a [&'a str],
+) -> Result<(), Exit> {
+    let asked = renaming_of(rt.alloc(), names)?;
+    match order.wanted {
+        None => convert_on(rt, order, &asked, b"".as_slice()),
+        Some(word) if is_declaration(word) => convert_declared(rt, order, &asked, word.as_bytes()),
+        Some(path) => {
+            let wanted = opened(File::open(rt, path))?;
+            convert_file(rt, order, &asked, wanted)
+        }
+    }
+}
+
+// What the words say of fields.
+fn renaming_of<'a>(alloc: Global, names: &'a [&'a str]) -> Result<Renaming<'a>, Exit> {
+    let words = converting_of(alloc, names)?.renames;
+    match renames_said_by(alloc, &words) {
+        Ok(renames) => Ok(Renaming { words, renames }),
+        Err(WordsFault::Memory) => Err(Exit::Run(ToolFault::Memory)),
+        Err(WordsFault::Word { number, fault }) => {
+            Err(told(word_line(alloc, words[number], fault)))
+        }
+    }
+}
+
+// Whether a word is the declaration of a type, and names no file: a file of such a name has its folder before it.
+fn is_declaration(word: &str) -> bool {
+    word.starts_with("type ")
+}
+
+// Converts by the file that has the wanted type: a stream, or Go source.
+fn convert_file(
+    rt: &HostRuntime,
+    order: &Order,
+    asked: &Renaming<'_>,
+    wanted: File,
+) -> Result<(), Exit> {
+    match TypesFile::begun(rt.alloc(), wanted)? {
+        TypesFile::Stream(first, rest) => {
+            convert_on(rt, order, asked, first.as_slice().chain(rest))
+        }
+        TypesFile::Source(text) => convert_declared(rt, order, asked, &text),
+    }
+}
+
+// Converts by the first type that Go source declares.
+fn convert_declared(
+    rt: &HostRuntime,
+    order: &Order,
+    asked: &Renaming<'_>,
+    source: &[u8],
+) -> Result<(), Exit> {
+    let stream = wanted_of(rt.alloc(), source)?;
+    convert_on(rt, order, asked, stream.as_slice())
+}
+
+// Opens the input, then converts it.
+fn convert_on<Q: Read + Drop>(
+    rt: &HostRuntime,
+    order: &Order,
+    asked: &Renaming<'_>,
+    wanted: Q,
+) -> Result<(), Exit> {
+    let writer = buffered(rt.alloc(), rt.stdout())?;
+    let mut wanted = Input::new(wanted);
+    match order.input {
+        None => {
+            let mut input = Input::new(rt.stdin());
+            convert_out(rt.alloc(), order, asked, &mut wanted, &mut input, writer).ending
+        }
+        Some(path) => {
+            let mut input = Input::new(opened(File::open(rt, path))?);
+            convert_out(rt.alloc(), order, asked, &mut wanted, &mut input, writer).ending
+        }
+    }
+}
+
+// The run, as that of an order.
+fn convert_out<Q: Read, R: Read, W: Write + Drop>(
+    alloc: Global,
+    order: &Order,
+    asked: &Renaming<'_>,
+    wanted: &mut Input<Q>,
+    input: &mut Input<R>,
+    writer: BufWriter<Pipe<W>>,
+) -> AfterRun<W>
+    ensures ends { EndsConversion order.now asked.now.renames.items
+        (seen_of Q.remaining wanted.old) (seen_of Q.remaining wanted.new)
+        (seen_of R.remaining input.old) (seen_of R.remaining input.new)
+        (unused (writer_contents (λ pipe. W.contents pipe.writer) writer)) (seen_after W.contents result)
+        result.ending }
+    ensures quiet { IsQuietIfClosed result }
+{
+    let mut output = Output::new(writer);
+    let conversion = ConvertOptions {
+        renames: &asked.renames,
+    };
+    let limits = limits_of(order);
+    let answer = run_convert_with(alloc, &conversion, wanted, input, &mut output, limits);
+    settled_as(alloc, &asked.words, answer, output)
+}
+
+// What comes of a conversion that answered this: where a rename doesn't fit the wanted types, its word is told.
+fn settled_as<W: Write + Drop>(
+    alloc: Global,
+    words: &[&str],
+    answer: Result<(), ConvertFault>,
+    output: Output<BufWriter<Pipe<W>>>,
+) -> AfterRun<W>
+    requires { IfErr answer (IsAmongRenames (length words.now)) }
+    ensures settled { IsSettledAs answer
+        (writer_contents (λ pipe. W.contents pipe.writer) (writer_of output)) (W.contents result.pipe.writer)
+        result.ending }
+    ensures counted { result.failures ≡ failed_writes output }
+    ensures quiet { IsQuietIfClosed result }
+{
+    match answer {
+        Ok(()) => settled(Ok(()), output),
+        Err(ConvertFault::Run(fault)) => settled(Err(fault), output),
+        Err(ConvertFault::Misfits { number, misfit }) => {
+            let stop = told(misfit_line(alloc, words[number], misfit));
+            let after = settled(Ok(()), output);
+            AfterRun {
+                ending: Err(stop),
+                pipe: after.pipe,
+                failures: after.failures,
+            }
+        }
+    }
+}
+
+// What ends the program where this is wrong with a word.
+fn told(line: Result<String, AllocError>) -> Exit
+    requires { IfOk line (λ line. IsUnobeyed (string_bytes line)) }
+    ensures { TellsWord result }
+{
+    match line {
+        Ok(line) => Exit::View(line),
+        Err(_) => Exit::Run(ToolFault::Memory),
+    }
+}
+
+// Says in clap's words that what was given for `--rename` says nothing of a field.
+fn word_line(alloc: Global, word: &str, fault: WordFault) -> Result<String, AllocError>
+    ensures { IfOk result (λ line. IsUnobeyed (string_bytes line)) }
+{
+    let why = match fault {
+        WordFault::NoEqualsSign => "no = between two names",
+        WordFault::EmptyName => "a name is empty",
+    };
+    let line = format!(in alloc; "invalid value '{word}' for '--rename <OLD=NEW>': {why}")?;
+    escaped(alloc, line.as_str())
+}
+
+// Says why a word doesn't fit the wanted types.
+fn misfit_line(alloc: Global, word: &str, misfit: Misfit) -> Result<String, AllocError>
+    ensures { IfOk result (λ line. IsUnobeyed (string_bytes line)) }
+{
+    let field = wanted_field(alloc, word)?;
+    let line = match misfit {
+        Misfit::NoField => format!(in alloc;
+            "--rename {word}: the wanted type has no field {field}"
+        ),
+        Misfit::OldNameTaken => format!(in alloc;
+            "--rename {word}: the wanted type has the field {field}, and one of the old name beside it"
+        ),
+    }?;
+    escaped(alloc, line.as_str())
+}
+
+// The wanted field of which the word tells, behind the name of its struct if that is said.
+fn wanted_field(alloc: Global, word: &str) -> Result<String, AllocError> {
+    let (place, new) = word.split_once('=').unwrap_or(("", word));
+    match place.rsplit_once('.') {
+        Some((of, _)) => format!(in alloc; "{of}.{new}"),
+        None => String::from_str(alloc, new),
+    }
+}
