@@ -55,5 +55,5 @@ pub record EndsConversion (order : Order) (renames : List Rename) (wanted wanted
   pub reads : OfRun (CountsTakeReads wanted.failures wanted_now.failures input.failures now.failures) answer
   pub writes : OfRun (CountsWriteFaults old.failures new.failures) answer
   pub does : (wanted_bytes bytes : List ℕ) → wanted.bytes ≡ Some wanted_bytes → input.bytes ≡ Some bytes
-      → ConvertWithAnswers renames (within_trees (order_limits order)) wanted_bytes bytes wanted_now.bytes now.bytes old.bytes
-      (append_known new.bytes lost) answer
+      → ConvertWithAnswers renames (within_trees (order_limits order)) wanted_bytes bytes wanted_now.bytes now.bytes
+      old.bytes (append_known new.bytes lost) answer

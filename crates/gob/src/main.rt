@@ -4,9 +4,9 @@
 //! standard output. `gob check [IN]` prints one line that says how much there is in a whole stream, and `gob rewrite
 //! [IN]` writes the stream without the fields that are zero.
 //! `gob take WANTED [IN]` receives each value of IN as one of the type of the first value in the file WANTED, and
-//! prints a line for each; `gob convert WANTED [IN]` writes the stream of what is received, by `--rename` also of fields
-//! that have other names in IN. `gob values [IN]` prints each value as plain JSON, `gob types [IN]` the types as Go
-//! source, `gob why [IN]` why IN is refused or how much is in it, `gob explain [IN]` the bytes row by row, and `gob
+//! prints a line for each; `gob convert WANTED [IN]` writes the stream of what is received, by `--rename` also of
+//! fields that have other names in IN. `gob values [IN]` prints each value as plain JSON, `gob types [IN]` the types as
+//! Go source, `gob why [IN]` why IN is refused or how much is in it, `gob explain [IN]` the bytes row by row, and `gob
 //! version` the version. `gob verify FILE..` prints a line for each file that says whether it is a whole stream.
 //! `gob write [LINES]` writes the stream that lines of `gob show` say, and `gob make --types TYPES [JSON]` that of the
 //! values that plain JSON says.
