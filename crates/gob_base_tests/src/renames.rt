@@ -3,32 +3,28 @@
 use gob_rename::{Rename, WordFault};
 use std::test::*;
 
-// The field of all structs, or of those of the name.
-const fn of(
-    name: Option<&'static [u8]>,
-    old: &'static [u8],
-    new: &'static [u8],
-) -> Rename<'static> {
-    Rename { of: name, old, new }
-}
-
-// Words, and what they say.
-const SAID: [(&str, Rename<'static>); 5] = [
-    ("User=Name", of(None, b"User", b"Name")),
-    ("Login.User=Name", of(Some(b"Login"), b"User", b"Name")),
-    ("main.Pair.A=B", of(Some(b"main.Pair"), b"A", b"B")),
-    ("a=b=c.d", of(None, b"a", b"b=c.d")),
-    (" =é", of(None, b" ", b"\xc3\xa9")),
+// Words, and the names that they say: of a struct or none, the old one and the new one.
+const SAID: [(&str, Option<&[u8]>, &[u8], &[u8]); 5] = [
+    ("User=Name", None, b"User", b"Name"),
+    ("Login.User=Name", Some(b"Login"), b"User", b"Name"),
+    ("main.Pair.A=B", Some(b"main.Pair"), b"A", b"B"),
+    ("a=b=c.d", None, b"a", b"b=c.d"),
+    (" =é", None, b" ", b"\xc3\xa9"),
 ];
 
 #[test]
 fn words_say_renames(rt: HostRuntime) {
-    for (word, due) in &SAID {
-        assert!(rt; Rename::said_by(word) == Ok(*due), "{word}");
+    for (word, of, old, new) in &SAID {
+        let due = Rename {
+            of: *of,
+            old: *old,
+            new: *new,
+        };
+        assert!(rt; Rename::said_by(word) == Ok(due), "{word}");
     }
 }
 
-// Words that say nothing.
+// Words that say nothing, and why.
 const UNSAID: [(&str, WordFault); 8] = [
     ("", WordFault::NoEqualsSign),
     ("User", WordFault::NoEqualsSign),
