@@ -1,5 +1,5 @@
 -- How the program ends that converts a stream. (docs/FORMAT.md, The program: this project's own.)
-use Rattle.std.specs.Prelude.{◌≡◌, ℕ, List, Option, Some, Result, Ok, Err, IsErrAnd, string_bytes}
+use Rattle.std.specs.Prelude.{◌≡◌, ℕ, Bool, List, Option, Some, Result, Ok, Err, IsErrAnd, string_bytes}
 use Rattle.std.specs.Io.KnownBytes.{append_known}
 use Rattle.gob_rename.specs.declared.rename.Rename.{Rename}
 use Rattle.gob_stream.specs.Bounds.{within_trees}
@@ -45,7 +45,7 @@ pub record IsSettledAs (answer : Result (Unit {0}) ConvertFault) (wrote new : Op
 
 -- how a conversion ends, where the wanted stream, the input and the output were the first of each pair, and are the
 -- second
-pub record EndsConversion (order : Order) (renames : List Rename) (wanted wanted_now input now old new : Seen)
+pub record EndsConversion (order : Order) (renames : List Rename) (all : Bool) (wanted wanted_now input now old new : Seen)
     (result : Result (Unit {0}) Exit) : Type 0 where
   pub answer : Result (Unit {0}) ConvertFault
   -- what it wrote and the writer behind it didn't take
@@ -55,5 +55,5 @@ pub record EndsConversion (order : Order) (renames : List Rename) (wanted wanted
   pub reads : OfRun (CountsTakeReads wanted.failures wanted_now.failures input.failures now.failures) answer
   pub writes : OfRun (CountsWriteFaults old.failures new.failures) answer
   pub does : (wanted_bytes bytes : List ℕ) → wanted.bytes ≡ Some wanted_bytes → input.bytes ≡ Some bytes
-      → ConvertWithAnswers renames (within_trees (order_limits order)) wanted_bytes bytes wanted_now.bytes now.bytes
+      → ConvertWithAnswers renames all (within_trees (order_limits order)) wanted_bytes bytes wanted_now.bytes now.bytes
       old.bytes (append_known new.bytes lost) answer

@@ -14,18 +14,20 @@ use crate::{AfterRun, Exit, buffered, opened, settled};
 use gob_rename::{Misfit, Rename, WordFault, WordsFault, renames_said_by};
 use gob_stream::{Input, Output};
 use gob_tool::{ConvertFault, ConvertOptions, ToolFault, limits_of, run_convert_with};
-use gob_words::{Order, converting_of, escaped};
+use gob_words::{Converting, Order, converting_of, escaped};
 use std::alloc::{AllocError, Global};
 use std::fs::File;
 use std::io::{BufWriter, Read, Write};
 
-/// Fields of the wanted types that have another name in the stream.
+/// What the words ask of a conversion.
 #[derive(Drop)]
-struct Renaming<'a> {
-    /// The words that say so.
+struct Conversion<'a> {
+    /// Those that say which fields of the wanted types have another name in the stream.
     words: Vec<&'a str>,
     /// What each of them says.
     renames: Vec<Rename<'a>>,
+    /// Whether no field of a value may be left out.
+    all: bool,
     ghost as_many: { length renames.items ≡ length words.items },
 }
 
@@ -36,7 +38,7 @@ pub(crate) fn convert<'a>(
     order: &Order,
     names: &'a [&'a str],
 ) -> Result<(), Exit> {
-    let asked = renaming_of(rt.alloc(), names)?;
+    let asked = conversion_of(rt.alloc(), names)?;
     match order.wanted {
         None => convert_on(rt, order, &asked, b"".as_slice()),
         Some(word) if is_declaration(word) => convert_declared(rt, order, &asked, word.as_bytes()),
@@ -47,11 +49,18 @@ pub(crate) fn convert<'a>(
     }
 }
 
-// What the words say of fields.
-fn renaming_of<'a>(alloc: Global, names: &'a [&'a str]) -> Result<Renaming<'a>, Exit> {
-    let words = converting_of(alloc, names)?.renames;
+// What the words ask.
+fn conversion_of<'a>(alloc: Global, names: &'a [&'a str]) -> Result<Conversion<'a>, Exit> {
+    let Converting {
+        renames: words,
+        all,
+    } = converting_of(alloc, names)?;
     match renames_said_by(alloc, &words) {
-        Ok(renames) => Ok(Renaming { words, renames }),
+        Ok(renames) => Ok(Conversion {
+            words,
+            renames,
+            all,
+        }),
         Err(WordsFault::Memory) => Err(Exit::Run(ToolFault::Memory)),
         Err(WordsFault::Word { number, fault }) => {
             Err(told(word_line(alloc, words[number], fault)))
@@ -68,7 +77,7 @@ fn is_declaration(word: &str) -> bool {
 fn convert_file(
     rt: &HostRuntime,
     order: &Order,
-    asked: &Renaming<'_>,
+    asked: &Conversion<'_>,
     wanted: File,
 ) -> Result<(), Exit> {
     match TypesFile::begun(rt.alloc(), wanted)? {
@@ -83,7 +92,7 @@ fn convert_file(
 fn convert_declared(
     rt: &HostRuntime,
     order: &Order,
-    asked: &Renaming<'_>,
+    asked: &Conversion<'_>,
     source: &[u8],
 ) -> Result<(), Exit> {
     let stream = wanted_of(rt.alloc(), source)?;
@@ -94,7 +103,7 @@ fn convert_declared(
 fn convert_on<Q: Read + Drop>(
     rt: &HostRuntime,
     order: &Order,
-    asked: &Renaming<'_>,
+    asked: &Conversion<'_>,
     wanted: Q,
 ) -> Result<(), Exit> {
     let writer = buffered(rt.alloc(), rt.stdout())?;
@@ -115,12 +124,12 @@ fn convert_on<Q: Read + Drop>(
 fn convert_out<Q: Read, R: Read, W: Write + Drop>(
     alloc: Global,
     order: &Order,
-    asked: &Renaming<'_>,
+    asked: &Conversion<'_>,
     wanted: &mut Input<Q>,
     input: &mut Input<R>,
     writer: BufWriter<Pipe<W>>,
 ) -> AfterRun<W>
-    ensures ends { EndsConversion order.now asked.now.renames.items
+    ensures ends { EndsConversion order.now asked.now.renames.items asked.now.all
         (seen_of Q.remaining wanted.old) (seen_of Q.remaining wanted.new)
         (seen_of R.remaining input.old) (seen_of R.remaining input.new)
         (unused (writer_contents (λ pipe. W.contents pipe.writer) writer)) (seen_after W.contents result)
@@ -128,11 +137,12 @@ fn convert_out<Q: Read, R: Read, W: Write + Drop>(
     ensures quiet { IsQuietIfClosed result }
 {
     let mut output = Output::new(writer);
-    let conversion = ConvertOptions {
+    let options = ConvertOptions {
         renames: &asked.renames,
+        all: asked.all,
     };
     let limits = limits_of(order);
-    let answer = run_convert_with(alloc, &conversion, wanted, input, &mut output, limits);
+    let answer = run_convert_with(alloc, &options, wanted, input, &mut output, limits);
     settled_as(alloc, &asked.words, answer, output)
 }
 

@@ -70,6 +70,7 @@ told_of_run (Err (tool.Refused R)) length words = stream_told 1 (reason_number R
 told_of_run (Err (tool.Wanted R)) length words = stream_told 1 (reason_number R.reason) 0 length words
 told_of_run (Err tool.NoWantedType) length words = stream_told 1 0 0 length words
 told_of_run (Err (tool.Clash path reason)) length words = stream_told 1 0 0 length words
+told_of_run (Err (tool.LeftOut path number)) length words = stream_told 1 0 0 length words
 told_of_run (Err tool.Read) length words = stream_told 2 0 0 length words
 told_of_run (Err tool.Write) length words = stream_told 2 0 0 length words
 told_of_run (Err tool.Memory) length words = stream_told 2 0 0 length words

@@ -164,7 +164,9 @@ impl StreamTold {
             Err(ToolFault::Refused(refusal) | ToolFault::Wanted(refusal)) => {
                 (1, refusal.reason.number() as u32)
             }
-            Err(ToolFault::NoWantedType | ToolFault::Clash { .. }) => (1, 0),
+            Err(ToolFault::NoWantedType | ToolFault::Clash { .. } | ToolFault::LeftOut { .. }) => (
+                1, 0,
+            ),
             Err(ToolFault::Read | ToolFault::Write | ToolFault::Memory) => (2, 0),
         };
         StreamTold {

@@ -37,7 +37,7 @@ key_read [] k d = refl
 key_read (e ∷ es) zero d = refl
 key_read (e ∷ es) (suc k) d = key_read es k d
 
-length_keys : (es : List Entry) → length (keys_of es) ≡ length es
+pub length_keys : (es : List Entry) → length (keys_of es) ≡ length es
 length_keys [] = refl
 length_keys (e ∷ es) = ap suc (length_keys es)
 

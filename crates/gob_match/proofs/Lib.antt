@@ -2,6 +2,7 @@ pub mod PublicLaws
 pub mod FoundLaws
 pub mod ClashLaws
 pub mod SearchLaws
+pub mod MatchedLaws
 pub mod ConversionLaws
 pub mod KindLaws
 pub mod NameLaws

@@ -20,7 +20,7 @@ pub enum TypeStep {
 
 impl TypeStep {
     /// A copy of the step.
-    pub(crate) fn copied(&self, alloc: Global) -> Result<TypeStep, Memory>
+    pub fn copied(&self, alloc: Global) -> Result<TypeStep, Memory>
         ensures { IfOk result (λ step. step ≡ self.now) }
     {
         match self {

@@ -38,6 +38,7 @@ behind_answers L front bytes now old new all told (Err fault.Memory) h t = h
 behind_answers L front bytes now old new all told (Err (fault.Wanted R)) h t = h
 behind_answers L front bytes now old new all told (Err fault.NoWantedType) h t = h
 behind_answers L front bytes now old new all told (Err (fault.Clash path reason)) h t = h
+behind_answers L front bytes now old new all told (Err (fault.LeftOut path number)) h t = h
 
 -- the first bytes turned behind the others, and cut off there
 pub turned : (xs : List ℕ) (n most : ℕ) → n ≤ length xs → most ≡ length xs - n

@@ -48,6 +48,7 @@ unread L bytes now out told most fault.Write e h = absurd h
 unread L bytes now out told most (fault.Wanted R) e h = absurd h
 unread L bytes now out told most fault.NoWantedType e h = absurd h
 unread L bytes now out told most (fault.Clash path reason) e h = absurd h
+unread L bytes now out told most (fault.LeftOut path number) e h = absurd h
 
 -- and no write failed
 pub reading_writes : (A : Type 0) (failures failures' out : ℕ) (f : ToolFault)
@@ -59,6 +60,7 @@ reading_writes A failures failures' out fault.Write h = absurd h
 reading_writes A failures failures' out (fault.Wanted R) h = refl
 reading_writes A failures failures' out fault.NoWantedType h = refl
 reading_writes A failures failures' out (fault.Clash path reason) h = refl
+reading_writes A failures failures' out (fault.LeftOut path number) h = refl
 
 pub reading_reads : (A : Type 0) (failures failures' : ℕ) (f : ToolFault)
     → CountsReading {A = A} failures failures' (Err f) → CountsReadFaults failures failures' (Err f)
@@ -69,6 +71,7 @@ reading_reads A failures failures' fault.Write h = absurd h
 reading_reads A failures failures' (fault.Wanted R) h = h
 reading_reads A failures failures' fault.NoWantedType h = h
 reading_reads A failures failures' (fault.Clash path reason) h = h
+reading_reads A failures failures' (fault.LeftOut path number) h = h
 
 -- behind the flush
 salvage_kept : (L : Bounds) (bytes : List ℕ) (now old mid new : Option (List ℕ)) (told : Option Salvaged)
@@ -92,6 +95,7 @@ salvage_kept L bytes now old mid new told (Err fault.Memory) k h = Appends-kept 
 salvage_kept L bytes now old mid new told (Err (fault.Wanted R)) k h = absurd h
 salvage_kept L bytes now old mid new told (Err fault.NoWantedType) k h = absurd h
 salvage_kept L bytes now old mid new told (Err (fault.Clash path reason)) k h = absurd h
+salvage_kept L bytes now old mid new told (Err (fault.LeftOut path number)) k h = absurd h
 
 -- where the flush fails, all that is kept is a prefix of it
 flush_failed : (L : Bounds) (bytes : List ℕ) (now old mid new : Option (List ℕ)) (told : Option Salvaged)

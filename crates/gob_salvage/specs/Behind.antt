@@ -74,3 +74,4 @@ BehindAnswers L front bytes now old new told (Err fault.Memory) = Appends old ne
 BehindAnswers L front bytes now old new told (Err (fault.Wanted R)) = ⊥
 BehindAnswers L front bytes now old new told (Err fault.NoWantedType) = ⊥
 BehindAnswers L front bytes now old new told (Err (fault.Clash path reason)) = ⊥
+BehindAnswers L front bytes now old new told (Err (fault.LeftOut path number)) = ⊥

@@ -50,6 +50,7 @@ SalvageAnswers L bytes now old new told (Err fault.Memory) = Appends old new []
 SalvageAnswers L bytes now old new told (Err (fault.Wanted R)) = ⊥
 SalvageAnswers L bytes now old new told (Err fault.NoWantedType) = ⊥
 SalvageAnswers L bytes now old new told (Err (fault.Clash path reason)) = ⊥
+SalvageAnswers L bytes now old new told (Err (fault.LeftOut path number)) = ⊥
 
 -- ---- reading all of an input
 -- a read failed exactly where the fault says so, and no write did

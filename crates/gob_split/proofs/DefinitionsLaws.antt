@@ -200,6 +200,7 @@ answers_so L bytes now old new (Err fault.Write) h = h.holds
 answers_so L bytes now old new (Err (fault.Wanted R)) h = h
 answers_so L bytes now old new (Err fault.NoWantedType) h = h
 answers_so L bytes now old new (Err (fault.Clash path reason)) h = h
+answers_so L bytes now old new (Err (fault.LeftOut path number)) h = h
 
 answers_by : (L : Bounds) (bytes : List ℕ) (now : Option (List ℕ)) (old new : List ℕ)
     (r : Result (Unit {0}) ToolFault) → L.depth ≤ greatest_depth

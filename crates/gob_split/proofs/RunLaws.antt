@@ -168,6 +168,9 @@ module _ {how : PartSize} {r r' : GoReader} {c : Cutter} {read now next : Option
   split_unput New c' (fault.Clash path why) t at h bytes before known old put =
       let o = s.out bytes before known old in
       absurd (put o.texts o.full o.last o.cutting o.holds)
+  split_unput New c' (fault.LeftOut path number) t at h bytes before known old put =
+      let o = s.out bytes before known old in
+      absurd (put o.texts o.full o.last o.cutting o.holds)
 
 -- nothing was given yet
 pub split_first : {how : PartSize} {r : GoReader} {c : Cutter} (read : Option (List ℕ))

@@ -37,3 +37,4 @@ DefinitionsAnswers L bytes now old new (Err fault.Write) = ⊥
 DefinitionsAnswers L bytes now old new (Err (fault.Wanted R)) = ⊥
 DefinitionsAnswers L bytes now old new (Err fault.NoWantedType) = ⊥
 DefinitionsAnswers L bytes now old new (Err (fault.Clash path reason)) = ⊥
+DefinitionsAnswers L bytes now old new (Err (fault.LeftOut path number)) = ⊥

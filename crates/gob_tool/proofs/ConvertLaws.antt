@@ -92,7 +92,7 @@ module _ {L M : Bounds} (deep_as : M.depth ≡ L.depth) (types_as : M.types ≡ 
       let rest = values_stand low may back r h short fits in
       record { received = rest.received; are = no_put_of rest.are; stands = rest.stands }
   values_stand {u = u} low may back (and_then (counted x l s (of_value m deep n k)) e r)
-      (value {w = w} {text = text} said match receives (spells_value spells h) hs) short fits =
+      (value {w = w} {text = text} said match receives (spells_value spells h) none hs) short fits =
       let size = length-append said text in
       let less = no_deeper receives in
       let item = numbered low h (of_value may (omega (arith, deep, less, deep_as)) h.before.names

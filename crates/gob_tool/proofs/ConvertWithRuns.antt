@@ -1,5 +1,5 @@
 -- How a run goes on and ends that receives values by types whose fields are renamed.
-use Rattle.std.proofs.Common.{◌≡◌, ℕ, List, [], length, Option, Some, Result, Ok, Err, IfErr, ◌∙◌, ap, sym, subst}
+use Rattle.std.proofs.Common.{Bool, true, false, ◌≡◌, ℕ, List, [], length, Option, Some, Result, Ok, Err, IfErr, ◌∙◌, ap, sym, subst}
 use Rattle.std.proofs.Common.{refl, inl, inr}
 use Rattle.std.specs.Io.KnownBytes.{Appends, Keeps}
 use Rattle.std.proofs.lemmas.Option.{slice_get_within}
@@ -29,8 +29,10 @@ use Rattle.gob_tool.specs.Ending.{EndsRun, ends_so, flush_fails}
 use Rattle.gob_tool.specs.Fault.{IsOfWanted}
 use Rattle.gob_tool.specs.Machine.Counting.{CountsCounting}
 use Rattle.gob_tool.specs.Machine.Renamed.{CountsRenaming, FindsRenamed, IsRenamedOf, WritesReceived}
-use Rattle.gob_tool.specs.Machine.Received.{AreSpelled}
+use Rattle.gob_tool.specs.declared.received_form.ReceivedForm.{ReceivedForm}
+use Rattle.gob_tool.specs.Machine.Received.{AreSpelled, HasIn, item_form, wants_all}
 use Rattle.gob_tool.specs.Machine.Taken.{FindsWanted, IsWantedOf, KnowsWanted}
+use Rattle.gob_tool.specs.ConvertWith.{HasConvertedAs}
 use Rattle.gob_tool.specs.ConvertWith.{IsAmongRenames, converts, misfits, OfRun, ConvertWithAnswers, renaming_fault}
 use Rattle.gob_tool.specs.ConvertWith.{run_answer, stops_at_wanted}
 use Rattle.gob_tool.specs.Showing.{CountsReadFaults, CountsWriteFaults}
@@ -86,8 +88,8 @@ ready_renamed {t = t} rs known e r =
 
 -- ---- where the run stops before the input is read
 pub not_found : {L : Bounds} {wanted bytes : List ℕ} {wanted_now now old new : Option (List ℕ)} {rs : List Rename}
-    (e : ConvertFault) → FindsRenamed rs L wanted wanted_now (Err e) → Untouched bytes now old new
-    → ConvertWithAnswers rs L wanted bytes wanted_now now old new (Err e)
+    {all : Bool} (e : ConvertFault) → FindsRenamed rs L wanted wanted_now (Err e) → Untouched bytes now old new
+    → ConvertWithAnswers rs all L wanted bytes wanted_now now old new (Err e)
 not_found (stop.Misfits number why) h untouched = misfits h untouched
 not_found (stop.Run f) h untouched = stops_at_wanted h untouched
 
@@ -107,16 +109,26 @@ not_written wanted wanted' failures (stop.Run f) h = at f h
     at (fault.Wanted R) h = inl refl
     at fault.NoWantedType h = inl refl
     at (fault.Clash path why) h = inl refl
+    at (fault.LeftOut path number) h = inl refl
     at fault.Read h = inl refl
     at fault.Write h = absurd h
     at fault.Memory h = inl refl
 
 -- ---- behind the wanted stream
+as_items : (L : Bounds) (bytes : List ℕ) (now : Option (List ℕ)) (U : Table) (u : TypeId) (given : List StreamItem)
+    (P Q : List ℕ → Type 0) (r : Result (Unit {0}) ToolFault) (all : Bool)
+    → Receiving (wants_all (item_form all)) L bytes now U u (HasIn (item_form all) L given U u P)
+    (HasIn (item_form all) L given U u Q) r
+    → Receiving all L bytes now U u (HasConvertedAs all L (in_front given) U u P)
+    (HasConvertedAs all L (in_front given) U u Q) r
+as_items L bytes now U u given P Q r true h = h
+as_items L bytes now U u given P Q r false h = h
+
 pub converted_so : {L : Bounds} {wanted bytes : List ℕ} {wanted_now now old new : Option (List ℕ)} {rs : List Rename}
-    {r : Result (Unit {0}) ToolFault} (found : RenamedWanted) → FindsRenamed rs L wanted wanted_now (Ok found)
-    → WritesReceived L bytes (types found.table) found.id found.definitions.items now old new r
-    → ConvertWithAnswers rs L wanted bytes wanted_now now old new (run_answer r)
-converted_so {L = L} {wanted = wanted} {bytes = bytes} {now = now} {old = old} {new = new} {rs = rs} {r = r} found h
+    {r : Result (Unit {0}) ToolFault} (all : Bool) (found : RenamedWanted) → FindsRenamed rs L wanted wanted_now (Ok found)
+    → WritesReceived (item_form all) L bytes (types found.table) found.id found.definitions.items now old new r
+    → ConvertWithAnswers rs all L wanted bytes wanted_now now old new (run_answer r)
+converted_so {L = L} {wanted = wanted} {bytes = bytes} {now = now} {old = old} {new = new} {rs = rs} {r = r} all found h
     writes = converts (record {
       items = h.items;
       table = h.table;
@@ -126,12 +138,13 @@ converted_so {L = L} {wanted = wanted} {bytes = bytes} {now = now} {old = old} {
       first = h.first;
       holds = (
         h.holds.fit,
-        subst (λ (u : TypeId). Receiving L bytes now (renamed rs h.table) u
-            (HasConverted L (in_front h.items) (renamed rs h.table) u (Appends old new))
-            (HasConverted L (in_front h.items) (renamed rs h.table) u (AppendsPrefix old new)) r) (sym h.holds.id)
-            (subst (λ (U : Table). Receiving L bytes now U found.id
-            (HasConverted L (in_front h.items) U found.id (Appends old new))
-            (HasConverted L (in_front h.items) U found.id (AppendsPrefix old new)) r) h.holds.types_are
+        subst (λ (u : TypeId). Receiving all L bytes now (renamed rs h.table) u
+            (HasConvertedAs all L (in_front h.items) (renamed rs h.table) u (Appends old new))
+            (HasConvertedAs all L (in_front h.items) (renamed rs h.table) u (AppendsPrefix old new)) r) (sym h.holds.id)
+            (subst (λ (U : Table). Receiving all L bytes now U found.id
+            (HasConvertedAs all L (in_front h.items) U found.id (Appends old new))
+            (HasConvertedAs all L (in_front h.items) U found.id (AppendsPrefix old new)) r) h.holds.types_are
+            (as_items L bytes now (types found.table) found.id h.items (Appends old new) (AppendsPrefix old new) r all
             (writes h.items (record {
               bytes = wanted;
               table = h.table;
@@ -140,16 +153,16 @@ converted_so {L = L} {wanted = wanted} {bytes = bytes} {now = now} {old = old} {
               front = h.holds.front;
               back = λ v b p. top_follows (renamed_back rs h.holds.known)
                   (subst (λ (U : Table). SpellsTop U found.id v b) h.holds.types_are p);
-            }))),
+            })))),
       );
     })
 
 pub written_ended : {L : Bounds} {bytes definitions : List ℕ} {U : Table} {u : TypeId}
-    (now old mid new : Option (List ℕ)) {answer result : Result (Unit {0}) ToolFault} → Keeps mid new
-    → EndsRun answer result → WritesReceived L bytes U u definitions now old mid answer
-    → WritesReceived L bytes U u definitions now old new result
-written_ended {L = L} {bytes = bytes} {U = U} {u = u} now old mid new k ends h given knows =
-    flushed form.Item L bytes now old mid new k given U u ends (h given knows)
+    (how : ReceivedForm) (now old mid new : Option (List ℕ)) {answer result : Result (Unit {0}) ToolFault} → Keeps mid new
+    → EndsRun answer result → WritesReceived how L bytes U u definitions now old mid answer
+    → WritesReceived how L bytes U u definitions now old new result
+written_ended {L = L} {bytes = bytes} {U = U} {u = u} how now old mid new k ends h given knows =
+    flushed how L bytes now old mid new k given U u ends (h given knows)
 
 pub ended_reads : (old new : ℕ) {answer result : Result (Unit {0}) ToolFault} → EndsRun answer result
     → CountsReadFaults old new answer → CountsReadFaults old new result

@@ -116,6 +116,7 @@ module _ {Told : Type 0} (G : Grammar Told) where
   runs_as L bytes now P Q C D (Err (fault.Wanted R)) e f g = absurd e
   runs_as L bytes now P Q C D (Err fault.NoWantedType) e f g = absurd e
   runs_as L bytes now P Q C D (Err (fault.Clash path reason)) e f g = absurd e
+  runs_as L bytes now P Q C D (Err (fault.LeftOut path number)) e f g = absurd e
   runs_as L bytes now P Q C D (Err fault.Write) e f g = begun_as e g
   runs_as L bytes now P Q C D (Err fault.Memory) e f g = record {
     bytes = e.bytes;
@@ -185,6 +186,7 @@ module _ {Told : Type 0} (G : Grammar Told) where
   runs_begun L bytes now P Q C D (Err (fault.Wanted R)) e f g = absurd e
   runs_begun L bytes now P Q C D (Err fault.NoWantedType) e f g = absurd e
   runs_begun L bytes now P Q C D (Err (fault.Clash path reason)) e f g = absurd e
+  runs_begun L bytes now P Q C D (Err (fault.LeftOut path number)) e f g = absurd e
 
   -- ---- texts that are others too, of items that stand there
   module _ (Is By : Table → Told → List ℕ → Type 0) (by : (L : Bounds) (bytes text : List ℕ) (items : List Told)

@@ -34,7 +34,7 @@ use Rattle.gob_tool.specs.Machine.Lines.{Trees}
 use Rattle.gob_tool.specs.Converting.{in_front}
 use Rattle.gob_tool.specs.Taking.{HasWanted, LacksWanted, Receiving, first_type, takes_behind}
 use Rattle.gob_tool.specs.Showing.{AppendsPrefix}
-use Rattle.gob_tool.specs.Machine.Received.{AreSpelled, FormAnswers, HasIn, none_spelled, spelled}
+use Rattle.gob_tool.specs.Machine.Received.{AreSpelled, FormAnswers, HasIn, none_spelled, spelled, wants_all}
 use Rattle.gob_tool.specs.Machine.Rewritten.{IsLastOfStream}
 use Rattle.gob_tool.specs.declared.received_form.ReceivedForm.{ReceivedForm}
 use Rattle.gob_tool.proofs.LinesStay.{keeps_itself}
@@ -250,7 +250,7 @@ pub found_wanted : (how : ReceivedForm) {L : Bounds} {wanted : List ℕ} {wanted
     {t : TypeId} {definitions bytes : List ℕ} {now old new : Option (List ℕ)} {r : Result (Unit {0}) ToolFault}
     → HasWanted L wanted wanted_now (IsWantedOf V t definitions) → W ≡ V
     → ((given : List StreamItem) → KnowsWanted L W t definitions given
-    → Receiving L bytes now W t (HasIn how L given W t (Appends old new))
+    → Receiving (wants_all how) L bytes now W t (HasIn how L given W t (Appends old new))
     (HasIn how L given W t (AppendsPrefix old new))
     r) → FormAnswers how L wanted bytes wanted_now now old new r
 found_wanted how {L = L} {wanted = wanted} {W = W} {t = t} {bytes = bytes} {now = now} {old = old} {new = new} {r = r} h
@@ -261,9 +261,9 @@ found_wanted how {L = L} {wanted = wanted} {W = W} {t = t} {bytes = bytes} {now 
       end = h.end;
       id = h.id;
       first = h.first;
-      holds = subst (λ (u : TypeId). Receiving L bytes now h.table u (HasIn how L h.items h.table u (Appends old new))
+      holds = subst (λ (u : TypeId). Receiving (wants_all how) L bytes now h.table u (HasIn how L h.items h.table u (Appends old new))
           (HasIn how L h.items h.table u (AppendsPrefix old new)) r) (sym h.holds.1)
-          (subst (λ (U : Table). Receiving L bytes now U t (HasIn how L h.items U t (Appends old new))
+          (subst (λ (U : Table). Receiving (wants_all how) L bytes now U t (HasIn how L h.items U t (Appends old new))
           (HasIn how L h.items U t (AppendsPrefix old new)) r) (e ∙ sym h.holds.0) (behind h.items (record {
             bytes = wanted;
             table = W;

@@ -62,6 +62,7 @@ RunAnswersIn G L bytes now Whole Cut (Err fault.Memory) = SomeTaken bytes now (�
 RunAnswersIn G L bytes now Whole Cut (Err (fault.Wanted R)) = ⊥
 RunAnswersIn G L bytes now Whole Cut (Err fault.NoWantedType) = ⊥
 RunAnswersIn G L bytes now Whole Cut (Err (fault.Clash path reason)) = ⊥
+RunAnswersIn G L bytes now Whole Cut (Err (fault.LeftOut path number)) = ⊥
 
 -- known bytes grow by a prefix of these
 pub record AppendsPrefix (old new : Option (List ℕ)) (bytes : List ℕ) : Type 0 where

@@ -56,6 +56,7 @@ IsNoStreamIn G L bytes now fault.Write = ⊥
 IsNoStreamIn G L bytes now (fault.Wanted R) = ⊥
 IsNoStreamIn G L bytes now fault.NoWantedType = ⊥
 IsNoStreamIn G L bytes now (fault.Clash path reason) = ⊥
+IsNoStreamIn G L bytes now (fault.LeftOut path number) = ⊥
 
 -- how the run ends, over an input with these bytes left and an output with the old bytes: the line of the whole stream
 -- went out, or a prefix of it where the output failed; or nothing was written

@@ -1,8 +1,9 @@
 -- What the program says of a fault. (docs/FORMAT.md, The program: this project's own.)
+use Rattle.std.specs.Fmt.{decimal}
 use Rattle.std.specs.Prelude.{ℕ, List, ◌++◌, codes}
 use Rattle.gob_match.specs.declared.fault.MatchFault.{MatchFault}
 use Rattle.gob_match.specs.declared.fault.MatchFault.TheVariants as matching
-use Rattle.gob_match.specs.ClashText.{clash_text}
+use Rattle.gob_match.specs.ClashText.{clash_text, path_text}
 use Rattle.gob_stream.specs.declared.fault.Fault.{Fault}
 use Rattle.gob_stream.specs.declared.fault.Fault.TheVariants as reading
 use Rattle.gob_stream.specs.declared.fault.WriteFault.{WriteFault}
@@ -17,6 +18,7 @@ fault_status (fault.Refused r) = 1
 fault_status (fault.Wanted r) = 1
 fault_status fault.NoWantedType = 1
 fault_status (fault.Clash path reason) = 1
+fault_status (fault.LeftOut path number) = 1
 fault_status fault.Read = 2
 fault_status fault.Write = 2
 fault_status fault.Memory = 2
@@ -27,6 +29,7 @@ IsOfWanted (fault.Wanted r) = Unit {0}
 IsOfWanted fault.NoWantedType = Unit {0}
 IsOfWanted (fault.Refused r) = ⊥
 IsOfWanted (fault.Clash path reason) = ⊥
+IsOfWanted (fault.LeftOut path number) = ⊥
 IsOfWanted fault.Read = ⊥
 IsOfWanted fault.Write = ⊥
 IsOfWanted fault.Memory = ⊥
@@ -37,6 +40,8 @@ fault_line (fault.Refused R) = codes "gob: " ++ refusal_text R
 fault_line (fault.Wanted R) = codes "gob: wanted: " ++ refusal_text R
 fault_line fault.NoWantedType = codes "gob: refused 35 NoWantedType"
 fault_line (fault.Clash path reason) = codes "gob: " ++ clash_text path.items reason
+fault_line (fault.LeftOut path number) =
+    codes "gob: value " ++ (decimal number ++ (codes " has " ++ (path_text path.items ++ codes ", which isn't wanted")))
 fault_line fault.Read = codes "gob: read fault"
 fault_line fault.Write = codes "gob: write fault"
 fault_line fault.Memory = codes "gob: out of memory"

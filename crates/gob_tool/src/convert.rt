@@ -35,6 +35,8 @@ pub struct ConvertOptions<'a> {
     /// Which fields of the wanted types have another name in the stream. Each is of the names that those before it
     /// leave.
     pub renames: &'a [Rename<'a>],
+    /// Whether no field of a value may be left out.
+    pub all: bool,
 }
 
 // What was read of the wanted stream: the definitions in front of its first value, the types by which values are
@@ -51,6 +53,10 @@ struct RenamedWanted {
 /// of the wanted type, and a clash is told by those of the stream. `wanted` is read whole first, and the renames are
 /// judged by the types that it defines: where one doesn't fit, the answer is `ConvertFault::Misfits`, the input isn't
 /// read, and nothing is written.
+///
+/// Where no field may be left out, Ok says that none of any value was, and the run stops before the first value that
+/// has a field which isn't wanted: `ToolFault::LeftOut` tells it and the value's number. A tree is made then of each
+/// value of a type that has such a field.
 pub fn run_convert_with<Q: Read, R: Read, W: Write>(
     alloc: Global,
     options: &ConvertOptions<'_>,
@@ -61,7 +67,7 @@ pub fn run_convert_with<Q: Read, R: Read, W: Write>(
 ) -> Result<(), ConvertFault>
     ensures converted { (wanted_bytes bytes : List ℕ) → Q.remaining (reader_of wanted.old) ≡ Some wanted_bytes
         → R.remaining (reader_of input.old) ≡ Some bytes
-        → ConvertWithAnswers options.now.renames.now (within_trees limits) wanted_bytes bytes
+        → ConvertWithAnswers options.now.renames.now options.now.all (within_trees limits) wanted_bytes bytes
         (Q.remaining (reader_of wanted.new)) (R.remaining (reader_of input.new))
         (W.contents (writer_of output.old)) (W.contents (writer_of output.new)) result }
     ensures among { IfErr result (IsAmongRenames (length options.now.renames.now)) }
@@ -75,7 +81,8 @@ pub fn run_convert_with<Q: Read, R: Read, W: Write>(
         Ok(renamed) => renamed,
         Err(fault) => return Err(fault),
     };
-    let written = convert_as(alloc, &renamed, input, output, limits);
+    let form = ReceivedForm::of_items(options.all);
+    let written = convert_as(alloc, form, &renamed, input, output, limits);
     drop(renamed);
     match written {
         Ok(()) => Ok(()),
@@ -112,6 +119,7 @@ fn read_renamed<Q: Read>(
 /// Writes the definitions, and what is received by these types, and flushes behind it.
 fn convert_as<R: Read, W: Write>(
     alloc: Global,
+    form: ReceivedForm,
     wanted: &RenamedWanted,
     input: &mut Input<R>,
     output: &mut Output<W>,
@@ -120,7 +128,7 @@ fn convert_as<R: Read, W: Write>(
     requires ready { IsReady (types wanted.now.table) wanted.now.id }
     requires number { wanted.now.id.0 < 2 ^ 63 }
     ensures received { (bytes : List ℕ) → R.remaining (reader_of input.old) ≡ Some bytes
-        → WritesReceived (within_trees limits) bytes (types wanted.now.table) wanted.now.id
+        → WritesReceived form (within_trees limits) bytes (types wanted.now.table) wanted.now.id
         wanted.now.definitions.items (R.remaining (reader_of input.new)) (W.contents (writer_of output.old))
         (W.contents (writer_of output.new)) result }
     ensures own { IfErr result (λ fault. IsOfWanted fault → ⊥) }
@@ -128,12 +136,13 @@ fn convert_as<R: Read, W: Write>(
     ensures writes { CountsWriteFaults (failed_writes output.old) (failed_writes output.new) result }
     ensures flushed { IsFlushedSince (failed_writes output.old) output.new }
 {
-    end_run(write_as(alloc, wanted, input, output, limits), output)
+    end_run(write_as(alloc, form, wanted, input, output, limits), output)
 }
 
 /// Writes them, and flushes nothing.
 fn write_as<R: Read, W: Write>(
     alloc: Global,
+    form: ReceivedForm,
     wanted: &RenamedWanted,
     input: &mut Input<R>,
     output: &mut Output<W>,
@@ -142,14 +151,13 @@ fn write_as<R: Read, W: Write>(
     requires ready { IsReady (types wanted.now.table) wanted.now.id }
     requires number { wanted.now.id.0 < 2 ^ 63 }
     ensures received { (bytes : List ℕ) → R.remaining (reader_of input.old) ≡ Some bytes
-        → WritesReceived (within_trees limits) bytes (types wanted.now.table) wanted.now.id
+        → WritesReceived form (within_trees limits) bytes (types wanted.now.table) wanted.now.id
         wanted.now.definitions.items (R.remaining (reader_of input.new)) (W.contents (writer_of output.old))
         (W.contents (writer_of output.new)) result }
     ensures own { IfErr result (λ fault. IsOfWanted fault → ⊥) }
     ensures reads { CountsReadFaults (failed_reads input.old) (failed_reads input.new) result }
     ensures writes { CountsOnlyWrites (failed_writes output.old) (failed_writes output.new) result }
 {
-    let form = ReceivedForm::Item;
     form.begin(&wanted.definitions, output)?;
     let receiver = Receiver::<'_, MOST_BUILT> {
         wanted: &wanted.table,

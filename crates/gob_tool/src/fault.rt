@@ -24,6 +24,13 @@ pub enum ToolFault {
         /// Why they don't.
         reason: ClashReason,
     },
+    /// A value has a field that isn't wanted, where all are to be.
+    LeftOut {
+        /// The steps to the field.
+        path: Vec<TypeStep>,
+        /// The value's number among the values of the stream, counted from 1.
+        value: u64,
+    },
     /// A read failed, or the input could not be opened.
     Read,
     /// A write or the flush at the end failed.
@@ -47,6 +54,10 @@ impl fmt::Display for ToolFault {
                 let number = reason.number();
                 let path = PathText(path);
                 write!(f, "gob: clash {number} {reason} at {path}")
+            }
+            ToolFault::LeftOut { path, value } => {
+                let path = PathText(path);
+                write!(f, "gob: value {value} has {path}, which isn't wanted")
             }
             ToolFault::Read => write!(f, "gob: read fault"),
             ToolFault::Write => write!(f, "gob: write fault"),
@@ -122,7 +133,7 @@ pub(crate) fn wanted_fault(fault: Fault) -> ToolFault
     }
 }
 
-/// The exit status of the program after this fault: 1 for an input that is refused or clashes, 2 for the others.
+/// The exit status of the program after this fault: 1 for an input that is refused or clashes, or has a field that isn't wanted, 2 for the others.
 pub fn status(fault: &ToolFault) -> u8
     ensures { result ≡ fault_status fault.now }
 {
@@ -130,7 +141,8 @@ pub fn status(fault: &ToolFault) -> u8
         ToolFault::Refused(_)
         | ToolFault::Wanted(_)
         | ToolFault::NoWantedType
-        | ToolFault::Clash { .. } => 1,
+        | ToolFault::Clash { .. }
+        | ToolFault::LeftOut { .. } => 1,
         ToolFault::Read | ToolFault::Write | ToolFault::Memory => 2,
     }
 }

@@ -56,7 +56,10 @@ impl<'a> Command<'a> {
                 run_convert(alloc, &mut wanted, input, output, limits)
             }
             Command::Rename(wanted, renames) => {
-                let asked = ConvertOptions { renames };
+                let asked = ConvertOptions {
+                    renames,
+                    all: false,
+                };
                 let mut wanted = Input::new(wanted);
                 fitting(run_convert_with(alloc, &asked, &mut wanted, input, output, limits))
             }

@@ -51,7 +51,10 @@ fn converts(alloc: Global, row: &str, renames: &[Rename<'_>]) -> Result<bool, Me
     let mut output = Output::new(Vec::new(alloc));
     let ended = run_convert_with(
         alloc,
-        &ConvertOptions { renames },
+        &ConvertOptions {
+            renames,
+            all: false,
+        },
         &mut Input::new(wanted.as_slice()),
         &mut Input::new(bytes.as_slice()),
         &mut output,

@@ -107,3 +107,20 @@ fn clashes_have_lines(rt: HostRuntime) {
         assert!(rt; is_clash(rt.alloc(), words, reason, line), "{line}");
     }
 }
+
+// Whether a field at the path that isn't wanted, of the third value, has this line.
+fn is_left_out(alloc: Global, words: &[&[u8]], line: &str) -> bool {
+    match path_of(alloc, words) {
+        Ok(path) => is_said(alloc, &ToolFault::LeftOut { path, value: 3 }, line, 1),
+        Err(_) => false,
+    }
+}
+
+#[test]
+fn fields_left_out_have_a_line(rt: HostRuntime) {
+    let line = "gob: value 3 has [].Next.0xff0a, which isn't wanted";
+    assert!(rt;
+        is_left_out(rt.alloc(), &[b"[]", b"Next", b"\xff\x0a"], line),
+        "{line}"
+    );
+}

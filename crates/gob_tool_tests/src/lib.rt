@@ -44,3 +44,5 @@ mod streams;
 mod takes;
 #[cfg(test)]
 mod trials;
+#[cfg(test)]
+mod whole;

@@ -181,6 +181,7 @@ no_reads A old new fault.Memory other same = same
 no_reads A old new (fault.Wanted R) other same = same
 no_reads A old new fault.NoWantedType other same = same
 no_reads A old new (fault.Clash path reason) other same = same
+no_reads A old new (fault.LeftOut path number) other same = same
 
 -- ---- the reader between two items goes on with another session
 pub as_other : {X Y I J Told : Type 0} (d : Stepping X I Told) (e : Stepping Y J Told) {r : ReaderOf X I}
@@ -317,6 +318,7 @@ reads_as A B old new fault.Memory h = h
 reads_as A B old new (fault.Wanted R) h = h
 reads_as A B old new fault.NoWantedType h = h
 reads_as A B old new (fault.Clash path reason) h = h
+reads_as A B old new (fault.LeftOut path number) h = h
 
 pub writes_as : (A B : Type 0) (old new : ℕ) (f : ToolFault) → CountsOnlyWrites {A = A} old new (Err f)
     → CountsOnlyWrites {A = B} old new (Err f)
@@ -327,6 +329,7 @@ writes_as A B old new fault.Memory h = h
 writes_as A B old new (fault.Wanted R) h = h
 writes_as A B old new fault.NoWantedType h = h
 writes_as A B old new (fault.Clash path reason) h = h
+writes_as A B old new (fault.LeftOut path number) h = h
 
 -- where none was written
 pub no_writes : (A : Type 0) (old new : ℕ) (f : ToolFault) → (f ≡ fault.Write → ⊥) → new ≡ old
@@ -338,6 +341,7 @@ no_writes A old new fault.Memory other same = same
 no_writes A old new (fault.Wanted R) other same = same
 no_writes A old new fault.NoWantedType other same = same
 no_writes A old new (fault.Clash path reason) other same = same
+no_writes A old new (fault.LeftOut path number) other same = same
 
 pub reading_unwritten : (e : Fault) → reading_fault e ≡ fault.Write → ⊥
 reading_unwritten (reading.Refused R) is = cc
@@ -391,3 +395,4 @@ read_faults old mid new fault.Memory same h = h ∙ same
 read_faults old mid new (fault.Wanted R) same h = h ∙ same
 read_faults old mid new fault.NoWantedType same h = h ∙ same
 read_faults old mid new (fault.Clash path reason) same h = h ∙ same
+read_faults old mid new (fault.LeftOut path number) same h = h ∙ same

@@ -20,6 +20,7 @@ told_of (Err fault.Read) refusal so = absurd so
 told_of (Err (fault.Wanted R)) refusal so = absurd so
 told_of (Err fault.NoWantedType) refusal so = absurd so
 told_of (Err (fault.Clash path reason)) refusal so = absurd so
+told_of (Err (fault.LeftOut path number)) refusal so = absurd so
 
 -- where a run that began with an empty output wrote this text and answered so, that is said
 pub said_from : (P : (now : Option (List ℕ)) (old new : List ℕ) → Result (Unit {0}) ToolFault → Type 0)

@@ -32,6 +32,7 @@ reads_of failures failures' (Err fault.Memory) e = e
 reads_of failures failures' (Err (fault.Wanted R)) e = e
 reads_of failures failures' (Err fault.NoWantedType) e = e
 reads_of failures failures' (Err (fault.Clash path reason)) e = e
+reads_of failures failures' (Err (fault.LeftOut path number)) e = e
 
 pub reads_in_memory : (failures failures' : ℕ) (answer result : Result (Unit {0}) ToolFault)
     → result ≡ in_memory answer → failures' ≡ failures → CountsReadFaults failures failures' result
@@ -49,6 +50,7 @@ writes_of failures failures' (Err fault.Memory) h = h
 writes_of failures failures' (Err (fault.Wanted R)) h = h
 writes_of failures failures' (Err fault.NoWantedType) h = h
 writes_of failures failures' (Err (fault.Clash path reason)) h = h
+writes_of failures failures' (Err (fault.LeftOut path number)) h = h
 
 pub writes_in_memory : (failures failures' : ℕ) (answer result : Result (Unit {0}) ToolFault)
     → result ≡ in_memory answer → CountsWriteFaults failures failures' answer

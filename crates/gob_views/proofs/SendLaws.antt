@@ -40,6 +40,7 @@ sends_kept old mid new text (Err (fault.Refused R)) k h = absurd h
 sends_kept old mid new text (Err (fault.Wanted R)) k h = absurd h
 sends_kept old mid new text (Err fault.NoWantedType) k h = absurd h
 sends_kept old mid new text (Err (fault.Clash path reason)) k h = absurd h
+sends_kept old mid new text (Err (fault.LeftOut path number)) k h = absurd h
 sends_kept old mid new text (Err fault.Read) k h = absurd h
 
 pub sends_ended : (old mid new : Option (List ℕ)) (text : List ℕ) (answer result : Result (Unit {0}) ToolFault)

@@ -3,7 +3,7 @@ use Rattle.std.proofs.Common.{◌≡◌, ℕ, ◌<◌, arith, List, [], ◌∷�
 use Rattle.std.proofs.Common.{ap, sym, subst, refl, append-nil, length-append, min}
 use Rattle.std.specs.Result.{IsErrAnd}
 use Rattle.std.specs.Io.KnownBytes.{Appends, Keeps}
-use Rattle.std.proofs.KnownBytes.{Appends-kept}
+use Rattle.std.proofs.KnownBytes.{Appends-kept, Appends-nil}
 use Rattle.std.proofs.lemmas.List.{length-take-le}
 use Rattle.gob_num.proofs.PublicLaws.{unsigned_length}
 use Rattle.gob_types.specs.Base.{base_table}
@@ -35,6 +35,7 @@ use Rattle.gob_go.proofs.LeadingLaws.{leads_nowhere}
 use Rattle.gob_tool.specs.declared.fault.ToolFault.{ToolFault}
 use Rattle.gob_tool.specs.declared.fault.ToolFault.TheVariants as fault
 use Rattle.gob_tool.specs.Ending.{EndsRun, ends_so, flush_fails}
+use Rattle.gob_tool.specs.Fault.{reading_fault}
 use Rattle.gob_tool.specs.Showing.{AppendsPrefix}
 use Rattle.gob_tool.specs.RunningGo.{BeginsGo, EndsWholeGo}
 use Rattle.gob_tool.proofs.EndLaws.{all_kept, prefix_kept}
@@ -202,7 +203,16 @@ stops_sending form L bytes now old new text (fault.Refused R) h cut = absurd h
 stops_sending form L bytes now old new text (fault.Wanted R) h cut = absurd h
 stops_sending form L bytes now old new text fault.NoWantedType h cut = absurd h
 stops_sending form L bytes now old new text (fault.Clash path reason) h cut = absurd h
+stops_sending form L bytes now old new text (fault.LeftOut path number) h cut = absurd h
 stops_sending form L bytes now old new text fault.Read h cut = absurd h
+
+-- nothing did: why the input wasn't read to its end, or there was no memory
+pub none_sent : (form : SourceForm) (L : Bounds) (bytes : List ℕ) (now out : Option (List ℕ)) (e : Fault)
+    → ((R : Refusal) → e ≡ reading.Refused R → ⊥) → TypesAnswers form L bytes now out out (Err (reading_fault e))
+none_sent form L bytes now out (reading.Refused R) other = absurd (other R refl)
+none_sent form L bytes now out reading.Read other = Appends-nil out
+none_sent form L bytes now out reading.Memory other = Appends-nil out
+none_sent form L bytes now out reading.Failed other = Appends-nil out
 
 -- that of all types
 pub whole_sent : (form : SourceForm) (L : Bounds) (r : GoReader) (bytes : List ℕ) (now old new : Option (List ℕ))
@@ -270,6 +280,7 @@ types_kept form L bytes now old mid new (Err fault.Memory) k h = Appends-kept ol
 types_kept form L bytes now old mid new (Err (fault.Wanted R)) k h = absurd h
 types_kept form L bytes now old mid new (Err fault.NoWantedType) k h = absurd h
 types_kept form L bytes now old mid new (Err (fault.Clash path reason)) k h = absurd h
+types_kept form L bytes now old mid new (Err (fault.LeftOut path number)) k h = absurd h
 
 pub types_ended : (form : SourceForm) (L : Bounds) (bytes : List ℕ) (now old mid new : Option (List ℕ))
     (answer result : Result (Unit {0}) ToolFault) → Keeps mid new → EndsRun answer result

@@ -48,3 +48,4 @@ TypesAnswers form L bytes now old new (Err fault.Memory) = Appends old new []
 TypesAnswers form L bytes now old new (Err (fault.Wanted R)) = ⊥
 TypesAnswers form L bytes now old new (Err fault.NoWantedType) = ⊥
 TypesAnswers form L bytes now old new (Err (fault.Clash path reason)) = ⊥
+TypesAnswers form L bytes now old new (Err (fault.LeftOut path number)) = ⊥

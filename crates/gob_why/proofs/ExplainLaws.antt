@@ -162,6 +162,7 @@ refused_untold which L M T bytes item begin now old mid new R f (fault.Refused Q
 refused_untold which L M T bytes item begin now old mid new R f (fault.Wanted Q) is same x t = absurd t
 refused_untold which L M T bytes item begin now old mid new R f fault.NoWantedType is same x t = absurd t
 refused_untold which L M T bytes item begin now old mid new R f (fault.Clash path reason) is same x t = absurd t
+refused_untold which L M T bytes item begin now old mid new R f (fault.LeftOut path number) is same x t = absurd t
 refused_untold which L M T bytes item begin now old mid new R f fault.Read is same x t = absurd t
 
 -- where no refusal is known
@@ -179,6 +180,7 @@ other_told which L M T bytes item begin now old new fault.Memory other same x =
 other_told which L M T bytes item begin now old new (fault.Wanted R) other same x = absurd x
 other_told which L M T bytes item begin now old new fault.NoWantedType other same x = absurd x
 other_told which L M T bytes item begin now old new (fault.Clash path reason) other same x = absurd x
+other_told which L M T bytes item begin now old new (fault.LeftOut path number) other same x = absurd x
 
 pub whole_told : (which : Explained) (L M : Bounds) (T : Table) (bytes item : List ℕ) (begin : ℕ)
     (now old new : Option (List ℕ)) (u : Unit {0}) → L ≡ M
@@ -259,6 +261,7 @@ explain_kept which L bytes now old mid new (Err fault.Memory) k h = cut_kept whi
 explain_kept which L bytes now old mid new (Err (fault.Wanted R)) k h = absurd h
 explain_kept which L bytes now old mid new (Err fault.NoWantedType) k h = absurd h
 explain_kept which L bytes now old mid new (Err (fault.Clash path reason)) k h = absurd h
+explain_kept which L bytes now old mid new (Err (fault.LeftOut path number)) k h = absurd h
 
 pub explain_ended : (which : Explained) (L : Bounds) (bytes : List ℕ) (now old mid new : Option (List ℕ))
     (answer result : Result (Unit {0}) ToolFault) → Keeps mid new → EndsRun answer result

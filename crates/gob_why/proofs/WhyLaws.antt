@@ -48,6 +48,7 @@ whole_told L M bytes line now old new (Err (fault.Refused R)) same c t = absurd 
 whole_told L M bytes line now old new (Err (fault.Wanted R)) same c t = absurd t
 whole_told L M bytes line now old new (Err fault.NoWantedType) same c t = absurd t
 whole_told L M bytes line now old new (Err (fault.Clash path reason)) same c t = absurd t
+whole_told L M bytes line now old new (Err (fault.LeftOut path number)) same c t = absurd t
 whole_told L M bytes line now old new (Err fault.Read) same c t = absurd t
 
 -- of a refused one
@@ -72,6 +73,7 @@ refusal_untold L M bytes now old new R f (fault.Refused Q) is same n t = absurd 
 refusal_untold L M bytes now old new R f (fault.Wanted Q) is same n t = absurd t
 refusal_untold L M bytes now old new R f fault.NoWantedType is same n t = absurd t
 refusal_untold L M bytes now old new R f (fault.Clash path reason) is same n t = absurd t
+refusal_untold L M bytes now old new R f (fault.LeftOut path number) is same n t = absurd t
 refusal_untold L M bytes now old new R f fault.Read is same n t = absurd t
 
 -- or nothing, where no refusal is known
@@ -86,6 +88,7 @@ nothing_told L M bytes now out fault.Write other same n = absurd n
 nothing_told L M bytes now out (fault.Wanted R) other same n = absurd n
 nothing_told L M bytes now out fault.NoWantedType other same n = absurd n
 nothing_told L M bytes now out (fault.Clash path reason) other same n = absurd n
+nothing_told L M bytes now out (fault.LeftOut path number) other same n = absurd n
 
 -- ---- what went out
 pub sent : (line text : List ℕ) (old new : Option (List ℕ)) → IsHeaded line text → Appends old new text
@@ -120,6 +123,7 @@ why_kept L bytes now old mid new (Err fault.Memory) k h = Appends-kept old mid n
 why_kept L bytes now old mid new (Err (fault.Wanted R)) k h = absurd h
 why_kept L bytes now old mid new (Err fault.NoWantedType) k h = absurd h
 why_kept L bytes now old mid new (Err (fault.Clash path reason)) k h = absurd h
+why_kept L bytes now old mid new (Err (fault.LeftOut path number)) k h = absurd h
 
 pub why_ended : (L : Bounds) (bytes : List ℕ) (now old mid new : Option (List ℕ))
     (answer result : Result (Unit {0}) ToolFault) → Keeps mid new → EndsRun answer result
@@ -156,6 +160,7 @@ answer_said L bytes text old new now refusal (Err fault.Read) so empty is h = ab
 answer_said L bytes text old new now refusal (Err (fault.Wanted R)) so empty is h = absurd so
 answer_said L bytes text old new now refusal (Err fault.NoWantedType) so empty is h = absurd so
 answer_said L bytes text old new now refusal (Err (fault.Clash path reason)) so empty is h = absurd so
+answer_said L bytes text old new now refusal (Err (fault.LeftOut path number)) so empty is h = absurd so
 
 pub said_from : (L : Bounds) (bytes text old new : List ℕ) (now : Option (List ℕ))
     (answer : Result (Unit {0}) ToolFault) (made : Result Said Memory) → IfOk made (λ s. AnswersSo answer s.refusal)

@@ -132,3 +132,4 @@ ExplainAnswers which L bytes now old new (Err fault.Memory) = IsCutOff which L b
 ExplainAnswers which L bytes now old new (Err (fault.Wanted R)) = ⊥
 ExplainAnswers which L bytes now old new (Err fault.NoWantedType) = ⊥
 ExplainAnswers which L bytes now old new (Err (fault.Clash path reason)) = ⊥
+ExplainAnswers which L bytes now old new (Err (fault.LeftOut path number)) = ⊥

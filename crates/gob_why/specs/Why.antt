@@ -58,3 +58,4 @@ WhyAnswers L bytes now old new (Err fault.Memory) = Appends old new []
 WhyAnswers L bytes now old new (Err (fault.Wanted R)) = ⊥
 WhyAnswers L bytes now old new (Err fault.NoWantedType) = ⊥
 WhyAnswers L bytes now old new (Err (fault.Clash path reason)) = ⊥
+WhyAnswers L bytes now old new (Err (fault.LeftOut path number)) = ⊥

@@ -1,10 +1,12 @@
 -- What contracts see of a match: the two types that it is of, and that what is kept of it is right. (docs/LIBRARY.md,
 -- Matching and receiving.)
-use Rattle.std.specs.Prelude.{◌≡◌}
+use Rattle.std.specs.Map.{keys_of}
+use Rattle.std.specs.Prelude.{◌≡◌, List}
 use Rattle.gob_types.specs.declared.id.TypeId.{TypeId}
 use Rattle.gob_types.specs.Table.{Table}
 use Rattle.gob_match.specs.declared.kept.KeptMatch.{KeptMatch}
 use Rattle.gob_match.specs.declared.matched.Matched.{Matched}
+use Rattle.gob_match.specs.declared.pair.TypePair.{TypePair}
 use Rattle.gob_match.specs.Machine.Kept.{IsMatched}
 
 -- the stream's types, and the one that is matched
@@ -20,6 +22,10 @@ wanted_types_of m = m.wanted.now
 
 abbrev pub wanted_type : {S W : Type 0} → Matched S W → TypeId
 wanted_type m = m.wanted_id
+
+-- the pairs of types that their shapes lead to
+abbrev pub pairs_of : {S W : Type 0} → Matched S W → List TypePair
+pairs_of m = keys_of m.found
 
 -- it is a match of these two types
 pub record IsMatchOf {S W : Type 0} (stream : S) (t : TypeId) (wanted : W) (u : TypeId) (m : Matched S W) : Type 0 where

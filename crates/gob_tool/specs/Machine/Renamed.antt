@@ -14,9 +14,10 @@ use Rattle.gob_tool.specs.declared.convert.RenamedWanted.{RenamedWanted}
 use Rattle.gob_tool.specs.declared.convert_fault.ConvertFault.{ConvertFault}
 use Rattle.gob_tool.specs.declared.convert_fault.ConvertFault.TheVariants as stop
 use Rattle.gob_tool.specs.Answering.{AppendsPrefix}
-use Rattle.gob_tool.specs.Converting.{HasConverted, in_front}
+use Rattle.gob_tool.specs.Converting.{in_front}
 use Rattle.gob_tool.specs.Machine.Counting.{CountsCounting}
-use Rattle.gob_tool.specs.Machine.Received.{AreSpelled}
+use Rattle.gob_tool.specs.declared.received_form.ReceivedForm.{ReceivedForm}
+use Rattle.gob_tool.specs.Machine.Received.{AreSpelled, HasIn, wants_all}
 use Rattle.gob_tool.specs.Machine.Taken.{KnowsWanted}
 use Rattle.gob_tool.specs.Taking.{HasWanted, LacksWanted, Receiving}
 
@@ -44,9 +45,9 @@ CountsRenaming failures failures' (Err (stop.Run f)) = CountsCounting {A = TypeI
 CountsRenaming failures failures' (Err (stop.Misfits number why)) = failures' ≡ failures
 
 -- the definitions went out, and what is received by the types U, where a wanted stream begins with these definitions
-abbrev pub WritesReceived : Bounds → (bytes : List ℕ) → (U : Table) → TypeId → (definitions : List ℕ)
+abbrev pub WritesReceived : ReceivedForm → Bounds → (bytes : List ℕ) → (U : Table) → TypeId → (definitions : List ℕ)
     → (now old new : Option (List ℕ)) → Result (Unit {0}) ToolFault → Type 0
-WritesReceived L bytes U u definitions now old new result = (given : List StreamItem)
+WritesReceived how L bytes U u definitions now old new result = (given : List StreamItem)
     → KnowsWanted L U u definitions given
-    → Receiving L bytes now U u (HasConverted L (in_front given) U u (Appends old new))
-    (HasConverted L (in_front given) U u (AppendsPrefix old new)) result
+    → Receiving (wants_all how) L bytes now U u (HasIn how L given U u (Appends old new))
+    (HasIn how L given U u (AppendsPrefix old new)) result

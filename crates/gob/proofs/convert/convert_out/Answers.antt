@@ -26,9 +26,9 @@ returns-clause-ends g c =
           (subst (λ n. OfRun (CountsWriteFaults n (failed_writes run.new.output)) run.result)
           c.new-output.ensures.failures run.ensures.writes);
       does = λ wanted_bytes bytes sought known.
-          subst (λ n. ConvertWithAnswers renames L wanted_bytes bytes wanted_now now
+          subst (λ n. ConvertWithAnswers renames c.args.asked.now.all L wanted_bytes bytes wanted_now now
           (writer_contents (λ pipe. g.W.Write.contents pipe.writer) c.args.writer) n run.result) settled.all
-          (subst (λ w. ConvertWithAnswers renames L wanted_bytes bytes wanted_now now
+          (subst (λ w. ConvertWithAnswers renames c.args.asked.now.all L wanted_bytes bytes wanted_now now
           (writer_contents (λ pipe. g.W.Write.contents pipe.writer) w)
           (writer_contents (λ pipe. g.W.Write.contents pipe.writer) left) run.result) c.new-output.ensures.writer
           (rw c.deref.ensures.value at (rw c.limits_of-limits.ensures at

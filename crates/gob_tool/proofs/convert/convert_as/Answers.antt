@@ -6,7 +6,7 @@ use Rattle.gob_tool.proofs.convert.convert_as.Goals as goal
 
 pub returns-clause-received : goal.returns-clause-received
 returns-clause-received g c = λ bytes left.
-    written_ended (g.R.Read.remaining (reader_of c.write_as.new.input))
+    written_ended c.args.form (g.R.Read.remaining (reader_of c.write_as.new.input))
     (g.W.Write.contents (writer_of c.args.output.now)) (g.W.Write.contents (writer_of c.write_as.new.output))
     (g.W.Write.contents (writer_of c.end_run.new.output)) c.end_run.ensures.bytes c.end_run.ensures.ends
     (c.write_as.ensures.received bytes left)

@@ -11,10 +11,10 @@ returns-in-Err-clause-converted g c = λ wanted_bytes bytes sought left.
 
 pub returns-in-Ok-written-clause-converted : goal.returns-in-Ok-written-clause-converted
 returns-in-Ok-written-clause-converted g c = λ wanted_bytes bytes sought left.
-    converted_so c.in-Ok.renamed (c.in-Ok.ensures.found wanted_bytes sought)
-    (c.in-Ok-written.ensures.received bytes left)
+    converted_so c.args.options.now.all c.in-Ok.renamed (c.in-Ok.ensures.found wanted_bytes sought)
+    (rw c.of_items-form.ensures at (c.in-Ok-written.ensures.received bytes left))
 
 pub returns-in-Err-written-clause-converted : goal.returns-in-Err-written-clause-converted
 returns-in-Err-written-clause-converted g c = λ wanted_bytes bytes sought left.
-    converted_so c.in-Ok.renamed (c.in-Ok.ensures.found wanted_bytes sought)
-    (c.in-Err-written.ensures.received bytes left)
+    converted_so c.args.options.now.all c.in-Ok.renamed (c.in-Ok.ensures.found wanted_bytes sought)
+    (rw c.of_items-form.ensures at (c.in-Err-written.ensures.received bytes left))

@@ -1,5 +1,5 @@
 -- The source of the types that were read goes out, of a whole stream and of one that is refused.
-use Rattle.std.proofs.Common.{Ok, ap, subst}
+use Rattle.std.proofs.Common.{Err, Ok, ap, rules, subst, sym}
 use Rattle.std.proofs.KnownBytes.{Appends-nil}
 use Rattle.gob_types.specs.Defined.{types}
 use Rattle.gob_stream.specs.Bounds.{Bounds, within_trees}
@@ -10,7 +10,7 @@ use Rattle.gob_tool.specs.declared.fault.ToolFault.TheVariants as fault
 use Rattle.gob_tool.proofs.EndLaws.{at_error}
 use Rattle.gob_views.specs.Machine.Gathered.{GathersAll, gathered_text}
 use Rattle.gob_views.specs.Types.{TypesAnswers}
-use Rattle.gob_views.proofs.TypeRuns.{refused_at, refused_sent, refused_unsent, whole_sent}
+use Rattle.gob_views.proofs.TypeRuns.{none_sent, refused_at, refused_sent, refused_unsent, whole_sent}
 use Rattle.gob_views.proofs.types.write_types.Goals as goal
 
 pub returns-in_err-reader-clause-written : goal.returns-in_err-reader-clause-written
@@ -67,3 +67,10 @@ returns-in-Err-Refused-clause-written g c = λ bytes known.
     (c.in-Err-Refused.ensures.gathered bytes known))
     (ap (λ d. gathered_text c.args.form (types d) has) c.table-in-Err-Refused.ensures)
     c.in_ok-send_source-in-Err-Refused.ensures.sent
+
+pub returns-clause-written : goal.returns-clause-written
+returns-clause-written g c = λ bytes known.
+    let out = g.W.Write.contents (writer_of c.args.output.now) in
+    let now = g.R.Read.remaining (reader_of c.gather_types.new.input) in
+    subst (λ f. TypesAnswers c.args.form (within_trees c.args.limits) bytes now out out (Err f)) (sym c.from.ensures)
+    (none_sent c.args.form (within_trees c.args.limits) bytes now out c.in-Err.fault (λ R e. search rules))

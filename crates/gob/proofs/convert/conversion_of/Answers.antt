@@ -2,7 +2,7 @@
 use Rattle.std.proofs.Common.{◌∙◌, ap, arith, length, map, subst}
 use Rattle.gob_rename.specs.Words.{IsWordsFault}
 use Rattle.gob.proofs.ConvertLaws.{as_many_renames, is_word}
-use Rattle.gob.proofs.convert.renaming_of.Goals as goal
+use Rattle.gob.proofs.convert.conversion_of.Goals as goal
 
 pub invariant_of-result : goal.invariant_of-result
 invariant_of-result c = record {

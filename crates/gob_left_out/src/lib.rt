@@ -1,0 +1,22 @@
+//! What a value leaves out that is received as one of a wanted type: fields that the wanted struct lacks.
+//!
+//! ```text
+//! the stream's type               the wanted type         what of a value { A 1, B [{ C 2, D 3 }] } is left out
+//! struct { A int; B []S }         struct { B []R }        .A
+//! S struct { C int; D int }       R struct { C int }      .B[].D
+//! ```
+//!
+//! - [`left_out`] finds the fields that a value leaves out, each once, with the steps to the first of them.
+//! - [`may_leave_out`] says of two types that match whether a value of theirs may leave out any.
+#![tactic(auto)]
+
+mod field;
+mod kinds;
+mod may;
+mod noted;
+mod walk;
+
+pub use field::UnwantedField;
+pub use may::may_leave_out;
+pub use noted::LeftOut;
+pub use walk::left_out;
