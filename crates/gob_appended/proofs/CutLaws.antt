@@ -53,6 +53,9 @@ all_left_out n k all (c ∷ cs) b l =
     let low : c.at ≤ k = omega (arith, b.0) in
     rw (le-ltb k c.at low) (all_left_out n k all cs b.1 l)
 
+pub all_before : (n k all : ℕ) (cs : List Cut) → are_before n cs ≡ true → n ≤ k → left_out_at all cs k ≡ all
+all_before n k all cs b l = all_left_out n k all cs (before_from n cs b) l
+
 below : (k all : ℕ) (c : Cut) (cs : List Cut) → k < c.at → left_out_at all (c ∷ cs) k ≡ c.before
 below k all c cs l = rw (lt-ltb k c.at l) refl
 

@@ -1,7 +1,9 @@
 mod CutLaws
 mod FrontLaws
+mod InputLaws
 mod KnownLaws
 mod NumberLaws
+mod OffsetLaws
 mod OnceItems
 mod OnceLaws
 mod ReaderLaws

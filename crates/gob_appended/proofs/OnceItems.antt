@@ -1,7 +1,7 @@
 -- What stays of bytes, item by item.
 use Rattle.std.proofs.Common.{◌≡◌, ℕ, zero, suc, ◌+◌, ◌-◌, ◌<◌, ◌≤◌, true, false, List, [], ◌∷◌, ◌++◌, length}
 use Rattle.std.proofs.Common.{take, drop, arith, refl, sym, ap, ◌∙◌, subst, append-nil, Option, None, Some, nat_lt}
-use Rattle.std.proofs.Common.{take-append-drop, inl, inr}
+use Rattle.std.proofs.Common.{inl, inr}
 use Rattle.std.proofs.lemmas.Bool.{cases_Bool, cond_both, ltb-false}
 use Rattle.std.proofs.lemmas.List.{length-drop}
 use Rattle.gob_appended.specs.Front.{are_least, front_at, is_definition, number_at, of_count, of_size, with_digits}
@@ -9,10 +9,11 @@ use Rattle.std.specs.Prelude.{slice_range}
 use Rattle.gob_num.specs.Unsigned.{big_endian}
 use Rattle.gob_appended.specs.Known.{is_known, with_definition}
 use Rattle.gob_appended.specs.Laws.{IsOnce, NoneAgain, as_it_is, again, defined, kept, new, nothing, plain}
-use Rattle.gob_appended.specs.Once.{once, staying}
+use Rattle.gob_appended.specs.Once.{Byte, bytes_from, once_from, staying}
 use Rattle.gob_appended.specs.declared.front.Front.{Front}
 use Rattle.gob_appended.specs.declared.front.Front.TheVariants as front
-use Rattle.gob_appended.proofs.OnceLaws.{known_leave, last_stays, new_stays, plain_stays, rest_stays, so_many_stay}
+use Rattle.gob_appended.proofs.OnceLaws.{bytes_split, known_leave, last_stays, new_stays, plain_stays, rest_stays}
+use Rattle.gob_appended.proofs.OnceLaws.{so_many_stay}
 
 -- ---- an item has some bytes, and a definition stands whole
 
@@ -53,50 +54,59 @@ sized xs f e = subst (IsSized xs) e (count_some xs (number_at xs) (number_some x
 
 -- ---- item by item
 
-alone : (f : List ℕ → List ℕ) (xs : List ℕ) → f (xs ++ []) ≡ f xs
+alone : (f : List ℕ → List Byte) (xs : List ℕ) → f (xs ++ []) ≡ f xs
 alone f xs = ap f (append-nil xs)
 
-pub nothing_once : (met : List (List ℕ)) (xs : List ℕ) → front_at xs ≡ front.Nothing → once met (staying 0) xs ≡ xs
-nothing_once met xs e =
-    sym (alone (once met (staying 0)) xs) ∙ last_stays met xs [] e refl ∙ rest_stays met (xs ++ []) ∙ append-nil xs
+pub nothing_once : (met : List (List ℕ)) (i : ℕ) (xs : List ℕ) → front_at xs ≡ front.Nothing
+    → once_from i met (staying 0) xs ≡ bytes_from i xs
+nothing_once met i xs e =
+    sym (alone (once_from i met (staying 0)) xs) ∙ last_stays i met xs [] e refl ∙ rest_stays i met (xs ++ [])
+    ∙ alone (bytes_from i) xs
 
-pub plain_once : (met : List (List ℕ)) (xs : List ℕ) (n : ℕ) → front_at xs ≡ front.Plain n
-    → once met (staying 0) xs ≡ take n xs ++ once met (staying 0) (drop n xs)
-plain_once met xs n e =
-    sym (alone (once met (staying 0)) xs) ∙ plain_stays met n xs [] e (sized xs (front.Plain n) e)
-    ∙ alone (once met (staying n)) xs ∙ so_many_stay met n xs
+pub plain_once : (met : List (List ℕ)) (i : ℕ) (xs : List ℕ) (n : ℕ) → front_at xs ≡ front.Plain n
+    → once_from i met (staying 0) xs ≡ bytes_from i (take n xs) ++ once_from (i + n) met (staying 0) (drop n xs)
+plain_once met i xs n e =
+    sym (alone (once_from i met (staying 0)) xs) ∙ plain_stays i met n xs [] e (sized xs (front.Plain n) e)
+    ∙ alone (once_from i met (staying n)) xs ∙ so_many_stay i met n xs
 
-pub new_once : (met : List (List ℕ)) (xs : List ℕ) (n : ℕ) → front_at xs ≡ front.Definition n
+pub new_once : (met : List (List ℕ)) (i : ℕ) (xs : List ℕ) (n : ℕ) → front_at xs ≡ front.Definition n
     → is_known met (take n xs) ≡ false
-    → once met (staying 0) xs ≡ take n xs ++ once (with_definition met (take n xs)) (staying 0) (drop n xs)
-new_once met xs n e k =
+    → once_from i met (staying 0) xs
+    ≡ bytes_from i (take n xs) ++ once_from (i + n) (with_definition met (take n xs)) (staying 0) (drop n xs)
+new_once met i xs n e k =
     let s = sized xs (front.Definition n) e in
-    sym (alone (once met (staying 0)) xs) ∙ new_stays met n xs [] e s.0 s.1 k
-    ∙ alone (once (with_definition met (take n xs)) (staying n)) xs
-    ∙ so_many_stay (with_definition met (take n xs)) n xs
+    sym (alone (once_from i met (staying 0)) xs) ∙ new_stays i met n xs [] e s.0 s.1 k
+    ∙ alone (once_from i (with_definition met (take n xs)) (staying n)) xs
+    ∙ so_many_stay i (with_definition met (take n xs)) n xs
 
-pub again_once : (met : List (List ℕ)) (xs : List ℕ) (n : ℕ) → front_at xs ≡ front.Definition n
-    → is_known met (take n xs) ≡ true → once met (staying 0) xs ≡ once met (staying 0) (drop n xs)
-again_once met xs n e k =
+pub again_once : (met : List (List ℕ)) (i : ℕ) (xs : List ℕ) (n : ℕ) → front_at xs ≡ front.Definition n
+    → is_known met (take n xs) ≡ true
+    → once_from i met (staying 0) xs ≡ once_from (i + n) met (staying 0) (drop n xs)
+again_once met i xs n e k =
     let s = sized xs (front.Definition n) e in
-    sym (alone (once met (staying 0)) xs) ∙ known_leave met n xs [] e s.0 s.1 k
-    ∙ alone (once met (staying 0)) (drop n xs)
+    sym (alone (once_from i met (staying 0)) xs) ∙ known_leave i met n xs [] e s.0 s.1 k
+    ∙ alone (once_from (i + n) met (staying 0)) (drop n xs)
 
-pub only : (met : List (List ℕ)) (xs ys : List ℕ) → IsOnce met xs ys → ys ≡ once met (staying 0) xs
-only met xs ys (as_it_is e) = sym (nothing_once met xs e)
-only met xs ys (kept {ys = zs} {n = n} e o) =
-    ap (λ l. take n xs ++ l) (only met (drop n xs) zs o) ∙ sym (plain_once met xs n e)
-only met xs ys (new {ys = zs} {n = n} e k o) =
-    ap (λ l. take n xs ++ l) (only (with_definition met (take n xs)) (drop n xs) zs o) ∙ sym (new_once met xs n e k)
-only met xs ys (again {n = n} e k o) = only met (drop n xs) ys o ∙ sym (again_once met xs n e k)
+pub only : (met : List (List ℕ)) (i : ℕ) (xs : List ℕ) (bs : List Byte) → IsOnce met i xs bs
+    → bs ≡ once_from i met (staying 0) xs
+only met i xs bs (as_it_is e) = sym (nothing_once met i xs e)
+only met i xs bs (kept {bs = cs} {n = n} e o) =
+    ap (λ l. bytes_from i (take n xs) ++ l) (only met (i + n) (drop n xs) cs o) ∙ sym (plain_once met i xs n e)
+only met i xs bs (new {bs = cs} {n = n} e k o) =
+    ap (λ l. bytes_from i (take n xs) ++ l) (only (with_definition met (take n xs)) (i + n) (drop n xs) cs o)
+    ∙ sym (new_once met i xs n e k)
+only met i xs bs (again {n = n} e k o) = only met (i + n) (drop n xs) bs o ∙ sym (again_once met i xs n e k)
 
-pub unchanged : (met : List (List ℕ)) (xs : List ℕ) → NoneAgain met xs → once met (staying 0) xs ≡ xs
-unchanged met xs (nothing e) = nothing_once met xs e
-unchanged met xs (plain {n = n} e o) =
-    plain_once met xs n e ∙ ap (λ l. take n xs ++ l) (unchanged met (drop n xs) o) ∙ take-append-drop n xs
-unchanged met xs (defined {n = n} e k o) =
-    new_once met xs n e k ∙ ap (λ l. take n xs ++ l) (unchanged (with_definition met (take n xs)) (drop n xs) o)
-    ∙ take-append-drop n xs
+pub unchanged : (met : List (List ℕ)) (i : ℕ) (xs : List ℕ) → NoneAgain met xs
+    → once_from i met (staying 0) xs ≡ bytes_from i xs
+unchanged met i xs (nothing e) = nothing_once met i xs e
+unchanged met i xs (plain {n = n} e o) =
+    plain_once met i xs n e ∙ ap (λ l. bytes_from i (take n xs) ++ l) (unchanged met (i + n) (drop n xs) o)
+    ∙ bytes_split i n xs
+unchanged met i xs (defined {n = n} e k o) =
+    new_once met i xs n e k
+    ∙ ap (λ l. bytes_from i (take n xs) ++ l) (unchanged (with_definition met (take n xs)) (i + n) (drop n xs) o)
+    ∙ bytes_split i n xs
 
 -- ---- of any bytes, by their length
 
@@ -104,24 +114,26 @@ shorter : (xs : List ℕ) (n most : ℕ) → 0 < n → length xs ≤ suc most �
 shorter xs n most l m = omega (arith, length-drop n xs)
 
 by_front : (most : ℕ)
-    → ((met : List (List ℕ)) (xs : List ℕ) → length xs ≤ most → IsOnce met xs (once met (staying 0) xs))
-    → (met : List (List ℕ)) (xs : List ℕ) → length xs ≤ suc most → (f : Front) → front_at xs ≡ f
-    → IsOnce met xs (once met (staying 0) xs)
-by_front most behind met xs l front.Nothing e = subst (IsOnce met xs) (sym (nothing_once met xs e)) (as_it_is e)
-by_front most behind met xs l (front.Plain n) e =
-    subst (IsOnce met xs) (sym (plain_once met xs n e))
-    (kept e (behind met (drop n xs) (shorter xs n most (sized xs (front.Plain n) e) l)))
-by_front most behind met xs l (front.Definition n) e =
+    → ((met : List (List ℕ)) (i : ℕ) (xs : List ℕ) → length xs ≤ most
+    → IsOnce met i xs (once_from i met (staying 0) xs))
+    → (met : List (List ℕ)) (i : ℕ) (xs : List ℕ) → length xs ≤ suc most → (f : Front) → front_at xs ≡ f
+    → IsOnce met i xs (once_from i met (staying 0) xs)
+by_front most behind met i xs l front.Nothing e =
+    subst (IsOnce met i xs) (sym (nothing_once met i xs e)) (as_it_is e)
+by_front most behind met i xs l (front.Plain n) e =
+    subst (IsOnce met i xs) (sym (plain_once met i xs n e))
+    (kept e (behind met (i + n) (drop n xs) (shorter xs n most (sized xs (front.Plain n) e) l)))
+by_front most behind met i xs l (front.Definition n) e =
     let s = sized xs (front.Definition n) e in
     elim (cases_Bool (is_known met (take n xs))) [
-      | inl k ↦ subst (IsOnce met xs) (sym (again_once met xs n e k))
-          (again e k (behind met (drop n xs) (shorter xs n most s.0 l)))
-      | inr k ↦ subst (IsOnce met xs) (sym (new_once met xs n e k))
-          (new e k (behind (with_definition met (take n xs)) (drop n xs) (shorter xs n most s.0 l)))
+      | inl k ↦ subst (IsOnce met i xs) (sym (again_once met i xs n e k))
+          (again e k (behind met (i + n) (drop n xs) (shorter xs n most s.0 l)))
+      | inr k ↦ subst (IsOnce met i xs) (sym (new_once met i xs n e k))
+          (new e k (behind (with_definition met (take n xs)) (i + n) (drop n xs) (shorter xs n most s.0 l)))
     ]
 
-pub by_length : (most : ℕ) (met : List (List ℕ)) (xs : List ℕ) → length xs ≤ most
-    → IsOnce met xs (once met (staying 0) xs)
-by_length zero met [] l = as_it_is refl
-by_length zero met (x ∷ xs) l = absurd (omega arith)
-by_length (suc most) met xs l = by_front most (by_length most) met xs l (front_at xs) refl
+pub by_length : (most : ℕ) (met : List (List ℕ)) (i : ℕ) (xs : List ℕ) → length xs ≤ most
+    → IsOnce met i xs (once_from i met (staying 0) xs)
+by_length zero met i [] l = as_it_is refl
+by_length zero met i (x ∷ xs) l = absurd (omega arith)
+by_length (suc most) met i xs l = by_front most (by_length most) met i xs l (front_at xs) refl

@@ -3,6 +3,7 @@ pub mod Front
 pub mod Known
 pub mod Laws
 pub mod Left
+pub mod Offsets
 pub mod Once
 pub mod Reader
 pub mod Waiting

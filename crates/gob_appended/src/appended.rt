@@ -25,11 +25,13 @@ pub struct Appended<R> {
 
 impl<R: Drop> Appended<R> {
     ghost use Rattle.std.specs.Prelude.{◌≡◌, [], IfOk};
+    ghost use Rattle.gob_appended.specs.Offsets.{Begins};
     ghost use Rattle.gob_appended.specs.Reader.{IsFresh};
 
     /// Over this reader, which is to be at the beginning of a stream. Without memory the reader is dropped.
     pub fn new(alloc: Global, reader: R) -> Result<Appended<R>, AllocError>
-        ensures { IfOk result (IsFresh reader) }
+        ensures fresh { IfOk result (IsFresh reader) }
+        ensures begins { IfOk result (Begins reader) }
     {
         Ok(Appended {
             reader,
@@ -45,18 +47,21 @@ impl<R: Drop> Appended<R> {
 
 impl<R> Appended<R> {
     ghost use Rattle.std.specs.Prelude.{◌≡◌};
+    ghost use Rattle.gob_appended.specs.Offsets.{TellsEnd, TellsPlace};
     ghost use Rattle.gob_appended.specs.Reader.{end_in, place_in};
 
     /// The offset in the input of an offset among the bytes that were given. It stays at 2^64-1 once there.
     pub fn place_in_input(&self, place: u64) -> u64
-        ensures { result ≡ place_in self.now place }
+        ensures place { result ≡ place_in self.now place }
+        ensures told { TellsPlace self.now place result }
     {
         self.places.in_input(place)
     }
 
     /// How many bytes of the input end with the last of so many that were given. It stays at 2^64-1 once there.
     pub fn end_in_input(&self, count: u64) -> u64
-        ensures { result ≡ end_in self.now count }
+        ensures end { result ≡ end_in self.now count }
+        ensures told { TellsEnd self.now count result }
     {
         match count.checked_sub(1) {
             None => 0,
@@ -75,6 +80,7 @@ impl<R> Appended<R> {
     pub fn into_inner(self) -> R
     where
         R: Drop,
+        ensures { result ≡ self.reader }
     {
         self.reader
     }
@@ -86,13 +92,16 @@ impl<R: Read> Appended<R> {
     ghost use Rattle.std.specs.Io.KnownBytes.{Consumes, IsAtEnd, Keeps};
     ghost use Rattle.gob_appended.specs.Front.{front_at};
     ghost use Rattle.gob_appended.specs.Left.{goes_on, part_of};
+    ghost use Rattle.gob_appended.specs.Offsets.{GivesMore, GivesNone};
     ghost use Rattle.gob_appended.specs.Reader.{Gives, is_ready, to_give};
     ghost use Rattle.gob_appended.specs.Waiting.{waiting};
     ghost use Rattle.gob_appended.specs.declared.front.Front.TheVariants as front;
 
     // Goes on until something may be given, or all was.
     fn prepare(&mut self) -> io::Result<()>
-        ensures kept { Keeps (to_give R.remaining self.old) (to_give R.remaining self.new) }
+        ensures bytes { Keeps (to_give R.remaining self.old) (to_give R.remaining self.new) }
+        ensures offsets { GivesNone R.remaining self.old self.new }
+        ensures memory { self.new.lacks_memory ≡ self.old.lacks_memory }
         ensures ready { OnOk result (is_ready self.new ≡ true) }
     {
         for _ in 0..u64::MAX {
@@ -114,7 +123,9 @@ impl<R: Read> Appended<R> {
     // Judges what stands where an item is to begin, or reads on.
     fn step(&mut self) -> io::Result<()>
         requires { is_ready self.old ≡ false }
-        ensures { Keeps (to_give R.remaining self.old) (to_give R.remaining self.new) }
+        ensures bytes { Keeps (to_give R.remaining self.old) (to_give R.remaining self.new) }
+        ensures offsets { GivesNone R.remaining self.old self.new }
+        ensures memory { self.new.lacks_memory ≡ self.old.lacks_memory }
     {
         if self.left.goes_on() {
             return self.fill();
@@ -136,7 +147,9 @@ impl<R: Read> Appended<R> {
         requires due { goes_on (part_of self.old.left) ≡ false }
         requires stands { front_at (waiting self.old.waiting) ≡ front.Definition size }
         requires size { (0 < size) × (size ≤ length (waiting self.old.waiting)) }
-        ensures { Keeps (to_give R.remaining self.old) (to_give R.remaining self.new) }
+        ensures bytes { Keeps (to_give R.remaining self.old) (to_give R.remaining self.new) }
+        ensures offsets { GivesNone R.remaining self.old self.new }
+        ensures memory { self.new.lacks_memory ≡ self.old.lacks_memory }
     {
         if self.known.has(&self.waiting.bytes()[..size])? {
             self.places.leave(size)?;
@@ -152,7 +165,9 @@ impl<R: Read> Appended<R> {
     fn fill(&mut self) -> io::Result<()>
         requires open { self.old.ended ≡ false }
         requires room { length (waiting self.old.waiting) < 65536 }
-        ensures { Keeps (to_give R.remaining self.old) (to_give R.remaining self.new) }
+        ensures bytes { Keeps (to_give R.remaining self.old) (to_give R.remaining self.new) }
+        ensures offsets { GivesNone R.remaining self.old self.new }
+        ensures memory { self.new.lacks_memory ≡ self.old.lacks_memory }
     {
         let count = self.waiting.read_more(&mut self.reader)?;
         if count == 0 {
@@ -164,7 +179,9 @@ impl<R: Read> Appended<R> {
     // Gives what there is room for, none only at the end.
     fn give(&mut self, buf: &mut [u8]) -> usize
         requires { is_ready self.old ≡ true }
-        ensures { Gives (to_give R.remaining self.old) (to_give R.remaining self.new) buf.new result }
+        ensures bytes { Gives (to_give R.remaining self.old) (to_give R.remaining self.new) buf.new result }
+        ensures offsets { GivesMore R.remaining self.old self.new result }
+        ensures memory { self.new.lacks_memory ≡ self.old.lacks_memory }
     {
         let count = self.left.of(buf.len().min(self.waiting.bytes().len()));
         buf[..count].copy_from_slice(&self.waiting.bytes()[..count]);
@@ -178,13 +195,18 @@ impl<R: Read> Appended<R> {
 impl<R: Read> Read for Appended<R> {
     ghost use Rattle.std.specs.Io.{ReadsAtMost};
     ghost use Rattle.std.specs.Io.KnownBytes.{ReadConsumes};
-    ghost use Rattle.gob_appended.specs.Reader.{to_give};
+    ghost use Rattle.gob_appended.specs.Offsets.{ReadGives};
+    ghost use Rattle.gob_appended.specs.Reader.{NotesMemory, to_give};
 
     ghost remaining = { to_give R.remaining };
 
     fn read(&mut self, buf: &mut [u8]) -> io::Result<usize>
         ensures bound { ReadsAtMost result buf.new }
         ensures bytes { ReadConsumes (to_give R.remaining self.old) (to_give R.remaining self.new) result buf.new }
+
+        // Of its input it has given so many bytes more, none behind an error, and tells where they stood there.
+        ensures offsets { ReadGives R.remaining self.old self.new result }
+        ensures memory { NotesMemory self.old.lacks_memory self.new.lacks_memory result }
     {
         if buf.is_empty() {
             return Ok(0);

@@ -14,7 +14,7 @@ mod places;
 mod waiting;
 
 pub use appended::Appended;
-pub use laws::{definitions_are_said_once, nothing_else_is_lost};
+pub use laws::{definitions_are_said_once, nothing_else_is_lost, offsets_are_those_of_the_input};
 
 #[cfg(test)]
 mod tests;

@@ -1,7 +1,7 @@
 use Rattle.std.proofs.Common.{◌≡◌, ◌++◌, ◌-◌, arith, ◌∙◌, ap, drop, length, sym, take}
 use Rattle.std.proofs.lemmas.List.{length-drop, take_all}
 use Rattle.gob_appended.specs.Front.{front_at}
-use Rattle.gob_appended.specs.Once.{once, staying}
+use Rattle.gob_appended.specs.Once.{once_from, staying}
 use Rattle.gob_appended.proofs.OnceLaws.{run_on}
 use Rattle.gob_appended.proofs.front.run_end.Goals as goal
 
@@ -12,6 +12,6 @@ run-preserved c =
     let all : take (length xs - end) (drop end xs) ≡ drop end xs =
     take_all (length xs - end) (drop end xs) (omega (arith, length-drop end xs)) in
     let item = c.in-Plain.ensures in
-    λ ds ys. c.run.invariant ds ys
-    ∙ run_on end c.in-Plain.more xs (omega arith) (ap front_at (sym all) ∙ sym item.front) item.size ds ys
-    ∙ ap (λ n. once ds (staying n) (xs ++ ys)) (sym c.in-Some.ensures.1)
+    λ i ds ys. c.run.invariant i ds ys
+    ∙ run_on end c.in-Plain.more xs (omega arith) (ap front_at (sym all) ∙ sym item.front) item.size i ds ys
+    ∙ ap (λ n. once_from i ds (staying n) (xs ++ ys)) (sym c.in-Some.ensures.1)

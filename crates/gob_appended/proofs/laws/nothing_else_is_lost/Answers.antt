@@ -3,4 +3,4 @@ use Rattle.gob_appended.proofs.OnceItems.{unchanged}
 use Rattle.gob_appended.proofs.laws.nothing_else_is_lost.Goals as goal
 
 pub returns : goal.returns
-returns c = λ xs. unchanged [] xs
+returns c = λ xs. unchanged [] 0 xs
