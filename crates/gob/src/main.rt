@@ -35,6 +35,7 @@ mod appended;
 mod asked;
 mod convert;
 mod join;
+mod kept;
 mod opening;
 mod part_files;
 mod pipe;
@@ -51,6 +52,7 @@ use crate::appended::{in_input, leaves_out};
 use crate::asked::{Asked, asked_by};
 use crate::convert::convert;
 use crate::join::join;
+use crate::kept::say_kept;
 use crate::opening::open;
 use crate::pipe::Pipe;
 use crate::progress::{size_of, watched};
@@ -276,7 +278,11 @@ fn run_view_on<'a>(rt: &HostRuntime, view: &View, names: &'a [&'a str]) -> Resul
             show_watched(rt, view, file, size, writer, &mut told)
         }
     };
-    with_way_on(rt.alloc(), view, told_once(view.command, ending))?;
+    let ending = with_way_on(rt.alloc(), view, told_once(view.command, ending));
+    if matches!(&ending, Err(Exit::Told(_))) {
+        say_kept(rt, view)?;
+    }
+    ending?;
     match told {
         Some(kept) => tell(rt, &kept),
         None => Ok(()),

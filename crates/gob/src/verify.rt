@@ -65,8 +65,8 @@ fn is_large(size: Option<u64>) -> bool {
     size.is_some_and(|size| size > LARGE)
 }
 
-// A line that isn't written is a failed write, and ends the program quietly where the other end of a pipe is closed.
-fn sent(written: io::Result<()>) -> Result<(), Exit> {
+/// A line that isn't written is a failed write, and ends the program quietly where the other end of a pipe is closed.
+pub(crate) fn sent(written: io::Result<()>) -> Result<(), Exit> {
     match written {
         Ok(()) => Ok(()),
         Err(error) if error.kind() == ErrorKind::BrokenPipe => Err(Exit::Unread),

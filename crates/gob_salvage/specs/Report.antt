@@ -57,10 +57,19 @@ left_text gaps =
     else count_text (min (left_out gaps) (2 ^ 64 - 1)) (codes "byte") ++ (codes " in "
     ++ count_text (length gaps) (codes "place"))
 
--- how much was kept, and how much was left out
+-- how much was kept
+abbrev pub amount_text : Salvaged → List ℕ
+amount_text kept = count_text kept.items (codes "item") ++ (codes ", "
+    ++ count_text (length kept.bytes.items) (codes "byte"))
+
+-- and how much was left out
 abbrev pub total_text : Salvaged → List ℕ
-total_text kept = codes "gob: kept " ++ (count_text kept.items (codes "item") ++ (codes ", "
-    ++ (count_text (length kept.bytes.items) (codes "byte") ++ (codes "; left out " ++ left_text kept.gaps.items))))
+total_text kept = codes "gob: kept " ++ (amount_text kept ++ (codes "; left out " ++ left_text kept.gaps.items))
+
+-- how `gob why` tells it
+abbrev pub kept_text : Salvaged → List ℕ
+kept_text kept =
+    codes "kept: gob salvage keeps " ++ (amount_text kept ++ (codes ", and leaves out " ++ left_text kept.gaps.items))
 
 -- the first twenty gaps, how many more there are, and the totals: all but the last line feed
 abbrev pub report_text : Salvaged → List ℕ

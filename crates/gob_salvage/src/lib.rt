@@ -8,8 +8,8 @@
 //! ```
 //!
 //! [`salvage`] keeps what it can of bytes, and [`salvage_all`] of an input; what they leave out is said in [`Gap`]s.
-//! [`run_salvage`] is the run of the program, [`run_salvage_behind`] that with the types of another stream, and
-//! [`report`] what they tell on standard error.
+//! [`run_salvage`] is the run of the program, [`run_salvage_behind`] that with the types of another stream, [`report`]
+//! what they tell on standard error, and [`kept_line`] how `gob why` tells what they would keep.
 #![tactic(auto)]
 
 mod again;
@@ -28,6 +28,6 @@ mod streams;
 pub use behind::run_salvage_behind;
 pub use gap::Gap;
 pub use keeping::Salvaged;
-pub use lines::report;
+pub use lines::{kept_line, report};
 pub use run::{run_salvage, salvage_all};
 pub use streams::salvage;

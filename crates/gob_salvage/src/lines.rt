@@ -1,10 +1,9 @@
-//! What is told on standard error of what was kept and left out.
+//! What is told of what was kept and left out.
 
 ghost use Rattle.std.specs.Prelude.{◌≡◌, IfOk};
 ghost use Rattle.std.specs.String.{string_bytes};
-ghost use Rattle.gob_salvage.specs.Report.{gap_text, left_text, more_text, plural, repeated_id, report_text};
-ghost use Rattle.gob_salvage.specs.Report.{total_text};
-ghost use Rattle.gob_salvage.specs.Report.{why_text};
+ghost use Rattle.gob_salvage.specs.Report.{amount_text, gap_text, kept_text, left_text, more_text, plural};
+ghost use Rattle.gob_salvage.specs.Report.{repeated_id, report_text, total_text, why_text};
 
 use crate::gap::Gap;
 use crate::keeping::Salvaged;
@@ -74,16 +73,34 @@ fn more_line(alloc: Global, more: u64) -> Result<String, AllocError>
     format!(in alloc; "gob: and {more} place{s} more\n")
 }
 
+/// The line by which `gob why` tells how much [`run_salvage`](crate::run_salvage) keeps of a refused file: all but the
+/// last line feed.
+pub fn kept_line(alloc: Global, kept: &Salvaged) -> Result<String, AllocError>
+    ensures { IfOk result (λ text. string_bytes text ≡ kept_text kept.now) }
+{
+    let amount = amount(alloc, kept)?;
+    let left = left_out(alloc, kept)?;
+    format!(in alloc; "kept: gob salvage keeps {amount}, and leaves out {left}")
+}
+
 // How much was kept, and how much wasn't.
 fn total_line(alloc: Global, kept: &Salvaged) -> Result<String, AllocError>
     ensures { IfOk result (λ text. string_bytes text ≡ total_text kept.now) }
+{
+    let amount = amount(alloc, kept)?;
+    let left = left_out(alloc, kept)?;
+    format!(in alloc; "gob: kept {amount}; left out {left}")
+}
+
+// How many items and bytes were kept.
+fn amount(alloc: Global, kept: &Salvaged) -> Result<String, AllocError>
+    ensures { IfOk result (λ text. string_bytes text ≡ amount_text kept.now) }
 {
     let items = kept.items;
     let items_s = plural(items);
     let bytes = kept.bytes.len() as u64;
     let bytes_s = plural(bytes);
-    let left = left_out(alloc, kept)?;
-    format!(in alloc; "gob: kept {items} item{items_s}, {bytes} byte{bytes_s}; left out {left}")
+    format!(in alloc; "{items} item{items_s}, {bytes} byte{bytes_s}")
 }
 
 fn left_out(alloc: Global, kept: &Salvaged) -> Result<String, AllocError>

@@ -2,11 +2,10 @@
 use Rattle.std.proofs.Common.{◌∙◌, append_assoc}
 use Rattle.std.specs.String.{string_bytes}
 use Rattle.gob_salvage.proofs.ReportLaws.{says_so}
-use Rattle.gob_salvage.proofs.lines.total_line.Goals as goal
+use Rattle.gob_salvage.proofs.lines.amount.Goals as goal
 
 pub returns : goal.returns
 returns c = says_so string_bytes c.format.result _ _ (rw (
-  c.in_ok-left.ensures,
   c.plural-bytes_s.ensures,
   c.plural-items_s.ensures,
   c.len.ensures ∙ c.args.kept.now.bytes.ok.0,
