@@ -14,6 +14,15 @@ pub(crate) struct Frame {
     pub end: usize,
     /// The type number: below 0 where a type is defined.
     pub number: i64,
+    /// Where the body begins, behind that number.
+    pub body: usize,
+}
+
+impl Frame {
+    /// The body, in the bytes that the item may be one of. None: the count ends before it.
+    pub fn body_in(self, bytes: &[u8]) -> Option<&[u8]> {
+        bytes.get(self.body..self.end)
+    }
 }
 
 /// What may be an item at the place.
@@ -27,10 +36,11 @@ pub(crate) fn frame_at(limits: &Limits, bytes: &[u8], at: usize) -> Option<Frame
     if count < 2 || count > limits.item() || count > (bytes.len() - head) as u64 {
         return None;
     }
-    let (number, _) = uint_at(bytes, head)?;
+    let (number, body) = uint_at(bytes, head)?;
     Some(Frame {
         end: head + count as usize,
         number: to_signed(number),
+        body,
     })
 }
 

@@ -22,6 +22,7 @@ use gob_num::Memory;
 use gob_read::{BodyReader, SkipBuilder, Stop};
 use gob_stream::{Limits, whole_value};
 use gob_types::{Reason, Table, TypeId};
+use gob_value::is_whole;
 use std::alloc::Global;
 
 // So many values of types of which a value was kept show that items go on.
@@ -35,6 +36,9 @@ const FEW: u64 = 2;
 
 // So many other items may stand among the values.
 const MOST_OTHERS: u64 = 16;
+
+// A session is made in the time in which so many bytes of values are looked at, and reads a definition in it.
+const A_SESSION: u64 = 16384;
 
 /// The search for the places where items go on, with what it may still cost over all of the bytes.
 pub(crate) struct Search {
@@ -280,6 +284,7 @@ impl Search {
         let piece = &bytes[at..];
         if self.kept_types.is_empty()
             && frame.number <= -64
+            && self.describes(alloc, table, frame.body_in(bytes))?
             && self.begins_anew(alloc, piece, ENOUGH_ANEW)?
         {
             return Ok(true);
@@ -326,7 +331,16 @@ impl Search {
             return Ok(true);
         }
         self.spend(end);
+        self.spend_session(items);
         Ok(false)
+    }
+
+    // A session has read so many items in vain.
+    fn spend_session(&mut self, items: u64)
+        ensures { HasSpent self.old self.new }
+    {
+        let bytes = items.saturating_add(1).saturating_mul(A_SESSION);
+        self.left = self.left.saturating_sub(bytes);
     }
 
     // Whether so many values stand at the front of the piece, among few other items, or fewer up to the end.
@@ -456,18 +470,40 @@ impl Search {
         }
     }
 
-    // Whether a definition stands at the front of the piece, or maybe a value of a type that isn't known.
-    fn other_there(&self, alloc: Global, table: &Table, piece: &[u8]) -> Result<There, Memory>
-        ensures { IfOk result (λ there. there ≡ what.Value → ⊥) }
+    // Whether a definition may stand at the front of the piece, or a value of a type that isn't known.
+    fn other_there(&mut self, alloc: Global, table: &Table, piece: &[u8]) -> Result<There, Memory>
+        ensures spent { HasSpent self.old self.new }
+        ensures none { IfOk result (λ there. there ≡ what.Value → ⊥) }
     {
         match frame_at(&self.limits, piece, 0) {
             Some(frame) if frame.number <= -64 => {
-                let (items, _) = read_some(alloc, self.limits, piece, 1)?;
-                Ok(other_if(items == 1))
+                let describes = self.describes(alloc, table, frame.body_in(piece))?;
+                Ok(other_if(describes))
             }
             Some(frame) => Ok(other_if(is_unknown(table, frame.number))),
             None => Ok(There::Nothing),
         }
+    }
+
+    // Whether the body of a definition is a whole description, of whatever type.
+    fn describes(
+        &mut self,
+        alloc: Global,
+        table: &Table,
+        body: Option<&[u8]>,
+    ) -> Result<bool, Memory>
+        ensures { HasSpent self.old self.new }
+    {
+        let Some(body) = body else {
+            return Ok(false);
+        };
+        let id = TypeId::WIRE_TYPE;
+        // wireType is ready in each table of a stream
+        if !table.kept(id) || is_whole(table, id, body, Limits::GREATEST_DEPTH) {
+            return Ok(true);
+        }
+        self.spend_on(alloc, table, id, body)?;
+        Ok(false)
     }
 }
 
