@@ -20,6 +20,8 @@ class Row(NamedTuple):
     data: bytes
     due: str
     options: tuple = ()
+    # what is due of its file, where that is read once more as one of several encoders, and is whole
+    of_file: str = ""
 
 
 def spelled(number):
@@ -40,6 +42,8 @@ HEX = bytes.fromhex
 POINT = HEX("1fff81030101 05506f696e74 01ff8200 0102 0101580104 00 0101590104 00 00 00".replace(" ", ""))
 VALUE = HEX("07ff82012c014200")
 GOB = POINT + VALUE
+# a slice of ints, type 66, and one without elements
+INTS = HEX("0cff83020102ff840001040000 04ff840000".replace(" ", ""))
 # an array of 2 ints, and one of itself; a struct of itself; a type that encodes itself, under two numbers
 ARRAY = HEX("0eff81010102ff82000104010400 00".replace(" ", ""))
 LOOP = HEX("0fff81010102ff820001ff8201020000")
@@ -47,6 +51,13 @@ NODE = item(HEX("ff81 03 01 01 04 4e6f6465 01 ff82 00 01 01 01 04 4e657874 01 ff
 TWO_NUMBERS = HEX("10ff8105010104 54696d65 01ff84000000".replace(" ", ""))
 # a big.Int in an interface, whose type is defined within the value
 BIG = HEX("151000082a6269672e496e74ff81050102ff8400000007ff82040002 0205".replace(" ", ""))
+
+
+def of_several(whole, encoders, places, left_out):
+    """What is due of a file to which so many encoders wrote, which has this without what defines types again."""
+    return (f"ok: {whole}\nencoders: {encoders}, seen to begin anew at byte {places}; {left_out} bytes that define types "
+            "again aren't counted\n")
+
 
 CHANGED = "These bytes were changed, or something else stands in the file from here on."
 FIRST = "This is no gob stream, or these bytes were changed."
@@ -129,7 +140,7 @@ REASONS = [
         "8 DefinedTwice(65) at 33 seen 35", "A type is defined under a number that has one already.",
         "item 1, which begins at byte 32", TYPE, "ff 81, at byte 33",
         "Another encoder's stream begins with this item: it defines type 65 once more, in the same way.",
-        "gob values --salvage IN")),
+        "gob values --salvage IN"), of_file=of_several("1 items, 1 types, 32 bytes", "2", "32", 32)),
     Row("too_many_types", definitions(10001), due(
         "9 TooManyTypes at 149874 seen 149877", "More than 10,000 types are defined.",
         "item 10000, which begins at byte 149873", TYPE, "fe 4e a1, at byte 149874", CHANGED, SALVAGE)),
@@ -303,6 +314,25 @@ CAUSES = [
         "U+FFFD, ef bf bd, stands in place of bytes that are no text. They are lost.",
         "Get the file once more, and send it as bytes: nothing on its way may take it for text.")),
     Row("another_stream", GOB + GOB, due(
+        "8 DefinedTwice(65) at 41 seen 43", "A type is defined under a number that has one already.",
+        "item 2, which begins at byte 40", TYPE, "ff 81, at byte 41",
+        "Another encoder's stream begins with this item: it defines type 65 once more, in the same way.",
+        "gob values --salvage IN"), of_file=of_several("3 items, 1 types, 48 bytes\n2 values of type 65, Point", "2", "40", 32)),
+    Row("encoders_fifteen", GOB * 15, due(
+        "8 DefinedTwice(65) at 41 seen 43", "A type is defined under a number that has one already.",
+        "item 2, which begins at byte 40", TYPE, "ff 81, at byte 41",
+        "Another encoder's stream begins with this item: it defines type 65 once more, in the same way.",
+        "gob values --salvage IN"), of_file=of_several(
+            "16 items, 1 types, 152 bytes\n15 values of type 65, Point", "15",
+            "40, 80, 120, 160, 200, 240, 280, 320, 360, 400 and 4 more", 448)),
+    # the second encoder says its second definition later than the first one
+    Row("encoders_three", GOB + INTS + GOB + INTS + GOB, due(
+        "8 DefinedTwice(65) at 59 seen 61", "A type is defined under a number that has one already.",
+        "item 4, which begins at byte 58", TYPE, "ff 81, at byte 59",
+        "Another encoder's stream begins with this item: it defines type 65 once more, in the same way.",
+        "gob values --salvage IN"), of_file=of_several(
+            "7 items, 2 types, 79 bytes\n3 values of type 65, Point\n2 values of type 66", "3", "58, 116", 77)),
+    Row("encoders_and_damage", GOB + GOB + HEX("07ff82032c014200"), due(
         "8 DefinedTwice(65) at 41 seen 43", "A type is defined under a number that has one already.",
         "item 2, which begins at byte 40", TYPE, "ff 81, at byte 41",
         "Another encoder's stream begins with this item: it defines type 65 once more, in the same way.",

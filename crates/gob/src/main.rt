@@ -34,6 +34,7 @@ ghost use Rattle.gob.specs.Exit.{IsQuietIfClosed, IsToldOnce, IsUnopened, seen_a
 mod appended;
 mod asked;
 mod convert;
+mod encoders;
 mod join;
 mod kept;
 mod opening;
@@ -46,13 +47,13 @@ mod types;
 mod verdict;
 mod verify;
 mod way_on;
+mod why;
 mod write;
 
 use crate::appended::{in_input, leaves_out};
 use crate::asked::{Asked, asked_by};
 use crate::convert::convert;
 use crate::join::join;
-use crate::kept::say_kept;
 use crate::opening::open;
 use crate::pipe::Pipe;
 use crate::progress::{size_of, watched};
@@ -61,6 +62,7 @@ use crate::split::split;
 use crate::verdict::Verdict;
 use crate::verify::verify;
 use crate::way_on::with_way_on;
+use crate::why::why;
 use crate::write::{make, write};
 use gob_appended::Appended;
 use gob_progress::Watched;
@@ -190,6 +192,7 @@ fn run(rt: &HostRuntime) -> Result<(), Exit> {
         Ok(Asked::Order(order)) if order.command == Chosen::Show => show(rt, &order, &names),
         Ok(Asked::Order(order)) if order.command == Chosen::Convert => convert(rt, &order, &names),
         Ok(Asked::Order(order)) => run_for(rt, &order),
+        Ok(Asked::View(view)) if view.command == ViewCommand::Why => why(rt, &view),
         Ok(Asked::View(view)) if view.command == ViewCommand::Write => write(rt, &view),
         Ok(Asked::View(view)) if view.command == ViewCommand::Salvage => salvage(rt, &view, &names),
         Ok(Asked::View(view)) => run_view_on(rt, &view, &names),
@@ -278,11 +281,7 @@ fn run_view_on<'a>(rt: &HostRuntime, view: &View, names: &'a [&'a str]) -> Resul
             show_watched(rt, view, file, size, writer, &mut told)
         }
     };
-    let ending = with_way_on(rt.alloc(), view, told_once(view.command, ending));
-    if matches!(&ending, Err(Exit::Told(_))) {
-        say_kept(rt, view)?;
-    }
-    ending?;
+    with_way_on(rt.alloc(), view, ending)?;
     match told {
         Some(kept) => tell(rt, &kept),
         None => Ok(()),
@@ -324,15 +323,11 @@ fn show_appended<R: Read + Drop, W: Write + Drop>(
     ending
 }
 
-// How the run of a view ends the program: where `why` has said why the input is refused, no line says it once more.
-fn told_once(command: ViewCommand, ending: Result<(), Exit>) -> Result<(), Exit>
+// How the run of `why` ends the program: where it has said why the input is refused, no line says it once more.
+fn told_once(ending: Result<(), Exit>) -> Result<(), Exit>
     ensures status { ending_status result ≡ ending_status ending }
-    ensures why { command ≡ ViewCommand.Why → IsToldOnce ending result }
-    ensures others { command ≢ ViewCommand.Why → result ≡ ending }
+    ensures why { IsToldOnce ending result }
 {
-    if command != ViewCommand::Why {
-        return ending;
-    }
     match ending {
         Err(Exit::Run(ToolFault::Refused(refusal))) => {
             Err(Exit::Told(ToolFault::Refused(refusal)))

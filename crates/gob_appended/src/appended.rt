@@ -46,7 +46,7 @@ impl<R: Drop> Appended<R> {
 }
 
 impl<R> Appended<R> {
-    ghost use Rattle.std.specs.Prelude.{◌≡◌};
+    ghost use Rattle.std.specs.Prelude.{◌≡◌, length, min};
     ghost use Rattle.gob_appended.specs.Offsets.{TellsEnd, TellsPlace};
     ghost use Rattle.gob_appended.specs.Reader.{end_in, place_in};
 
@@ -67,6 +67,28 @@ impl<R> Appended<R> {
             None => 0,
             Some(last) => self.places.in_input(last).saturating_add(1),
         }
+    }
+
+    /// How many bytes were left out, all of them definitions that were said again. It stays at 2^64-1 once there.
+    pub fn left_out(&self) -> u64
+        ensures { result ≡ self.now.places.left_out }
+    {
+        self.places.left_out()
+    }
+
+    /// How many encoders are seen to have begun anew: each by a definition that the one before it has said too. It
+    /// stays at 2^64-1 once there.
+    pub fn encoders_anew(&self) -> u64
+        ensures { result ≡ self.now.known.encoders.count }
+    {
+        self.known.encoders().count()
+    }
+
+    /// The offsets in the input of these definitions, of the first ten such encoders.
+    pub fn places_anew(&self) -> &[u64]
+        ensures { length result.now ≡ min self.now.known.encoders.count 10 }
+    {
+        self.known.encoders().places()
     }
 
     /// Whether the last read that failed did for want of memory, its own or that of the other reader.
@@ -151,13 +173,18 @@ impl<R: Read> Appended<R> {
         ensures offsets { GivesNone R.remaining self.old self.new }
         ensures memory { self.new.lacks_memory ≡ self.old.lacks_memory }
     {
-        if self.known.has(&self.waiting.bytes()[..size])? {
-            self.places.leave(size)?;
-            self.waiting.pass(size);
-            return Ok(());
+        match self.known.place_of(&self.waiting.bytes()[..size])? {
+            Some(place) => {
+                let offset = self.places.reached();
+                self.places.leave(size)?;
+                self.known.say_again(place, offset);
+                self.waiting.pass(size);
+            }
+            None => {
+                self.known.add(&self.waiting.bytes()[..size])?;
+                self.left = Left::Bytes(size as u128);
+            }
         }
-        self.known.add(&self.waiting.bytes()[..size])?;
-        self.left = Left::Bytes(size as u128);
         Ok(())
     }
 

@@ -40,6 +40,18 @@ impl Places {
         }
     }
 
+    /// The offset in the input of what comes. It stays at 2^64-1 once there.
+    pub(crate) fn reached(&self) -> u64 {
+        self.given.saturating_add(self.left_out)
+    }
+
+    /// How many bytes were left out.
+    pub(crate) fn left_out(&self) -> u64
+        ensures { result ≡ self.now.left_out }
+    {
+        self.left_out
+    }
+
     /// So many bytes were given.
     pub(crate) fn give(&mut self, count: usize)
         ensures given { self.new.given ≡ min (self.old.given + count) (2 ^ 64 - 1) }

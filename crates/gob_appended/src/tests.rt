@@ -76,7 +76,7 @@ fn is_given(alloc: Global, most: usize, room: usize, fails_at: usize) -> io::Res
         }
         read_all(alloc, &mut reader, room, &mut out)?;
     }
-    Ok(out.as_slice() == GIVEN && tells_offsets(&reader))
+    Ok(out.as_slice() == GIVEN && tells_offsets(&reader) && tells_encoders(&reader))
 }
 
 fn tells_offsets(reader: &Appended<Pieces>) -> bool {
@@ -94,6 +94,13 @@ fn tells_offsets(reader: &Appended<Pieces>) -> bool {
         && reader.end_in_input(0) == 0
         && reader.end_in_input(16) == 20
         && reader.end_in_input(17) == 29
+}
+
+// The second encoder is seen by the first definition, and so is the third, which says the other again too.
+fn tells_encoders(reader: &Appended<Pieces>) -> bool {
+    reader.encoders_anew() == 2
+        && reader.places_anew() == [8, 20].as_slice()
+        && reader.left_out() == 12
 }
 
 #[test]
