@@ -18,6 +18,7 @@ impl<S: Shapes, const TAGGED: bool> HeldVisitor for Plain<'_, S, TAGGED> {
         × WritesSome {E = AllocError} (Ok tt) old.out new.out
         (λ ts. SaysEvents old.style (S.table old.shapes.now) old.place (plain_events TAGGED events) ts new.place) };
 
+    #[inline(always)]
     fn held_begins(&mut self, name: &[u8], _id: TypeId) -> Result<(), AllocError> {
         self.place.leaves_name();
         if TAGGED {
@@ -27,6 +28,7 @@ impl<S: Shapes, const TAGGED: bool> HeldVisitor for Plain<'_, S, TAGGED> {
         Ok(())
     }
 
+    #[inline(always)]
     fn held_ends(&mut self) -> Result<(), AllocError> {
         if TAGGED {
             self.place.leaves_name();

@@ -110,6 +110,7 @@ impl<S: Shapes, const TAGGED: bool> Visitor for Plain<'_, S, TAGGED> {
 
     ghost heads_of = { λ k h. ⊤ };
 
+    #[inline(always)]
     fn truth(&mut self, truth: bool) -> Result<(), AllocError> {
         if self.place.takes_name() {
             return self.out.key("");
@@ -117,6 +118,7 @@ impl<S: Shapes, const TAGGED: bool> Visitor for Plain<'_, S, TAGGED> {
         self.out.boolean(truth)
     }
 
+    #[inline(always)]
     fn int(&mut self, number: i64) -> Result<(), AllocError> {
         if self.place.takes_name() {
             return write_signed_name(number, &mut self.out);
@@ -124,6 +126,7 @@ impl<S: Shapes, const TAGGED: bool> Visitor for Plain<'_, S, TAGGED> {
         self.out.i64(number)
     }
 
+    #[inline(always)]
     fn uint(&mut self, number: u64) -> Result<(), AllocError> {
         if self.place.takes_name() {
             return write_uint_name(number, &mut self.out);
@@ -131,6 +134,7 @@ impl<S: Shapes, const TAGGED: bool> Visitor for Plain<'_, S, TAGGED> {
         self.out.u64(number)
     }
 
+    #[inline(always)]
     fn float(&mut self, pattern: u64) -> Result<(), AllocError> {
         if self.place.takes_name() {
             return self.out.key("");
@@ -138,6 +142,7 @@ impl<S: Shapes, const TAGGED: bool> Visitor for Plain<'_, S, TAGGED> {
         write_float(pattern, &mut self.out)
     }
 
+    #[inline(always)]
     fn complex(&mut self, real: u64, imaginary: u64) -> Result<(), AllocError> {
         if self.place.takes_name() {
             return self.out.key("");
@@ -145,6 +150,7 @@ impl<S: Shapes, const TAGGED: bool> Visitor for Plain<'_, S, TAGGED> {
         write_complex(real, imaginary, &mut self.out)
     }
 
+    #[inline(always)]
     fn bytes(&mut self, bytes: &[u8]) -> Result<(), AllocError> {
         if self.place.takes_name() {
             return self.out.key("");
@@ -152,6 +158,7 @@ impl<S: Shapes, const TAGGED: bool> Visitor for Plain<'_, S, TAGGED> {
         write_bytes(self.alloc, bytes, &mut self.out)
     }
 
+    #[inline(always)]
     fn text(&mut self, bytes: &[u8]) -> Result<(), AllocError> {
         if !self.place.takes_name() {
             return write_text(self.alloc, bytes, &mut self.out);
@@ -166,6 +173,7 @@ impl<S: Shapes, const TAGGED: bool> Visitor for Plain<'_, S, TAGGED> {
         }
     }
 
+    #[inline(always)]
     fn nil(&mut self) -> Result<(), AllocError> {
         if self.place.takes_name() {
             return self.out.key("");
@@ -173,26 +181,31 @@ impl<S: Shapes, const TAGGED: bool> Visitor for Plain<'_, S, TAGGED> {
         self.out.null()
     }
 
+    #[inline(always)]
     fn raw(&mut self, shape: &Shape, bytes: &[u8]) -> Result<(), AllocError> {
         self.place.leaves_name();
         write_guessed(self.alloc, shape, bytes, self.style.raw, &mut self.out)
     }
 
+    #[inline(always)]
     fn list_begins(&mut self) -> Result<(), AllocError> {
         self.place.leaves_name();
         self.out.begin_array()
     }
 
+    #[inline(always)]
     fn element(&mut self, _later: bool) -> Result<(), AllocError> {
         self.place.leaves_name();
         Ok(())
     }
 
+    #[inline(always)]
     fn list_ends(&mut self) -> Result<(), AllocError> {
         self.place.leaves_name();
         self.out.end_array()
     }
 
+    #[inline(always)]
     fn ints(
         &mut self,
         count: u64,
@@ -207,6 +220,7 @@ impl<S: Shapes, const TAGGED: bool> Visitor for Plain<'_, S, TAGGED> {
         write_ints::<false>(count, body, begin, &mut self.out)
     }
 
+    #[inline(always)]
     fn map_begins(&mut self, key: TypeId) -> Result<(), AllocError> {
         self.place.leaves_name();
         if is_interface(key) {
@@ -219,6 +233,7 @@ impl<S: Shapes, const TAGGED: bool> Visitor for Plain<'_, S, TAGGED> {
         self.out.begin_array()
     }
 
+    #[inline(always)]
     fn entry(&mut self, key: TypeId, _later: bool) -> Result<(), AllocError> {
         self.place.leaves_name();
         if gives_names(key) {
@@ -228,11 +243,13 @@ impl<S: Shapes, const TAGGED: bool> Visitor for Plain<'_, S, TAGGED> {
         self.out.begin_array()
     }
 
+    #[inline(always)]
     fn between(&mut self, _key: TypeId) -> Result<(), AllocError> {
         self.place.leaves_name();
         Ok(())
     }
 
+    #[inline(always)]
     fn entry_ends(&mut self, key: TypeId) -> Result<(), AllocError> {
         self.place.leaves_name();
         if gives_names(key) {
@@ -241,6 +258,7 @@ impl<S: Shapes, const TAGGED: bool> Visitor for Plain<'_, S, TAGGED> {
         self.out.end_array()
     }
 
+    #[inline(always)]
     fn map_ends(&mut self, key: TypeId) -> Result<(), AllocError> {
         self.place.leaves_name();
         if gives_names(key) {
@@ -249,15 +267,18 @@ impl<S: Shapes, const TAGGED: bool> Visitor for Plain<'_, S, TAGGED> {
         self.out.end_array()
     }
 
+    #[inline(always)]
     fn heads(_kind: &Kind, _count: u64, _known: bool) -> Option<NoHeads> {
         None
     }
 
+    #[inline(always)]
     fn struct_begins(&mut self) -> Result<(), AllocError> {
         self.place.leaves_name();
         self.out.begin_object()
     }
 
+    #[inline(always)]
     fn field(
         &mut self,
         _heads: Option<&NoHeads>,
@@ -278,11 +299,13 @@ impl<S: Shapes, const TAGGED: bool> Visitor for Plain<'_, S, TAGGED> {
         write_name(self.alloc, field.name.as_bytes(), &mut self.out)
     }
 
+    #[inline(always)]
     fn field_ends(&mut self) -> Result<(), AllocError> {
         self.place.leaves_name();
         Ok(())
     }
 
+    #[inline(always)]
     fn struct_ends(&mut self, types: &Fields, next: u64) -> Result<(), AllocError> {
         self.place.leaves_name();
         let count = types.count();

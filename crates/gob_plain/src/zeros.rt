@@ -17,6 +17,7 @@ use std::ops::Range;
 
 /// Writes the zeros of these fields, which are absent, where the style has zeros: a member for each field whose type
 /// has one.
+#[inline(always)]
 pub(crate) fn write_absent<S: Shapes>(
     alloc: Global,
     types: &[Field],
@@ -35,7 +36,9 @@ pub(crate) fn write_absent<S: Shapes>(
     }
 }
 
-// Writes a member for each of these fields whose type has a zero. Numbers behind the last field count as none.
+// Writes a member for each of these fields whose type has a zero. Numbers behind the last field count as none. Most
+// values are printed without zeros, so it is apart from what asks for them.
+#[inline(never)]
 fn write_zeros<S: Shapes>(
     alloc: Global,
     types: &[Field],
