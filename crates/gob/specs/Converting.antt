@@ -1,5 +1,6 @@
 -- How the program ends that converts a stream. (docs/FORMAT.md, The program: this project's own.)
 use Rattle.std.specs.Prelude.{◌≡◌, ℕ, Bool, List, Option, Some, Result, Ok, Err, IsErrAnd, string_bytes}
+use Rattle.std.specs.Str.{chars}
 use Rattle.std.specs.Io.KnownBytes.{append_known}
 use Rattle.gob_rename.specs.declared.rename.Rename.{Rename}
 use Rattle.gob_stream.specs.Bounds.{within_trees}
@@ -8,10 +9,11 @@ use Rattle.gob_tool.specs.declared.convert_fault.ConvertFault.TheVariants as sto
 use Rattle.gob_tool.specs.declared.fault.ToolFault.{ToolFault}
 use Rattle.gob_tool.specs.declared.fault.ToolFault.TheVariants as run_fault
 use Rattle.gob_tool.specs.ConvertWith.{ConvertWithAnswers, OfRun}
+use Rattle.gob_tool.specs.Fault.{fault_line}
 use Rattle.gob_tool.specs.Running.{order_limits}
 use Rattle.gob_tool.specs.Showing.{CountsWriteFaults}
 use Rattle.gob_tool.specs.Taking.{CountsTakeReads}
-use Rattle.gob_words.specs.Escaped.{IsUnobeyed}
+use Rattle.gob_words.specs.Escaped.{IsUnobeyed, escaped_text}
 use Rattle.gob_words.specs.declared.words.Order.{Order}
 use Rattle.gob.specs.Exit.{HasAnswered, IsTold, Seen}
 use Rattle.gob.specs.declared.Exit.{Exit}
@@ -57,3 +59,33 @@ pub record EndsConversion (order : Order) (renames : List Rename) (all : Bool) (
   pub does : (wanted_bytes bytes : List ℕ) → wanted.bytes ≡ Some wanted_bytes → input.bytes ≡ Some bytes
       → ConvertWithAnswers renames all (within_trees (order_limits order)) wanted_bytes bytes wanted_now.bytes now.bytes
       old.bytes (append_known new.bytes lost) answer
+
+-- ---- what is told of a fault
+-- its line has names of the stream
+abbrev pub HasPath : ToolFault → Type 0
+HasPath (run_fault.Clash path reason) = Unit {0}
+HasPath (run_fault.LeftOut path value) = Unit {0}
+HasPath fault = ⊥
+
+-- the line of the fault, with those characters escaped that a terminal obeys
+abbrev pub IsShownLine : ToolFault → (line : List ℕ) → Type 0
+IsShownLine fault line = chars line ≡ escaped_text (chars (fault_line fault))
+
+-- it is told so, unless no memory was had
+abbrev pub TellsShown : ToolFault → Exit → Type 0
+TellsShown fault (end.Lines line) = IsShownLine fault (string_bytes line)
+TellsShown fault told = told ≡ end.Run run_fault.Memory
+
+-- a fault with such names is told so, and any other as it is
+pub record IsFaultShown (fault : ToolFault) (result : Exit) : Type 0 where
+  pub named : HasPath fault → TellsShown fault result
+  pub others : ¬ HasPath fault → result ≡ end.Run fault
+
+abbrev pub IsStopShown : (stop result : Exit) → Type 0
+IsStopShown (end.Run fault) result = IsFaultShown fault result
+IsStopShown stop result = result ≡ stop
+
+-- and so the end of the program
+abbrev pub IsShown : (ending result : Result (Unit {0}) Exit) → Type 0
+IsShown (Ok u) result = result ≡ Ok u
+IsShown (Err stop) result = IsErrAnd result (IsStopShown stop)

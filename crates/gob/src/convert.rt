@@ -1,11 +1,12 @@
 //! The stream of what is received of a stream's values, as the words ask.
 
-ghost use Rattle.std.specs.Prelude.{◌≡◌, length, IfErr, IfOk, string_bytes};
+ghost use Rattle.std.specs.Prelude.{◌≡◌, ◌↔◌, length, IfErr, IfOk, IsTrue, string_bytes};
 ghost use Rattle.std.specs.Io.Buffered.{writer_contents};
 ghost use Rattle.gob_stream.specs.Calls.Ends.{failed_writes, writer_of};
 ghost use Rattle.gob_tool.specs.ConvertWith.{IsAmongRenames};
 ghost use Rattle.gob_words.specs.Escaped.{IsUnobeyed};
-ghost use Rattle.gob.specs.Converting.{EndsConversion, IsSettledAs, TellsWord};
+ghost use Rattle.gob.specs.Converting.{EndsConversion, HasPath, IsFaultShown, IsSettledAs, IsShown, IsShownLine};
+ghost use Rattle.gob.specs.Converting.{IsStopShown, TellsWord};
 ghost use Rattle.gob.specs.Exit.{IsQuietIfClosed, seen_after, seen_of, unused};
 
 use crate::pipe::Pipe;
@@ -108,7 +109,7 @@ fn convert_on<Q: Read + Drop>(
 ) -> Result<(), Exit> {
     let writer = buffered(rt.alloc(), rt.stdout())?;
     let mut wanted = Input::new(wanted);
-    match order.input {
+    let ending = match order.input {
         None => {
             let mut input = Input::new(rt.stdin());
             convert_out(rt.alloc(), order, asked, &mut wanted, &mut input, writer).ending
@@ -117,7 +118,8 @@ fn convert_on<Q: Read + Drop>(
             let mut input = Input::new(opened(File::open(rt, path))?);
             convert_out(rt.alloc(), order, asked, &mut wanted, &mut input, writer).ending
         }
-    }
+    };
+    shown(rt.alloc(), ending)
 }
 
 // The run, as that of an order.
@@ -173,6 +175,55 @@ fn settled_as<W: Write + Drop>(
             }
         }
     }
+}
+
+// How a conversion that ended so ends the program: the path of a fault has names of the stream, so it is told in
+// characters of which a terminal obeys none.
+fn shown(alloc: Global, ending: Result<(), Exit>) -> Result<(), Exit>
+    ensures { IsShown ending result }
+{
+    match ending {
+        Ok(()) => Ok(()),
+        Err(stop) => Err(stop_shown(alloc, stop)),
+    }
+}
+
+// What stops the program in place of this.
+fn stop_shown(alloc: Global, stop: Exit) -> Exit
+    ensures { IsStopShown stop result }
+{
+    match stop {
+        Exit::Run(fault) => fault_shown(alloc, fault),
+        stop => stop,
+    }
+}
+
+// What stops the program where this stopped the run.
+fn fault_shown(alloc: Global, fault: ToolFault) -> Exit
+    ensures { IsFaultShown fault result }
+{
+    if !has_path(&fault) {
+        return Exit::Run(fault);
+    }
+    match shown_line(alloc, &fault) {
+        Ok(line) => Exit::Lines(line),
+        Err(_) => Exit::Run(ToolFault::Memory),
+    }
+}
+
+// Whether the line of the fault has names of the stream.
+fn has_path(fault: &ToolFault) -> bool
+    ensures { IsTrue result ↔ HasPath fault.now }
+{
+    matches!(fault, ToolFault::Clash { .. } | ToolFault::LeftOut { .. })
+}
+
+// The line of the fault.
+fn shown_line(alloc: Global, fault: &ToolFault) -> Result<String, AllocError>
+    ensures { IfOk result (λ line. IsShownLine fault.now (string_bytes line)) }
+{
+    let line = fault.to_string(alloc)?;
+    escaped(alloc, line.as_str())
 }
 
 // What ends the program where this is wrong with a word.

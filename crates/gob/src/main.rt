@@ -96,7 +96,7 @@ enum Exit {
     RefusedFile(ToolFault, String),
     // What is told of an input of which something was left out.
     LeftOut(String),
-    // What is wrong with lines, or with the stream that they say.
+    // What is wrong with lines, with the stream that they say, or with a value that is to be converted.
     Lines(String),
     // What was said of the worst of the files that were verified.
     Verified(Verdict),
