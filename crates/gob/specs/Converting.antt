@@ -47,7 +47,8 @@ pub record IsSettledAs (answer : Result (Unit {0}) ConvertFault) (wrote new : Op
 
 -- how a conversion ends, where the wanted stream, the input and the output were the first of each pair, and are the
 -- second
-pub record EndsConversion (order : Order) (renames : List Rename) (all : Bool) (wanted wanted_now input now old new : Seen)
+pub record EndsConversion (order : Order) (renames : List Rename) (all : Bool)
+    (wanted wanted_now input now old new : Seen)
     (result : Result (Unit {0}) Exit) : Type 0 where
   pub answer : Result (Unit {0}) ConvertFault
   -- what it wrote and the writer behind it didn't take

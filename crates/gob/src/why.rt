@@ -93,7 +93,8 @@ fn encoders_line<R>(alloc: Global, appended: &Appended<R>) -> Result<String, All
     let places = places_text(alloc, appended)?;
     let bytes = appended.left_out();
     format!(in alloc;
-        "encoders: {encoders}, seen to begin anew at byte {places}; {bytes} bytes that define types again aren't counted\n"
+        "encoders: {encoders}, seen to begin anew at byte {places}; {bytes} bytes that define types again \
+        aren't counted\n"
     )
 }
 

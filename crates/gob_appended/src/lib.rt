@@ -2,7 +2,8 @@
 //!
 //! Each encoder sends a type before its first value of it, so a file to which a program appended in three runs defines
 //! each type three times, mostly in the very same bytes. [`Appended`] hands on what another reader gives without the
-//! definitions that are said again, and tells where in the input a byte stood that it gave, and how many encoders wrote.
+//! definitions that are said again, and tells where in the input a byte stood that it gave, and how many encoders
+//! wrote.
 #![tactic(auto)]
 
 mod appended;

@@ -133,7 +133,8 @@ pub(crate) fn wanted_fault(fault: Fault) -> ToolFault
     }
 }
 
-/// The exit status of the program after this fault: 1 for an input that is refused or clashes, or has a field that isn't wanted, 2 for the others.
+/// The exit status of the program after this fault: 1 for an input that is refused, clashes, or has a field that isn't
+/// wanted, 2 for the others.
 pub fn status(fault: &ToolFault) -> u8
     ensures { result ≡ fault_status fault.now }
 {
