@@ -65,11 +65,13 @@ fn is_large(size: Option<u64>) -> bool {
     size.is_some_and(|size| size > LARGE)
 }
 
-/// A line that isn't written is a failed write, and ends the program quietly where the other end of a pipe is closed.
+/// A line that isn't written is a failed write, or lacks memory, and ends the program quietly where the other end of a
+/// pipe is closed.
 pub(crate) fn sent(written: io::Result<()>) -> Result<(), Exit> {
     match written {
         Ok(()) => Ok(()),
         Err(error) if error.kind() == ErrorKind::BrokenPipe => Err(Exit::Unread),
+        Err(error) if error.kind() == ErrorKind::OutOfMemory => Err(Exit::Run(ToolFault::Memory)),
         Err(_) => Err(Exit::Run(ToolFault::Write)),
     }
 }
