@@ -389,10 +389,15 @@ class Values(unittest.TestCase):
             data = path.read_bytes()
             for bad in (path, self.written(data[:-1]), self.written(data + b"\xf7")):
                 with self.subTest(stream=path.name, size=bad.stat().st_size):
-                    self.assertEqual(gob.why(bad), self.printed("why", bad))
-                    self.assertEqual(gob.why(bad.read_bytes(), str(bad)), self.printed("why", bad))
+                    self.assertEqual(gob.why(bad), self.told(bad))
+                    self.assertEqual(gob.why(bad.read_bytes(), str(bad)), self.told(bad))
                     self.assertEqual(self.source(bad), self.printed("types", bad))
                     self.assertEqual(self.source(io.BytesIO(bad.read_bytes())), self.printed("types", bad))
+
+    def told(self, path):
+        """What the program says of the file, but how much salvage keeps of it, which the program alone looks for."""
+        lines = self.printed("why", path).splitlines(keepends=True)
+        return "".join(line for line in lines if not line.startswith("kept: "))
 
     def printed(self, command, path):
         return subprocess.run([os.environ["GOB"], command, path], capture_output=True, check=False).stdout.decode()
