@@ -1,7 +1,8 @@
 //! The run of `gob why`, also over a file to which several encoders wrote.
 
-ghost use Rattle.std.specs.Prelude.{◌≡◌, [], ℕ, List, Some};
+ghost use Rattle.std.specs.Prelude.{◌≡◌, ◌≢◌, [], ℕ, List, Some};
 ghost use Rattle.gob_stream.specs.Calls.Ends.{reader_of};
+ghost use Rattle.gob_tool.specs.declared.fault.ToolFault.TheVariants as fault;
 ghost use Rattle.gob_views.specs.Running.{ViewAnswers};
 
 use crate::encoders::appended_file;
@@ -30,11 +31,22 @@ struct Told {
 pub(crate) fn why(rt: &HostRuntime, view: &View) -> Result<(), Exit> {
     let told = told_of(rt, view)?;
     sent(rt.stdout().write_all(&told.text))?;
-    let ending = told_once(ended(told.answer, false));
+    let ending = told_once(ended(in_memory(told.answer), false));
     if matches!(&ending, Err(Exit::Told(_))) {
         say_kept(rt, view)?;
     }
     ending
+}
+
+// How a run ends whose text is made in memory: a write that failed lacked that.
+fn in_memory(answer: Result<(), ToolFault>) -> Result<(), ToolFault>
+    ensures lacks { answer ≡ Err fault.Write → result ≡ Err fault.Memory }
+    ensures others { answer ≢ Err fault.Write → result ≡ answer }
+{
+    match answer {
+        Err(ToolFault::Write) => Err(ToolFault::Memory),
+        answer => answer,
+    }
 }
 
 // What is said of the input.
