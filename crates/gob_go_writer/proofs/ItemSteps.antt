@@ -21,7 +21,7 @@ use Rattle.gob_go_writer.proofs.LetterLaws.{takes_then}
 use Rattle.gob_go_writer.proofs.PartSteps.{small_number, type_number}
 
 -- bytes are one segment
-one_segment : {ls bytes : List ℕ} → AreBytes ls → AreSegments ls bytes → IsSegment ls bytes
+pub one_segment : {ls bytes : List ℕ} → AreBytes ls → AreSegments ls bytes → IsSegment ls bytes
 one_segment o (last_segment {c = c} s o' u) = record { count = c; are_bytes = o; counts = u; whole = refl }
 one_segment o (next_segment {ls = ls} s o' u k) =
     absurd (let rest = bytes_rest s (cut ∷ ls) o in omega (arith, rest.0))

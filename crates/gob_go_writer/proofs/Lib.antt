@@ -6,6 +6,7 @@ pub mod ItemSteps
 pub mod AgainSteps
 pub mod AlikeLaws
 pub mod SameSteps
+pub mod PlainSteps
 pub mod WriterSteps
 pub mod HoistSteps
 pub mod HoistedLaws

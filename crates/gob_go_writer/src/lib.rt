@@ -26,6 +26,7 @@ mod again;
 mod hoist;
 mod item;
 pub mod laws;
+mod plain;
 mod put_fault;
 mod same;
 mod segments;

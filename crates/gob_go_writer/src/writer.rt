@@ -2,11 +2,13 @@
 
 ghost use Rattle.std.specs.Prelude.{◌≡◌, ℕ, List, [], Err, IfOk, OnErr};
 ghost use Rattle.gob_filled.specs.Stream.{FilledItem};
-ghost use Rattle.gob_go.specs.Calls.Session.{limits_of as session_limits};
+ghost use Rattle.gob_go.specs.Calls.Session.{limits_of as session_limits, types_of as session_types};
 ghost use Rattle.gob_go_writer.specs.Calls.Writer.{HasFailed, HasPut, HasReadWhole, PutAnswers, limits_of};
 ghost use Rattle.gob_go_writer.specs.Machine.ReadingBack.{ReadBackAnswers};
+ghost use Rattle.gob_go_writer.specs.Spelling.{IsSpelling};
 
 use crate::item::spell_item;
+use crate::plain::read_plain;
 use crate::put_fault::PutFault;
 use crate::same::same_item;
 use gob_go::{GoItem, GoSession};
@@ -54,7 +56,7 @@ impl GoWriter {
     /// of the type, where a place isn't that of a nil of an interface or comes before the last one, where a name is
     /// empty, where a description isn't that of the id, or beyond a limit, for the one reason that
     /// [`PutFault::Refused`] tells. After a fault `out` holds what it held, and each call answers [`PutFault::Failed`].
-    /// It takes memory for the bytes and for the item once more.
+    /// It takes memory for the bytes, and for the item once more where interfaces hold values.
     pub fn put(&mut self, alloc: Global, item: &GoItem, out: &mut Vec<u8>) -> Result<(), PutFault>
         ensures puts { (items : List FilledItem) (bytes : List ℕ) → HasPut self.old items bytes
             → PutAnswers self.old self.new items bytes item.now out.old.items out.new.items result }
@@ -102,27 +104,30 @@ fn read_back(
         → ReadBackAnswers session.old session.new items z item.now bytes.new.items result }
     ensures limits { session_limits session.new ≡ session_limits session.old }
 {
+    spell_item(alloc, session.table(), item, bytes)?;
+    if read_plain(session, item, bytes) {
+        return Ok(());
+    }
     let mut given = Vec::new(alloc);
     let read = read_given(alloc, session, item, bytes, &mut given);
     drop(given);
     read
 }
 
-// The items that the bytes give are put into `given`, which is empty.
+// Has the session read the spelling of an item. What that gives is put into `given`, which is empty.
 fn read_given(
     alloc: Global,
     session: &mut GoSession,
     item: &GoItem,
-    bytes: &mut Vec<u8>,
+    bytes: &[u8],
     given: &mut Vec<GoItem>,
 ) -> Result<(), PutFault>
-    requires bytes { bytes.old.items ≡ [] }
+    requires spelled { IsSpelling (session_types session.old) item.now bytes.now }
     requires given { given.old.items ≡ [] }
     ensures read { (items : List FilledItem) (z : List ℕ) → HasReadWhole session.old items z
-        → ReadBackAnswers session.old session.new items z item.now bytes.new.items result }
+        → ReadBackAnswers session.old session.new items z item.now bytes.now result }
     ensures limits { session_limits session.new ≡ session_limits session.old }
 {
-    spell_item(alloc, session.table(), item, bytes)?;
     session.feed(alloc, bytes, given)?;
     session.finish()?;
     if given.len() != 1 {
