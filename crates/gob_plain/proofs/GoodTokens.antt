@@ -31,7 +31,7 @@ mutual
   items_good json.no_items = (tt, tt)
   items_good (json.item j js) = both_good (json_tokens j) (items_tokens js) (json_good j) (items_good js)
 
-  members_good : (ms : Members) → AreGood (members_tokens ms)
+  pub members_good : (ms : Members) → AreGood (members_tokens ms)
   members_good json.no_members = (tt, tt)
   members_good (json.member name j ms) =
       (tt, both_good (json_tokens j) (members_tokens ms) (json_good j) (members_good ms))

@@ -9,7 +9,6 @@ use Rattle.json.specs.Json.{Members}
 use Rattle.json.specs.Json as json
 use Rattle.json.specs.Token.{Token}
 use Rattle.json.specs.Tree.{members_tokens}
-use Rattle.json.specs.Written.{Written}
 use Rattle.gob_types.specs.Table.{Table}
 use Rattle.gob_types.specs.declared.id.TypeId.{TypeId}
 use Rattle.gob_types.specs.declared.kind.Field.{Field}
@@ -25,7 +24,6 @@ use Rattle.gob_plain.specs.OpaqueText.{content_in}
 use Rattle.gob_plain.specs.Plain.{name_text, SayFields}
 use Rattle.gob_plain.specs.PlainEvents.{SaysEvents}
 use Rattle.gob_plain.specs.PlainEvents as said
-use Rattle.gob_plain.specs.WritesPlain.{WritesSome}
 use Rattle.gob_plain.proofs.PlaceLaws.{no_name}
 use Rattle.gob_plain.proofs.ZeroLaws.{absent_none, absent_zeros, zeros_none}
 
@@ -42,12 +40,6 @@ so_true n other = by (eqb_tells n 0)
 
 so_false : (n : ℕ) → n ≡ 0 → is_so n ≡ false
 so_false n none = ap is_so none
-
--- what was written is known where it is well
-pub heard : {E A B : Type 0} {r : Result (Unit {0}) E} {old new : Written} {P : List Token → Type 0} → A → B
-    → WritesSome r old new P → OnOk r (A × B × WritesSome {E = E} (Ok tt) old new P)
-heard {r = Ok u} a b w = (a, b, w)
-heard {r = Err e} a b w = tt
 
 -- ---- no field lies between a number and itself
 

@@ -126,49 +126,13 @@ module _ {style : Style} {T : Table} where
 pub empty_utf8 : is_utf8 [] ≡ true
 empty_utf8 = is_utf8-from_IsUtf8 [] IsUtf8-nil
 
--- nothing is written
-pub none_written : {E : Type 0} {u : Unit {0}} {old : Written} {P : List Token → Type 0} → P []
-    → WritesSome {E = E} (Ok u) old old P
-none_written {old = old} p = record { tokens = ([], p, sym (append-nil old.tokens)); before = refl }
+-- what two say of a value, if there is one
+pub of_two : {A : Type 0} {P Q S : A → Type 0} (o : Option A) → IfSome o P → IfSome o Q
+    → ((x : A) → P x → Q x → S x) → IfSome o S
+of_two None p q f = tt
+of_two (Some x) p q f = f x p q
 
--- tokens are written behind those of which this holds
-pub some_last : {E F : Type 0} {u : Unit {0}} {r : Result (Unit {0}) F} {old mid new : Written} {xs : List Token}
-    {P R : List Token → Type 0} → WritesSome {E = E} (Ok u) old mid P → WritesTokens r mid new xs
-    → ((zs : List Token) → P zs → R (zs ++ xs)) → WritesSome r old new R
-some_last {xs = xs} {R = R} v w f = some_then v (some_of {P = λ (ts : List Token). ts ≡ xs} w refl)
-    (λ zs ts p e. subst (λ (l : List Token). R (zs ++ l)) (sym e) (f zs p))
-
--- ---- what a writer is told between two parts
-
-module _ (style : Style) (T : Table) where
-  pub tokens_both : (a b c : Written) (x y : List Event) (r : Result (Unit {0}) (WalkEnd AllocError))
-      → Reaches (TellsTokens style T) a b x (Ok tt) → Reaches (TellsTokens style T) b c y r
-      → Reaches (TellsTokens style T) a c (x ++ y) r
-  tokens_both a b c x y r p q = reached_both (TellsTokens style T)
-      (λ a b c x y r p q. some_then p q (λ xs ys u v. said.says_both style T u v)) a b c x y r p q
-
-  pub tokens_cut : (a b : Written) (x y : List Event) (e : WalkEnd AllocError)
-      → Reaches (TellsTokens style T) a b x (Err e)
-      → Reaches (TellsTokens style T) a b (x ++ y) (Err e)
-  tokens_cut a b x y e p = reached_prefix (TellsTokens style T)
-      (λ a b x y e p. record { tokens = tt; before = p.before }) a b x y e p
-
--- what three say of a value, if there is one
-pub of_three : {A : Type 0} {P Q R S : A → Type 0} (o : Option A) → IfSome o P → IfSome o Q → IfSome o R
-    → ((x : A) → P x → Q x → R x → S x) → IfSome o S
-of_three None p q r f = tt
-of_three (Some x) p q r f = f x p q r
-
--- all elements of a list are left
-pub all_elements : {O E : Type 0} (tells : O → O → List Event → Result (Unit {0}) E → Type 0) {T : Table} {e : TypeId}
-    {limit count : ℕ} {vs : Trees} {old : O} {piece rest : List ℕ} → BeginsElements T e limit vs piece rest
-    → tree_count vs ≡ count
-    → ElementsLeft tells T e limit (count - 0) false old old piece rest (elements_told false T e vs)
-all_elements tells {vs = vs} b counted =
-    record { values = vs; begins = b; counted = omega (arith, counted); text = λ new r p. p }
-
--- what three say where something was made, where they are said of it
-pub if_made : {P Q R S : Type 0} (E : Type 0) (made : Bool) → (made ≡ true → P) → MatchBool made Q E
-    → (made ≡ true → R) → (P → Q → R → S) → MatchBool made S E
-if_made E true p q r f = f (p refl) q (r refl)
-if_made E false p q r f = q
+-- what is said where something was made
+pub if_made : {P S : Type 0} (E : Type 0) (made : Bool) → MatchBool made P E → (P → S) → MatchBool made S E
+if_made E true p f = f p
+if_made E false p f = p

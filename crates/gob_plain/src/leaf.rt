@@ -21,9 +21,9 @@ use std::alloc::{AllocError, Global};
 use std::str;
 
 // The bit of a float's sign, and the others of an infinity.
-const SIGN: u64 = 0x8000_0000_0000_0000;
+pub(crate) const SIGN: u64 = 0x8000_0000_0000_0000;
 
-const INFINITY: u64 = 0x7ff0_0000_0000_0000;
+pub(crate) const INFINITY: u64 = 0x7ff0_0000_0000_0000;
 
 /// Writes a part without parts that isn't opaque, which is of this kind and has these numbers and bytes.
 pub(crate) fn write_leaf(

@@ -3,20 +3,12 @@
 ghost use Rattle.std.specs.Prelude.{◌≡◌, ◌≢◌, true, false};
 ghost use Rattle.gob_plain.specs.declared.visitor.VisitorPlace.TheVariants as place;
 
-use crate::ints::write_ints;
-use crate::leaf::{
-    write_bytes, write_complex, write_float, write_name, write_signed_name, write_uint_name,
-};
+use crate::line::Line;
 use crate::maps::{gives_names, is_interface};
-use crate::opaque::write_guessed;
 use crate::style::Style;
-use crate::zeros::write_absent;
-use gob_json_writer::write_text;
+use gob_num::Memory;
 use gob_types::{Field, Fields, Kind, Shape, Shapes, TypeId};
 use gob_walk::{Visitor, WalkEnd};
-use json::Writer;
-use std::alloc::{AllocError, Global};
-use std::str;
 
 /// Where a visitor is in what it is told.
 #[derive(Clone, Copy)]
@@ -30,11 +22,9 @@ pub(crate) enum VisitorPlace {
     Lost,
 }
 
-/// Tells a writer of JSON what it is told of a value. What interfaces hold is shown by its name where it is `TAGGED`.
+/// Puts into a line what it is told of a value. What interfaces hold is shown by its name where it is `TAGGED`.
 #[derive(Drop)]
 pub(crate) struct Plain<'a, S: Shapes, const TAGGED: bool> {
-    /// Where strings are made.
-    pub(crate) alloc: Global,
     /// The types by which absent fields have zeros.
     pub(crate) shapes: &'a S,
     /// How values are written.
@@ -42,7 +32,7 @@ pub(crate) struct Plain<'a, S: Shapes, const TAGGED: bool> {
     /// Where it is.
     pub(crate) place: VisitorPlace,
     /// What is told.
-    pub(crate) out: Writer,
+    pub(crate) out: Line,
 }
 
 /// Nothing is made once of a struct's fields.
@@ -96,111 +86,110 @@ impl VisitorPlace {
 
 impl<S: Shapes, const TAGGED: bool> Visitor for Plain<'_, S, TAGGED> {
     ghost use Rattle.std.specs.Prelude.{◌≡◌, ⊤};
-    ghost use Rattle.std.proofs.Common.{[], append-nil, refl, subst, sym, ◌∙◌};
+    ghost use Rattle.std.proofs.Common.{refl, subst, ◌∙◌};
+    ghost use Rattle.std.proofs.lemmas.Result.{on_ok_weaker};
     ghost use Rattle.gob_plain.specs.PlainEvents.{SaysEvents, says_both, says_nothing};
-    ghost use Rattle.gob_plain.specs.WritesPlain.{WritesSome, some_then};
+    ghost use Rattle.gob_plain.specs.PutsTokens.{PutsSome, nothing_put, put_then};
 
-    type Fault = AllocError;
+    type Fault = Memory;
 
     type Heads = NoHeads;
 
     ghost tells = { λ old new events result. (new.style ≡ old.style) × (new.shapes.now ≡ old.shapes.now)
-        × WritesSome result old.out new.out
+        × PutsSome result old.out new.out
         (λ ts. SaysEvents old.style (S.table old.shapes.now) old.place events ts new.place) };
 
     ghost heads_of = { λ k h. ⊤ };
 
     #[inline(always)]
-    fn truth(&mut self, truth: bool) -> Result<(), AllocError> {
+    fn truth(&mut self, truth: bool) -> Result<(), Memory> {
         if self.place.takes_name() {
-            return self.out.key("");
+            return self.out.known_name("");
         }
         self.out.boolean(truth)
     }
 
     #[inline(always)]
-    fn int(&mut self, number: i64) -> Result<(), AllocError> {
+    fn int(&mut self, number: i64) -> Result<(), Memory> {
         if self.place.takes_name() {
-            return write_signed_name(number, &mut self.out);
+            return self.out.signed_name(number);
         }
         self.out.i64(number)
     }
 
     #[inline(always)]
-    fn uint(&mut self, number: u64) -> Result<(), AllocError> {
+    fn uint(&mut self, number: u64) -> Result<(), Memory> {
         if self.place.takes_name() {
-            return write_uint_name(number, &mut self.out);
+            return self.out.uint_name(number);
         }
         self.out.u64(number)
     }
 
     #[inline(always)]
-    fn float(&mut self, pattern: u64) -> Result<(), AllocError> {
+    fn float(&mut self, pattern: u64) -> Result<(), Memory> {
         if self.place.takes_name() {
-            return self.out.key("");
+            return self.out.known_name("");
         }
-        write_float(pattern, &mut self.out)
+        self.out.float(pattern)
     }
 
     #[inline(always)]
-    fn complex(&mut self, real: u64, imaginary: u64) -> Result<(), AllocError> {
+    fn complex(&mut self, real: u64, imaginary: u64) -> Result<(), Memory> {
         if self.place.takes_name() {
-            return self.out.key("");
+            return self.out.known_name("");
         }
-        write_complex(real, imaginary, &mut self.out)
+        self.out.complex(real, imaginary)
     }
 
     #[inline(always)]
-    fn bytes(&mut self, bytes: &[u8]) -> Result<(), AllocError> {
+    fn bytes(&mut self, bytes: &[u8]) -> Result<(), Memory> {
         if self.place.takes_name() {
-            return self.out.key("");
+            return self.out.known_name("");
         }
-        write_bytes(self.alloc, bytes, &mut self.out)
+        self.out.bytes(bytes)
     }
 
     #[inline(always)]
-    fn text(&mut self, bytes: &[u8]) -> Result<(), AllocError> {
+    fn text(&mut self, bytes: &[u8]) -> Result<(), Memory> {
         if !self.place.takes_name() {
-            return write_text(self.alloc, bytes, &mut self.out);
+            return self.out.text(bytes);
         }
-        match str::from_utf8(bytes) {
-            Ok(name) => self.out.key(name),
-            Err(_) => {
-                // another key may give this name
-                self.place.gets_lost();
-                Ok(())
-            }
+        if self.out.key(bytes)? {
+            return Ok(());
         }
+        // another key may give this name
+        self.place.gets_lost();
+        Ok(())
     }
 
     #[inline(always)]
-    fn nil(&mut self) -> Result<(), AllocError> {
+    fn nil(&mut self) -> Result<(), Memory> {
         if self.place.takes_name() {
-            return self.out.key("");
+            return self.out.known_name("");
         }
         self.out.null()
     }
 
     #[inline(always)]
-    fn raw(&mut self, shape: &Shape, bytes: &[u8]) -> Result<(), AllocError> {
+    fn raw(&mut self, shape: &Shape, bytes: &[u8]) -> Result<(), Memory> {
         self.place.leaves_name();
-        write_guessed(self.alloc, shape, bytes, self.style.raw, &mut self.out)
+        self.out.guessed(shape, bytes, self.style.raw)
     }
 
     #[inline(always)]
-    fn list_begins(&mut self) -> Result<(), AllocError> {
+    fn list_begins(&mut self) -> Result<(), Memory> {
         self.place.leaves_name();
         self.out.begin_array()
     }
 
     #[inline(always)]
-    fn element(&mut self, _later: bool) -> Result<(), AllocError> {
+    fn element(&mut self, _later: bool) -> Result<(), Memory> {
         self.place.leaves_name();
         Ok(())
     }
 
     #[inline(always)]
-    fn list_ends(&mut self) -> Result<(), AllocError> {
+    fn list_ends(&mut self) -> Result<(), Memory> {
         self.place.leaves_name();
         self.out.end_array()
     }
@@ -212,16 +201,13 @@ impl<S: Shapes, const TAGGED: bool> Visitor for Plain<'_, S, TAGGED> {
         body: &[u8],
         begin: usize,
         known: bool,
-    ) -> Result<usize, WalkEnd<AllocError>> {
+    ) -> Result<usize, WalkEnd<Memory>> {
         self.place.leaves_name();
-        if known {
-            return write_ints::<true>(count, body, begin, &mut self.out);
-        }
-        write_ints::<false>(count, body, begin, &mut self.out)
+        self.out.ints(count, body, begin, known)
     }
 
     #[inline(always)]
-    fn map_begins(&mut self, key: TypeId) -> Result<(), AllocError> {
+    fn map_begins(&mut self, key: TypeId) -> Result<(), Memory> {
         self.place.leaves_name();
         if is_interface(key) {
             self.place.gets_lost();
@@ -234,7 +220,7 @@ impl<S: Shapes, const TAGGED: bool> Visitor for Plain<'_, S, TAGGED> {
     }
 
     #[inline(always)]
-    fn entry(&mut self, key: TypeId, _later: bool) -> Result<(), AllocError> {
+    fn entry(&mut self, key: TypeId, _later: bool) -> Result<(), Memory> {
         self.place.leaves_name();
         if gives_names(key) {
             self.place.expects_name();
@@ -244,13 +230,13 @@ impl<S: Shapes, const TAGGED: bool> Visitor for Plain<'_, S, TAGGED> {
     }
 
     #[inline(always)]
-    fn between(&mut self, _key: TypeId) -> Result<(), AllocError> {
+    fn between(&mut self, _key: TypeId) -> Result<(), Memory> {
         self.place.leaves_name();
         Ok(())
     }
 
     #[inline(always)]
-    fn entry_ends(&mut self, key: TypeId) -> Result<(), AllocError> {
+    fn entry_ends(&mut self, key: TypeId) -> Result<(), Memory> {
         self.place.leaves_name();
         if gives_names(key) {
             return Ok(());
@@ -259,7 +245,7 @@ impl<S: Shapes, const TAGGED: bool> Visitor for Plain<'_, S, TAGGED> {
     }
 
     #[inline(always)]
-    fn map_ends(&mut self, key: TypeId) -> Result<(), AllocError> {
+    fn map_ends(&mut self, key: TypeId) -> Result<(), Memory> {
         self.place.leaves_name();
         if gives_names(key) {
             return self.out.end_object();
@@ -273,7 +259,7 @@ impl<S: Shapes, const TAGGED: bool> Visitor for Plain<'_, S, TAGGED> {
     }
 
     #[inline(always)]
-    fn struct_begins(&mut self) -> Result<(), AllocError> {
+    fn struct_begins(&mut self) -> Result<(), Memory> {
         self.place.leaves_name();
         self.out.begin_object()
     }
@@ -286,53 +272,37 @@ impl<S: Shapes, const TAGGED: bool> Visitor for Plain<'_, S, TAGGED> {
         next: u64,
         number: u64,
         field: &Field,
-    ) -> Result<(), AllocError> {
+    ) -> Result<(), Memory> {
         self.place.leaves_name();
-        write_absent(
-            self.alloc,
-            types.as_slice(),
-            next..number,
-            self.shapes,
-            self.style,
-            &mut self.out,
-        )?;
-        write_name(self.alloc, field.name.as_bytes(), &mut self.out)
+        self.out
+            .absent(types.as_slice(), next..number, self.shapes, self.style)?;
+        self.out.name(field.name.as_bytes())
     }
 
     #[inline(always)]
-    fn field_ends(&mut self) -> Result<(), AllocError> {
+    fn field_ends(&mut self) -> Result<(), Memory> {
         self.place.leaves_name();
         Ok(())
     }
 
     #[inline(always)]
-    fn struct_ends(&mut self, types: &Fields, next: u64) -> Result<(), AllocError> {
+    fn struct_ends(&mut self, types: &Fields, next: u64) -> Result<(), Memory> {
         self.place.leaves_name();
         let count = types.count();
-        write_absent(
-            self.alloc,
-            types.as_slice(),
-            next..count,
-            self.shapes,
-            self.style,
-            &mut self.out,
-        )?;
+        self.out
+            .absent(types.as_slice(), next..count, self.shapes, self.style)?;
         self.out.end_object()
     }
 
-    ghost nothing = { λ a. (
-      refl,
-      refl,
-      record { tokens = ([], says_nothing, sym (append-nil a.out.tokens)); before = refl },
-    ) };
+    ghost nothing = { λ a. (refl, refl, nothing_put says_nothing) };
 
     ghost joined = { λ a b c x y r p q. (
       q.0 ∙ p.0,
       q.1 ∙ p.1,
-      some_then p.2 q.2 (λ xs ys u v. says_both a.style (S.table a.shapes.now) u
+      on_ok_weaker r (put_then p.2 (λ xs ys u v. says_both a.style (S.table a.shapes.now) u
           (subst (λ w. SaysEvents w (S.table a.shapes.now) b.place y ys c.place) p.0
-          (subst (λ w. SaysEvents b.style (S.table w) b.place y ys c.place) p.1 v))),
+          (subst (λ w. SaysEvents b.style (S.table w) b.place y ys c.place) p.1 v)))) q.2,
     ) };
 
-    ghost cut = { λ a b x y e p. (p.0, p.1, record { tokens = tt; before = p.2.before }) };
+    ghost cut = { λ a b x y e p. (p.0, p.1, tt) };
 }

@@ -8,16 +8,16 @@ ghost use Rattle.gob_types.specs.Defined.{types};
 ghost use Rattle.gob_plain.specs.BodyText.{AreNotListed, IsBodyText, IsNoMap};
 ghost use Rattle.gob_plain.specs.declared.visitor.VisitorPlace.TheVariants as places;
 
+use crate::line::Line;
 use crate::style::Style;
-use crate::text::{ROOM, plain_text, text_of};
+use crate::text::{ROOM, plain_text};
 use crate::visitor::{Plain, VisitorPlace};
 use gob_json_writer::tape_of;
 use gob_num::Memory;
 use gob_types::{Kind, Shape, Shapes, Table, TypeId};
 use gob_value::is_whole;
 use gob_walk::{WalkEnd, walk_whole};
-use json::Writer;
-use std::alloc::{AllocError, Global};
+use std::alloc::Global;
 
 // How deep a value may be: each level is a call within a call.
 const MOST_DEPTH: u64 = 1000;
@@ -25,6 +25,7 @@ const MOST_DEPTH: u64 = 1000;
 /// The plain JSON of the value of the type that the body spells, no deeper than `depth`, compact, without a line feed,
 /// with `null` for each nil. What a reader of JSON reads there is the JSON that says the value. None says nothing of
 /// the body. It takes as much memory as the text, but where the style says of types what their values are.
+#[inline(never)]
 pub fn plain_text_of(
     alloc: Global,
     table: &Table,
@@ -37,7 +38,7 @@ pub fn plain_text_of(
         IsBodyText style.entry (types table.now) id depth body.now (string_bytes text))) }
 {
     if may_be_told(table, id, style) {
-        return Ok(told_text_of(alloc, table, id, body, depth, style)?);
+        return told_text_of(alloc, table, id, body, depth, style);
     }
     if !table.kept(id) {
         return Ok(None);
@@ -79,15 +80,14 @@ fn told_text_of<S: Shapes>(
     body: &[u8],
     depth: u64,
     style: Style<'_>,
-) -> Result<Option<String>, AllocError>
+) -> Result<Option<String>, Memory>
     requires taken { style.taken.now ≡ [] }
     requires listed { AreNotListed style (S.table shapes.now) id }
     ensures { IfOk result (λ found. IfSome found (λ text.
         IsBodyText style.entry (S.table shapes.now) id depth body.now (string_bytes text))) }
 {
-    let out = Writer::new(Vec::with_capacity(alloc, ROOM)?);
+    let out = Line::new(Vec::with_capacity(alloc, ROOM)?);
     let mut plain = Plain::<'_, S, false> {
-        alloc,
         shapes,
         style,
         place: VisitorPlace::Free,
@@ -101,7 +101,6 @@ fn told_text_of<S: Shapes>(
         &mut plain,
     );
     let Plain {
-        alloc: _,
         shapes: _,
         style: _,
         place,
@@ -114,15 +113,14 @@ fn told_text_of<S: Shapes>(
     }
 }
 
-// The text that the writer holds, where it is that of a value.
-fn text_if_free(place: VisitorPlace, out: Writer) -> Option<String>
-    requires { out.before ≡ [] }
+// The text of the line, where it is that of a value. It is UTF-8, as each text is that is put there.
+fn text_if_free(place: VisitorPlace, out: Line) -> Option<String>
     ensures free { IfSome result (λ text. place ≡ places.Free) }
-    ensures text { IfSome result (λ text. string_bytes text ≡ print out.tokens) }
-    ensures read { IfSome result (λ text. tokens (string_bytes text) ≡ out.tokens) }
+    ensures text { IfSome result (λ text. string_bytes text ≡ out.text.items) }
 {
+    let Line { text, later: _ } = out;
     match place {
-        VisitorPlace::Free => Some(text_of(out)),
+        VisitorPlace::Free => String::from_utf8(text).ok(),
         _ => None,
     }
 }

@@ -1,25 +1,22 @@
 //! The text of a value whose interfaces may hold others, straight from the bytes that spell it.
 
 ghost use Rattle.std.specs.Prelude.{◌≡◌, ◌≤◌, [], true, IfOk, IfSome, MatchBool, string_bytes};
-ghost use Rattle.std.specs.Str.{IsUtf8};
-ghost use Rattle.json.specs.Lex.{tokens};
-ghost use Rattle.json.specs.Print.{print};
 ghost use Rattle.gob_types.specs.Defined.{types};
 ghost use Rattle.gob_stream.specs.Bounds.{greatest_depth};
 ghost use Rattle.gob_plain.specs.BodyText.{AreNotListed};
 ghost use Rattle.gob_plain.specs.FilledText.{IsFilledText};
 ghost use Rattle.gob_plain.specs.declared.visitor.VisitorPlace.TheVariants as places;
 
+use crate::line::Line;
 use crate::style::Style;
-use crate::text::{ROOM, utf8_text};
+use crate::text::ROOM;
 use crate::visitor::{Plain, VisitorPlace};
 use crate::whole::{may_be_told, plain_text_of};
 use gob_filled_walk::walk_filled;
 use gob_num::Memory;
 use gob_types::{Table, TypeId};
 use gob_walk::WalkEnd;
-use json::Writer;
-use std::alloc::{AllocError, Global};
+use std::alloc::Global;
 use std::mem::replace;
 
 /// How a value is written whose interfaces may hold others.
@@ -36,6 +33,7 @@ pub struct HeldStyle<'a> {
 /// that under the name of its type. What a reader of JSON reads there is the JSON that says the value. None says
 /// nothing of the body, as where a definition stands in an interface. It takes as much memory as the text, but where
 /// the style says of types what their values are.
+#[inline(never)]
 pub fn filled_text_of(
     alloc: Global,
     table: &Table,
@@ -55,7 +53,7 @@ pub fn filled_text_of(
     if !push_told(table, id, body, depth, how, &mut text)? {
         return Ok(None);
     }
-    Ok(Some(utf8_text(text)))
+    Ok(String::from_utf8(text).ok())
 }
 
 /// Makes the plain JSON of the value of the type that the body spells, no deeper than `depth`, compact, without a line
@@ -78,7 +76,7 @@ pub fn push_filled_text(
         depth body.now text.new.items) (text.new.items ≡ [])) }
 {
     if may_be_told(table, id, how.style) {
-        return Ok(push_told(table, id, body, depth, how, text)?);
+        return push_told(table, id, body, depth, how, text);
     }
     let alloc = *text.allocator();
     let Some(json) = plain_text_of(alloc, table, id, body, depth, how.style)? else {
@@ -89,6 +87,7 @@ pub fn push_filled_text(
 }
 
 // Makes it in `text`, which is empty, as a visitor of what the body holds writes it.
+#[inline(always)]
 fn push_told(
     table: &Table,
     id: TypeId,
@@ -96,14 +95,13 @@ fn push_told(
     depth: u64,
     how: HeldStyle<'_>,
     text: &mut Vec<u8>,
-) -> Result<bool, AllocError>
+) -> Result<bool, Memory>
     requires depth { depth ≤ greatest_depth }
     requires taken { how.style.taken.now ≡ [] }
     requires listed { AreNotListed how.style (types table.now) id }
     requires empty { text.old.items ≡ [] }
-    ensures made { IfOk result (λ made. MatchBool made (IsFilledText how.entry.tagged how.entry.style (types table.now)
+    ensures { IfOk result (λ made. MatchBool made (IsFilledText how.entry.tagged how.entry.style (types table.now)
         id depth body.now text.new.items) (text.new.items ≡ [])) }
-    ensures utf8 { IfOk result (λ made. made ≡ true → IsUtf8 text.new.items) }
 {
     if how.tagged {
         return told_filled::<true>(table, id, body, depth, how.style, text);
@@ -119,21 +117,19 @@ fn told_filled<const TAGGED: bool>(
     depth: u64,
     style: Style<'_>,
     text: &mut Vec<u8>,
-) -> Result<bool, AllocError>
+) -> Result<bool, Memory>
     requires depth { depth ≤ greatest_depth }
     requires taken { style.taken.now ≡ [] }
     requires listed { AreNotListed style (types table.now) id }
     requires empty { text.old.items ≡ [] }
-    ensures made { IfOk result (λ made. MatchBool made (IsFilledText TAGGED style.entry (types table.now) id depth
+    ensures { IfOk result (λ made. MatchBool made (IsFilledText TAGGED style.entry (types table.now) id depth
         body.now text.new.items) (text.new.items ≡ [])) }
-    ensures utf8 { IfOk result (λ made. made ≡ true → IsUtf8 text.new.items) }
 {
     // its base types are known
     let _count = table.count();
     let alloc = *text.allocator();
-    let out = Writer::new(replace(text, Vec::new(alloc)));
+    let out = Line::new(replace(text, Vec::new(alloc)));
     let mut plain = Plain::<'_, Table, TAGGED> {
-        alloc,
         shapes: table,
         style,
         place: VisitorPlace::Free,
@@ -141,46 +137,35 @@ fn told_filled<const TAGGED: bool>(
     };
     let told = walk_filled::<Plain<'_, Table, TAGGED>>(table, id, body, depth, &mut plain);
     let Plain {
-        alloc: _,
         shapes: _,
         style: _,
         place,
         out,
     } = plain;
+    let Line {
+        text: made,
+        later: _,
+    } = out;
+    *text = made;
     match told {
-        Ok(()) => Ok(put_if_free(place, out, text)),
+        Ok(()) => Ok(is_free(place, text)),
         Err(WalkEnd::NotWhole) => {
-            give_back(out, text);
+            text.clear();
             Ok(false)
         }
         Err(WalkEnd::Out(fault)) => Err(fault),
     }
 }
 
-// Puts what the writer holds in `text`, where it is the text of a value; else leaves `text` empty, with its room.
-fn put_if_free(place: VisitorPlace, out: Writer, text: &mut Vec<u8>) -> bool
-    requires { out.before ≡ [] }
-    ensures free { result ≡ true → place ≡ places.Free }
-    ensures text { MatchBool result (text.new.items ≡ print out.tokens) (text.new.items ≡ []) }
-    ensures read { result ≡ true → tokens text.new.items ≡ out.tokens }
-    ensures utf8 { result ≡ true → IsUtf8 text.new.items }
+// Whether the text is that of a value; else leaves `text` empty, with its room.
+fn is_free(place: VisitorPlace, text: &mut Vec<u8>) -> bool
+    ensures { MatchBool result ((place ≡ places.Free) × (text.new ≡ text.old)) (text.new.items ≡ []) }
 {
     match place {
-        VisitorPlace::Free => {
-            *text = out.into_inner();
-            true
-        }
+        VisitorPlace::Free => true,
         _ => {
-            give_back(out, text);
+            text.clear();
             false
         }
     }
-}
-
-// Leaves `text` empty, with the room of the writer.
-fn give_back(out: Writer, text: &mut Vec<u8>)
-    ensures { text.new.items ≡ [] }
-{
-    *text = out.into_inner();
-    text.clear();
 }

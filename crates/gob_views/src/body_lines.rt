@@ -71,6 +71,7 @@ pub(crate) struct PartsAhead {
 
 /// Makes the lines of the value of the type that the body is, whatever its interfaces hold, if it is one no deeper than
 /// `depth` that defines nothing, and its type is chosen, in `text`, which is empty. False says nothing of the body.
+#[inline(always)]
 pub(crate) fn push_body_line(
     alloc: Global,
     of: &TypeLines<'_, '_, '_>,
@@ -104,6 +105,7 @@ pub(crate) fn push_body_line(
 /// Makes the line of the value of the type that the body is, which is chosen, if it is one no deeper than `depth` that
 /// defines nothing, where it stands on one line under no name, in `text`, which is empty. False says nothing of the
 /// body, and leaves `text` empty.
+#[inline(always)]
 fn push_alone(
     alloc: Global,
     of: &TypeLines<'_, '_, '_>,
@@ -128,6 +130,7 @@ fn push_alone(
 }
 
 /// How what interfaces hold is written in them.
+#[inline(always)]
 fn held_style<'s>(of: &TypeLines<'_, '_, 's>) -> HeldStyle<'s>
     ensures style { result.style ≡ of.now.style }
     ensures tagged { result.tagged ≡ of.now.lines.tagged }
@@ -141,6 +144,7 @@ fn held_style<'s>(of: &TypeLines<'_, '_, 's>) -> HeldStyle<'s>
 /// Makes the lines of the parts of the value that the body is, if it is one no deeper than `depth` and each of its
 /// parts stands on a line of its own, in `text`, which is empty. JSON is made of some of them at a time. False says
 /// nothing of the body, and leaves `text` empty.
+#[inline(never)]
 fn push_parts(
     alloc: Global,
     of: &TypeLines<'_, '_, '_>,

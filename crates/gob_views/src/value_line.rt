@@ -71,6 +71,7 @@ pub(crate) fn push_filled_line(
 }
 
 /// What is said of types, as values are written by it.
+#[inline(always)]
 pub(crate) fn taken_of(alloc: Global, kinds: &[TypeKind]) -> Result<Vec<Taken>, Memory>
     ensures { IfOk result (λ taken. AreTaken kinds.now taken.items) }
 {
@@ -101,6 +102,7 @@ fn content_of(kind: OpaqueKind) -> Content
 }
 
 /// The style of the lines, where this is said of types.
+#[inline(always)]
 pub(crate) fn style_of<'a>(lines: ValueLines<'_>, taken: &'a [Taken]) -> Style<'a>
     ensures { AreTaken lines.entry.kinds.now taken.entry.now → IsStyleOf lines.entry result }
 {
@@ -113,6 +115,7 @@ pub(crate) fn style_of<'a>(lines: ValueLines<'_>, taken: &'a [Taken]) -> Style<'
 }
 
 /// Whether values of the type are printed, where this word says of which type alone they are.
+#[inline(always)]
 pub(crate) fn is_chosen(only: Option<&str>, table: &Table, id: TypeId) -> bool
     ensures { MatchBool result (IsChosen (text_of only.entry) (types table.now) id)
         (¬ IsChosen (text_of only.entry) (types table.now) id) }
@@ -135,6 +138,7 @@ fn type_name(table: &Table, id: TypeId) -> &[u8]
 }
 
 /// Appends the lines of the JSON that says a value of this type: one, or one for each of its parts.
+#[inline(never)]
 pub(crate) fn push_lines(
     alloc: Global,
     json: String,
@@ -275,6 +279,7 @@ fn push_line(json: &str, text: &mut Vec<u8>) -> Result<(), Memory>
 }
 
 /// Makes a line of the JSON in `text`. No character of it controls how a terminal shows it.
+#[inline(always)]
 pub(crate) fn show_line(alloc: Global, text: &mut Vec<u8>) -> Result<(), Memory>
     ensures shown { OnOk result (text.new.items ≡ shown_text text.old.items ++ 10 ∷ []) }
     ensures reads { (j : Json) → text.old.items ≡ print (json_tokens j) → tokens text.old.items ≡ json_tokens j

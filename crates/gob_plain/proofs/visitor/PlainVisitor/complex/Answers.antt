@@ -1,8 +1,8 @@
 -- The event is said by its tokens.
 use Rattle.std.proofs.Common.{refl}
 use Rattle.gob_value.specs.Tree as Value
-use Rattle.gob_json_writer.proofs.WrittenLaws.{one_written}
-use Rattle.gob_plain.proofs.SomeLaws.{some_of, some_weaker}
+use Rattle.std.proofs.lemmas.Result.{on_ok_weaker}
+use Rattle.gob_plain.proofs.LineLaws.{put_of, put_weaker}
 use Rattle.gob_plain.proofs.PlaceLaws.{empty_utf8, leaf_said, name_said}
 use Rattle.gob_plain.proofs.visitor.PlainVisitor.complex.Goals as goal
 
@@ -10,16 +10,15 @@ pub returns-then-takes_name : goal.returns-then-takes_name
 returns-then-takes_name g c = (
   refl,
   refl,
-  some_of (one_written c.key.ensures)
-      (name_said (Value.complex c.args.real c.args.imaginary) empty_utf8
-      (c.takes_name.ensures.name c.if-takes_name.true)),
+  on_ok_weaker c.known_name.result (put_of (name_said (Value.complex c.args.real c.args.imaginary) empty_utf8
+      (c.takes_name.ensures.name c.if-takes_name.true))) c.known_name.ensures,
 )
 
 pub returns : goal.returns
 returns g c = (
   refl,
   refl,
-  some_weaker (λ ts h. leaf_said (Value.complex c.args.real c.args.imaginary) (c.takes_name.ensures.other
-      c.if-takes_name.false) ts h)
-      c.write_complex.ensures,
+  on_ok_weaker c.complex.result (put_weaker (λ ts h. leaf_said (Value.complex c.args.real c.args.imaginary)
+      (c.takes_name.ensures.other
+      c.if-takes_name.false) ts h)) c.complex.ensures,
 )
