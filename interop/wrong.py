@@ -22,6 +22,8 @@ class Row(NamedTuple):
     options: tuple = ()
     # what is due of its file, where that is read once more as one of several encoders, and is whole
     of_file: str = ""
+    # where its file is refused without what defines types again, and how many bytes that has
+    without_again: tuple = ()
 
 
 def spelled(number):
@@ -336,7 +338,7 @@ CAUSES = [
         "8 DefinedTwice(65) at 41 seen 43", "A type is defined under a number that has one already.",
         "item 2, which begins at byte 40", TYPE, "ff 81, at byte 41",
         "Another encoder's stream begins with this item: it defines type 65 once more, in the same way.",
-        "gob values --salvage IN")),
+        "gob values --salvage IN"), without_again=("refused 15 FieldNumber at 83 seen 84", 32)),
     Row("another_type", GOB + ARRAY, due(
         "8 DefinedTwice(65) at 41 seen 43", "A type is defined under a number that has one already.",
         "item 2, which begins at byte 40", TYPE, "ff 81, at byte 41",

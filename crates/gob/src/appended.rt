@@ -34,8 +34,8 @@ pub(crate) fn in_input<R>(appended: &Appended<R>, ending: Result<(), Exit>) -> R
     }
 }
 
-// The refusal by the offsets of the input.
-fn refusal_in_input<R>(appended: &Appended<R>, refusal: Refusal) -> Refusal
+/// The refusal by the offsets of the input.
+pub(crate) fn refusal_in_input<R>(appended: &Appended<R>, refusal: Refusal) -> Refusal
     ensures { IsInInput appended.now refusal result }
 {
     Refusal {

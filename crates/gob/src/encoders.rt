@@ -1,4 +1,4 @@
-//! Files to which several encoders wrote, read once more.
+//! Files to which several encoders wrote.
 
 use crate::opening::open;
 use crate::progress::size_of;
@@ -11,4 +11,9 @@ pub(crate) fn appended_file(rt: &HostRuntime, path: &str) -> Option<Appended<Fil
     let file = open(rt, path).ok()?;
     size_of(&file)?;
     Appended::new(rt.alloc(), file).ok()
+}
+
+/// How many encoders are seen to have written what was read. It stays at 2^64-1 once there.
+pub(crate) fn encoders_of<R>(appended: &Appended<R>) -> u64 {
+    appended.encoders_anew().saturating_add(1)
 }

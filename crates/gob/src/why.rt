@@ -5,13 +5,14 @@ ghost use Rattle.gob_stream.specs.Calls.Ends.{reader_of};
 ghost use Rattle.gob_tool.specs.declared.fault.ToolFault.TheVariants as fault;
 ghost use Rattle.gob_views.specs.Running.{ViewAnswers};
 
-use crate::encoders::appended_file;
+use crate::appended::refusal_in_input;
+use crate::encoders::{appended_file, encoders_of};
 use crate::kept::say_kept;
 use crate::opening::open;
 use crate::verify::sent;
 use crate::{Exit, ended, opened_by_name, told_once};
 use gob_appended::Appended;
-use gob_stream::{Input, Output};
+use gob_stream::{Input, Output, Refusal};
 use gob_tool::ToolFault;
 use gob_types::Reason;
 use gob_views::run_view;
@@ -27,7 +28,8 @@ struct Told {
 }
 
 /// Says on standard output why the input is refused, and how much `gob salvage` keeps of it; or how much is in it. Of a
-/// file that is whole but for definitions that other encoders say again, it says that, and how many encoders there are.
+/// file that is whole but for definitions that other encoders say again, it says that, and how many encoders there are;
+/// of one that is refused behind these too, where that is.
 pub(crate) fn why(rt: &HostRuntime, view: &View) -> Result<(), Exit> {
     let told = told_of(rt, view)?;
     sent(rt.stdout().write_all(&told.text))?;
@@ -57,10 +59,7 @@ fn told_of(rt: &HostRuntime, view: &View) -> Result<Told, Exit> {
     let file = opened_by_name(rt.alloc(), path, open(rt, path))?;
     let told = tell(rt.alloc(), view, &mut Input::new(file));
     if is_defined_twice(&told.answer) {
-        // Where that can't be said, the refusal stays.
-        if let Some(whole) = tell_appended(rt, view, path) {
-            return Ok(whole);
-        }
+        return Ok(told_again(rt, view, path, told)?);
     }
     Ok(told)
 }
@@ -87,21 +86,50 @@ fn is_defined_twice(answer: &Result<(), ToolFault>) -> bool {
     }
 }
 
-// What is said of a file without the definitions that are said again, if it is whole then.
-fn tell_appended(rt: &HostRuntime, view: &View, path: &str) -> Option<Told> {
-    let mut input = Input::new(appended_file(rt, path)?);
-    let mut told = tell(rt.alloc(), view, &mut input);
-    if told.answer.is_err() {
-        return None;
+// What is said of a file of which this was told, since it defines a type twice: how much is in it without the
+// definitions that are said again, or else this, and where it is refused without them. Where it can't be read once more
+// this stays.
+fn told_again(
+    rt: &HostRuntime,
+    view: &View,
+    path: &str,
+    mut told: Told,
+) -> Result<Told, AllocError> {
+    let Some(file) = appended_file(rt, path) else {
+        return Ok(told);
+    };
+    let mut input = Input::new(file);
+    let mut again = tell(rt.alloc(), view, &mut input);
+    let appended = input.into_inner();
+    match again.answer {
+        Ok(()) => {
+            let line = encoders_line(rt.alloc(), &appended)?;
+            again.text.extend_from_slice(line.as_bytes())?;
+            return Ok(again);
+        }
+        Err(ToolFault::Refused(refusal)) if appended.left_out() > 0 => {
+            let line = later_line(rt.alloc(), &appended, refusal)?;
+            told.text.extend_from_slice(line.as_bytes())?;
+        }
+        Err(_) => {}
     }
-    let line = encoders_line(rt.alloc(), &input.into_inner()).ok()?;
-    told.text.extend_from_slice(line.as_bytes()).ok()?;
-    Some(told)
+    Ok(told)
+}
+
+// Where the file is refused without the definitions that are said again.
+fn later_line<R>(
+    alloc: Global,
+    appended: &Appended<R>,
+    refusal: Refusal,
+) -> Result<String, AllocError> {
+    let refusal = refusal_in_input(appended, refusal);
+    let bytes = appended.left_out();
+    format!(in alloc; "then: {refusal}, without {bytes} bytes that define types again\n")
 }
 
 // How many encoders wrote, and where that was seen.
 fn encoders_line<R>(alloc: Global, appended: &Appended<R>) -> Result<String, AllocError> {
-    let encoders = appended.encoders_anew().saturating_add(1);
+    let encoders = encoders_of(appended);
     let places = places_text(alloc, appended)?;
     let bytes = appended.left_out();
     format!(in alloc;
