@@ -2,13 +2,16 @@
 use Rattle.std.specs.Prelude.{◌≡◌, ℕ, Bool, List, Option, Some, Result, Ok, Err, IsErrAnd, string_bytes}
 use Rattle.std.specs.Str.{chars}
 use Rattle.std.specs.Io.KnownBytes.{append_known}
+use Rattle.gob_left_out.specs.Tally.{TallyRow}
+use Rattle.gob_left_out.specs.TallyText.{tally_line}
 use Rattle.gob_rename.specs.declared.rename.Rename.{Rename}
 use Rattle.gob_stream.specs.Bounds.{within_trees}
-use Rattle.gob_tool.specs.declared.convert_fault.ConvertFault.{ConvertFault}
-use Rattle.gob_tool.specs.declared.convert_fault.ConvertFault.TheVariants as stop
+use Rattle.gob_convert.specs.declared.fault.ConvertFault.{ConvertFault}
+use Rattle.gob_convert.specs.declared.fault.ConvertFault.TheVariants as stop
+use Rattle.gob_convert.specs.Faults.{OfRun}
+use Rattle.gob_convert.specs.Running.{ConvertAnswers}
 use Rattle.gob_tool.specs.declared.fault.ToolFault.{ToolFault}
 use Rattle.gob_tool.specs.declared.fault.ToolFault.TheVariants as run_fault
-use Rattle.gob_tool.specs.ConvertWith.{ConvertWithAnswers, OfRun}
 use Rattle.gob_tool.specs.Fault.{fault_line}
 use Rattle.gob_tool.specs.Running.{order_limits}
 use Rattle.gob_tool.specs.Showing.{CountsWriteFaults}
@@ -19,7 +22,8 @@ use Rattle.gob.specs.Exit.{HasAnswered, IsTold, Seen}
 use Rattle.gob.specs.declared.Exit.{Exit}
 use Rattle.gob.specs.declared.Exit.TheVariants as end
 
--- a line says what is wrong with a word, in characters of which a terminal obeys none, unless no memory was had
+-- a line says what is wrong with a word, or why no more is written, in characters of which a terminal obeys none,
+-- unless no memory was had
 abbrev pub TellsWord : Exit → Type 0
 TellsWord (end.View line) = IsUnobeyed (string_bytes line)
 TellsWord told = told ≡ end.Run run_fault.Memory
@@ -31,10 +35,11 @@ pub record EndsAs (answer : Result (Unit {0}) ToolFault) (lost : List ℕ) (resu
     pub tells : IsTold answer lost told
     pub answered : HasAnswered told result
 
--- and so does a conversion, but where one of the renames doesn't fit
+-- and so does a conversion, but where one of the renames doesn't fit, or no more goes into the stream
 abbrev pub EndsConversionAs : Result (Unit {0}) ConvertFault → (lost : List ℕ) → Result (Unit {0}) Exit → Type 0
 EndsConversionAs (Ok u) lost result = EndsAs (Ok u) lost result
 EndsConversionAs (Err (stop.Run fault)) lost result = EndsAs (Err fault) lost result
+EndsConversionAs (Err (stop.Full why)) lost result = IsErrAnd result TellsWord
 EndsConversionAs (Err (stop.Misfits number why)) lost result = IsErrAnd result TellsWord
 
 -- a conversion that answered so ends so, where it wrote these bytes, and the writer behind it has the new ones
@@ -45,10 +50,17 @@ pub record IsSettledAs (answer : Result (Unit {0}) ConvertFault) (wrote new : Op
   pub ends : EndsConversionAs answer lost result
   pub all : wrote ≡ append_known new lost
 
--- how a conversion ends, where the wanted stream, the input and the output were the first of each pair, and are the
--- second
+-- so ends one that is stopped, though nothing failed
+pub record IsStopped (wrote new : Option (List ℕ)) (result : Result (Unit {0}) Exit) : Type 0 where
+  -- what it wrote and the writer didn't take
+  pub lost : List ℕ
+  pub told : IsErrAnd result TellsWord
+  pub all : wrote ≡ append_known new lost
+
+-- how a conversion ends, where the wanted stream, the input, the output and the tally of what values leave out were the
+-- first of each pair, and are the second
 pub record EndsConversion (order : Order) (renames : List Rename) (all : Bool)
-    (wanted wanted_now input now old new : Seen)
+    (wanted wanted_now input now old new : Seen) (told telling : List TallyRow)
     (result : Result (Unit {0}) Exit) : Type 0 where
   pub answer : Result (Unit {0}) ConvertFault
   -- what it wrote and the writer behind it didn't take
@@ -58,10 +70,10 @@ pub record EndsConversion (order : Order) (renames : List Rename) (all : Bool)
   pub reads : OfRun (CountsTakeReads wanted.failures wanted_now.failures input.failures now.failures) answer
   pub writes : OfRun (CountsWriteFaults old.failures new.failures) answer
   pub does : (wanted_bytes bytes : List ℕ) → wanted.bytes ≡ Some wanted_bytes → input.bytes ≡ Some bytes
-      → ConvertWithAnswers renames all (within_trees (order_limits order)) wanted_bytes bytes wanted_now.bytes now.bytes
-      old.bytes (append_known new.bytes lost) answer
+      → ConvertAnswers renames all (within_trees (order_limits order)) wanted_bytes bytes wanted_now.bytes now.bytes
+      old.bytes (append_known new.bytes lost) told telling answer
 
--- ---- what is told of a fault
+-- ---- what is told of a fault, and of what is left out
 -- its line has names of the stream
 abbrev pub HasPath : ToolFault → Type 0
 HasPath (run_fault.Clash path reason) = Unit {0}
@@ -71,6 +83,10 @@ HasPath fault = ⊥
 -- the line of the fault, with those characters escaped that a terminal obeys
 abbrev pub IsShownLine : ToolFault → (line : List ℕ) → Type 0
 IsShownLine fault line = chars line ≡ escaped_text (chars (fault_line fault))
+
+-- and so of the line of what values leave out
+abbrev pub IsTallyShown : List TallyRow → (line : List ℕ) → Type 0
+IsTallyShown rows line = chars line ≡ escaped_text (chars (tally_line rows))
 
 -- it is told so, unless no memory was had
 abbrev pub TellsShown : ToolFault → Exit → Type 0

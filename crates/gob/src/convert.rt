@@ -3,18 +3,21 @@
 ghost use Rattle.std.specs.Prelude.{◌≡◌, ◌↔◌, length, IfErr, IfOk, IsTrue, string_bytes};
 ghost use Rattle.std.specs.Io.Buffered.{writer_contents};
 ghost use Rattle.gob_stream.specs.Calls.Ends.{failed_writes, writer_of};
-ghost use Rattle.gob_tool.specs.ConvertWith.{IsAmongRenames};
+ghost use Rattle.gob_convert.specs.Faults.{IsAmongRenames};
 ghost use Rattle.gob_words.specs.Escaped.{IsUnobeyed};
 ghost use Rattle.gob.specs.Converting.{EndsConversion, HasPath, IsFaultShown, IsSettledAs, IsShown, IsShownLine};
-ghost use Rattle.gob.specs.Converting.{IsStopShown, TellsWord};
+ghost use Rattle.gob.specs.Converting.{IsStopShown, IsStopped, IsTallyShown, TellsWord};
 ghost use Rattle.gob.specs.Exit.{IsQuietIfClosed, seen_after, seen_of, unused};
 
 use crate::pipe::Pipe;
 use crate::types::{TypesFile, wanted_of};
 use crate::{AfterRun, Exit, buffered, opened, settled};
+use gob_convert::{ConvertFault, ConvertOptions, run_convert};
+use gob_left_out::Tally;
 use gob_rename::{Misfit, Rename, WordFault, WordsFault, renames_said_by};
 use gob_stream::{Input, Output};
-use gob_tool::{ConvertFault, ConvertOptions, ToolFault, limits_of, run_convert_with};
+use gob_tool::{ToolFault, limits_of};
+use gob_types::Reason;
 use gob_words::{Converting, Order, converting_of, escaped};
 use std::alloc::{AllocError, Global};
 use std::fs::File;
@@ -23,6 +26,8 @@ use std::io::{BufWriter, Read, Write};
 /// What the words ask of a conversion.
 #[derive(Drop)]
 struct Conversion<'a> {
+    /// The streams and their limits.
+    order: Order<'a>,
     /// Those that say which fields of the wanted types have another name in the stream.
     words: Vec<&'a str>,
     /// What each of them says.
@@ -33,31 +38,36 @@ struct Conversion<'a> {
 }
 
 /// Writes the stream of the values as those of the wanted type, whose fields have the names there that the words
-/// say.
+/// say, and tells on standard error which fields they leave out.
 pub(crate) fn convert<'a>(
     rt: &HostRuntime,
-    order: &Order,
+    order: &Order<'a>,
     names: &'a [&'a str],
 ) -> Result<(), Exit> {
-    let asked = conversion_of(rt.alloc(), names)?;
+    let asked = conversion_of(rt.alloc(), *order, names)?;
     match order.wanted {
-        None => convert_on(rt, order, &asked, b"".as_slice()),
-        Some(word) if is_declaration(word) => convert_declared(rt, order, &asked, word.as_bytes()),
+        None => convert_on(rt, &asked, b"".as_slice()),
+        Some(word) if is_declaration(word) => convert_declared(rt, &asked, word.as_bytes()),
         Some(path) => {
             let wanted = opened(File::open(rt, path))?;
-            convert_file(rt, order, &asked, wanted)
+            convert_file(rt, &asked, wanted)
         }
     }
 }
 
 // What the words ask.
-fn conversion_of<'a>(alloc: Global, names: &'a [&'a str]) -> Result<Conversion<'a>, Exit> {
+fn conversion_of<'a>(
+    alloc: Global,
+    order: Order<'a>,
+    names: &'a [&'a str],
+) -> Result<Conversion<'a>, Exit> {
     let Converting {
         renames: words,
         all,
     } = converting_of(alloc, names)?;
     match renames_said_by(alloc, &words) {
         Ok(renames) => Ok(Conversion {
+            order,
             words,
             renames,
             all,
@@ -75,80 +85,106 @@ fn is_declaration(word: &str) -> bool {
 }
 
 // Converts by the file that has the wanted type: a stream, or Go source.
-fn convert_file(
-    rt: &HostRuntime,
-    order: &Order,
-    asked: &Conversion<'_>,
-    wanted: File,
-) -> Result<(), Exit> {
+fn convert_file(rt: &HostRuntime, asked: &Conversion<'_>, wanted: File) -> Result<(), Exit> {
     match TypesFile::begun(rt.alloc(), wanted)? {
-        TypesFile::Stream(first, rest) => {
-            convert_on(rt, order, asked, first.as_slice().chain(rest))
-        }
-        TypesFile::Source(text) => convert_declared(rt, order, asked, &text),
+        TypesFile::Stream(first, rest) => convert_on(rt, asked, first.as_slice().chain(rest)),
+        TypesFile::Source(text) => convert_declared(rt, asked, &text),
     }
 }
 
 // Converts by the first type that Go source declares.
-fn convert_declared(
-    rt: &HostRuntime,
-    order: &Order,
-    asked: &Conversion<'_>,
-    source: &[u8],
-) -> Result<(), Exit> {
+fn convert_declared(rt: &HostRuntime, asked: &Conversion<'_>, source: &[u8]) -> Result<(), Exit> {
     let stream = wanted_of(rt.alloc(), source)?;
-    convert_on(rt, order, asked, stream.as_slice())
+    convert_on(rt, asked, stream.as_slice())
 }
 
 // Opens the input, then converts it.
 fn convert_on<Q: Read + Drop>(
     rt: &HostRuntime,
-    order: &Order,
     asked: &Conversion<'_>,
     wanted: Q,
 ) -> Result<(), Exit> {
     let writer = buffered(rt.alloc(), rt.stdout())?;
     let mut wanted = Input::new(wanted);
-    let ending = match order.input {
+    let mut left_out = Tally::new(rt.alloc());
+    let ending = match asked.order.input {
         None => {
             let mut input = Input::new(rt.stdin());
-            convert_out(rt.alloc(), order, asked, &mut wanted, &mut input, writer).ending
+            convert_out(
+                rt.alloc(),
+                asked,
+                &mut wanted,
+                &mut input,
+                writer,
+                &mut left_out,
+            )
+            .ending
         }
         Some(path) => {
             let mut input = Input::new(opened(File::open(rt, path))?);
-            convert_out(rt.alloc(), order, asked, &mut wanted, &mut input, writer).ending
+            convert_out(
+                rt.alloc(),
+                asked,
+                &mut wanted,
+                &mut input,
+                writer,
+                &mut left_out,
+            )
+            .ending
         }
     };
-    shown(rt.alloc(), ending)
+    let told = tell_left_out(rt, &left_out);
+    shown(rt.alloc(), ending)?;
+    told
+}
+
+// Tells on standard error what the values leave out, if anything.
+fn tell_left_out(rt: &HostRuntime, left_out: &Tally) -> Result<(), Exit> {
+    if left_out.is_empty() {
+        return Ok(());
+    }
+    let line = left_out_line(rt.alloc(), left_out)?;
+    // Where standard error takes no line, the values are written all the same.
+    let _ = eprintln!(rt; "{line}");
+    Ok(())
+}
+
+// The line of what they leave out: the path of a field has names of the stream.
+fn left_out_line(alloc: Global, left_out: &Tally) -> Result<String, AllocError>
+    ensures { IfOk result (λ line. IsTallyShown left_out.now (string_bytes line)) }
+{
+    let line = left_out.to_string(alloc)?;
+    escaped(alloc, line.as_str())
 }
 
 // The run, as that of an order.
 fn convert_out<Q: Read, R: Read, W: Write + Drop>(
     alloc: Global,
-    order: &Order,
     asked: &Conversion<'_>,
     wanted: &mut Input<Q>,
     input: &mut Input<R>,
     writer: BufWriter<Pipe<W>>,
+    left_out: &mut Tally,
 ) -> AfterRun<W>
-    ensures ends { EndsConversion order.now asked.now.renames.items asked.now.all
+    ensures ends { EndsConversion asked.now.order asked.now.renames.items asked.now.all
         (seen_of Q.remaining wanted.old) (seen_of Q.remaining wanted.new)
         (seen_of R.remaining input.old) (seen_of R.remaining input.new)
         (unused (writer_contents (λ pipe. W.contents pipe.writer) writer)) (seen_after W.contents result)
-        result.ending }
+        left_out.old left_out.new result.ending }
     ensures quiet { IsQuietIfClosed result }
 {
     let mut output = Output::new(writer);
     let options = ConvertOptions {
         renames: &asked.renames,
         all: asked.all,
+        limits: limits_of(&asked.order),
     };
-    let limits = limits_of(order);
-    let answer = run_convert_with(alloc, &options, wanted, input, &mut output, limits);
+    let answer = run_convert(alloc, &options, wanted, input, &mut output, left_out);
     settled_as(alloc, &asked.words, answer, output)
 }
 
-// What comes of a conversion that answered this: where a rename doesn't fit the wanted types, its word is told.
+// What comes of a conversion that answered this: where a rename doesn't fit the wanted types, its word is told, and
+// where no more goes into the stream why that is.
 fn settled_as<W: Write + Drop>(
     alloc: Global,
     words: &[&str],
@@ -165,15 +201,26 @@ fn settled_as<W: Write + Drop>(
     match answer {
         Ok(()) => settled(Ok(()), output),
         Err(ConvertFault::Run(fault)) => settled(Err(fault), output),
+        Err(ConvertFault::Full(reason)) => stopped(told(full_line(alloc, reason)), output),
         Err(ConvertFault::Misfits { number, misfit }) => {
-            let stop = told(misfit_line(alloc, words[number], misfit));
-            let after = settled(Ok(()), output);
-            AfterRun {
-                ending: Err(stop),
-                pipe: after.pipe,
-                failures: after.failures,
-            }
+            stopped(told(misfit_line(alloc, words[number], misfit)), output)
         }
+    }
+}
+
+// What comes of a run that is stopped so, though nothing failed.
+fn stopped<W: Write + Drop>(stop: Exit, output: Output<BufWriter<Pipe<W>>>) -> AfterRun<W>
+    requires { TellsWord stop }
+    ensures settled { IsStopped (writer_contents (λ pipe. W.contents pipe.writer) (writer_of output))
+        (W.contents result.pipe.writer) result.ending }
+    ensures counted { result.failures ≡ failed_writes output }
+    ensures quiet { IsQuietIfClosed result }
+{
+    let after = settled(Ok(()), output);
+    AfterRun {
+        ending: Err(stop),
+        pipe: after.pipe,
+        failures: after.failures,
     }
 }
 
@@ -246,6 +293,14 @@ fn word_line(alloc: Global, word: &str, fault: WordFault) -> Result<String, Allo
         WordFault::EmptyName => "a name is empty",
     };
     let line = format!(in alloc; "invalid value '{word}' for '--rename <OLD=NEW>': {why}")?;
+    escaped(alloc, line.as_str())
+}
+
+// Says why no more goes into the stream that is written.
+fn full_line(alloc: Global, reason: Reason) -> Result<String, AllocError>
+    ensures { IfOk result (λ line. IsUnobeyed (string_bytes line)) }
+{
+    let line = format!(in alloc; "no more goes into one stream: {reason}")?;
     escaped(alloc, line.as_str())
 }
 

@@ -60,7 +60,7 @@ items_keep no_more = record { shape = λ t s e. e }
 items_keep (and_then i n is) = in_turn (item_keeps i) (items_keep is)
 
 -- an item leads to the same types wherever it stands
-one_behind : {L : Bounds} {T U V : Table} {o p : ℕ} {i : FilledItem} {b c : List ℕ}
+pub one_behind : {L : Bounds} {T U V : Table} {o p : ℕ} {i : FilledItem} {b c : List ℕ}
     → IsFilledItem base_table L T o i b U → IsFilledItem base_table L T p i c V → U ≡ V
 one_behind {T = T} (of_definition n l s (defines {id = t} may dp de i sg sp))
     (of_definition m k r (defines may' dp' de' i' sg' sp')) =
@@ -79,7 +79,7 @@ keeps_behind {L = L} {T = T} {U = Z} more (and_then {next = n} {i = i} {items = 
     let same = one_behind a (subst (λ k. IsFilledItem base_table L T o k y W) first b) in
     keeps_behind more (subst (λ T. AreFilledItems base_table L T n is x Z) same ks) ls rest
 
-table_grows : {L M : Bounds} {T U : Table} {given all : List FilledItem} {b c : List ℕ} (more : List FilledItem)
+pub table_grows : {L M : Bounds} {T U : Table} {given all : List FilledItem} {b c : List ℕ} (more : List FilledItem)
     → M ≡ L → all ≡ given ++ more → FilledStream base_table L given b T → FilledStream base_table M all c U → Keeps T U
 table_grows {U = U} {all = all} {c = c} more same e p q =
     keeps_behind more p (subst (λ M. FilledStream base_table M all c U) same q) e
@@ -90,7 +90,7 @@ mutual
   value_stays : {R S : NewId} {v w : Filled} → Extends R S → IsRenamedValue R v w → IsRenamedValue S v w
   value_stays x (of_value fs) = of_value (fillings_stay x fs)
 
-  fillings_stay : {R S : NewId} {fs gs : Fillings} → Extends R S → AreRenamedFillings R fs gs
+  pub fillings_stay : {R S : NewId} {fs gs : Fillings} → Extends R S → AreRenamedFillings R fs gs
       → AreRenamedFillings S fs gs
   fillings_stay x none_renamed = none_renamed
   fillings_stay x (one_renamed e v fs) = one_renamed (x.kept _ _ e) (value_stays x v) (fillings_stay x fs)

@@ -18,7 +18,7 @@ use Rattle.gob_value.specs.Tree.{Tree}
 use Rattle.gob_value.specs.View.{view}
 use Rattle.gob_value.specs.declared.value.Value.{Value}
 use Rattle.gob_value.proofs.DescribedLaws.{describes}
-use Rattle.gob_value.proofs.PublicLaws.{same_top}
+use Rattle.gob_value.proofs.PublicLaws.{same_top, top_on}
 use Rattle.gob_stream.specs.Bounds.{Bounds}
 use Rattle.gob_filled.specs.Definition.{defines}
 use Rattle.gob_filled.specs.Filled.{Fillings, filled}
@@ -30,7 +30,7 @@ use Rattle.gob_filled.proofs.Refused.{definition_keeps}
 use Rattle.gob_filled.proofs.Strict.{filled_keeps}
 use Rattle.gob_go.specs.Meaning.{AreFillings, no_fillings, filling_then, IsFilled, is_filled, ItemMeans}
 use Rattle.gob_go.specs.Meaning.{means_definition, means_value}
-use Rattle.gob_go.specs.declared.filled.Filled.{Filled}
+use Rattle.gob_go.specs.declared.filled.Filled.{Filled, out-Filled}
 use Rattle.gob_go.specs.declared.filled.Filling.{Filling}
 use Rattle.gob_go.specs.declared.item.GoItem.{GoItem}
 use Rattle.gob_go.specs.declared.item.GoItem.TheVariants as item
@@ -43,10 +43,11 @@ use Rattle.gob_join.specs.Renaming.{IsRenamedField, IsRenamedItem, of_item, IsRe
 use Rattle.gob_join.specs.Renaming.{NewId, StandsFor, among, values_of}
 use Rattle.gob_join.specs.Renaming as renamed
 use Rattle.gob_join.specs.Machine.Numbered.{NumbersSome}
-use Rattle.gob_join.specs.Machine.Renamed.{HasRenamed, RenamesKept}
+use Rattle.gob_join.specs.Machine.Renamed.{HaveRenamed, RenamesKept}
 use Rattle.gob_join.specs.Machine.Taking.{Defines, PutsShape, Settles, Stands, TakesValue}
-use Rattle.gob_join.specs.Taking.{TakesItem, WritesOn}
+use Rattle.gob_join.specs.Taking.{IsFilledFrom, TakesHeld, TakesItem, WritesOn}
 use Rattle.gob_join.proofs.NumberLaws.{only_one}
+use Rattle.gob_join.proofs.ValueLaws.{HasRenamed, has_renamed}
 
 -- ---- what stays where more ids stand for others, and tables grow
 
@@ -148,25 +149,30 @@ mutual
   fillings_once (filling_then p f) (filling_then q g) =
       let e = filled_once p q in let h = fillings_once f g in cc
 
--- a value, renamed, was put
-pub value_put : {w w' : GoWriter} {items : List FilledItem} {bytes old new : List ℕ} {R : NewId} {id u : TypeId}
-    {kept made : Filled} {given : GoItem} → given ≡ item.Put u made → R id ≡ Some u → RenamesKept R kept made
-    → PutsItem w w' items bytes given old new → TakesValue w w' items bytes old new R id kept
-value_put {w = w} {w' = w'} {R = R} {id = id} {u = u} {made = made} {given = given} g e k p = λ T v r h.
-    let a : HasRenamed R (types_of w) u made v = k T (types_of w) id u v r e h in
-    record {
-      made = p.item;
-      on = item_written p;
-      renamed = by a (subst (λ g. ItemMeans (types_of w') g p.item) g p.means);
-    }
+-- the item that was put is the one that was kept
+value_is : {w w' : GoWriter} {items : List FilledItem} {bytes old new : List ℕ} {u : TypeId} {made : Filled}
+    {given : GoItem} {x : spelled.Filled} → given ≡ item.Put u made → IsFilled (types_of w) u made x
+    → (p : PutsItem w w' items bytes given old new) → p.item ≡ putting u x
+value_is {w = w} {w' = w'} {u = u} {made = made} {x = x} g means p =
+    by (subst (λ g. ItemMeans (types_of w') g p.item) g p.means)
   where
     grown : Keeps (types_of w) (types_of w')
     grown = record { shape = (item_written p).grown }
 
-    by : {v : spelled.Filled} {i : FilledItem} → HasRenamed R (types_of w) u made v
-        → ItemMeans (types_of w') (item.Put u made) i → IsRenamedItem R (putting id v) i
-    by {v = v} a (means_value {w = x} m) = of_item e (subst (λ x. renamed.IsRenamedValue R v x)
-        (filled_once (filled_on grown a.means) m) a.renamed)
+    by : {i : FilledItem} → ItemMeans (types_of w') (item.Put u made) i → i ≡ putting u x
+    by (means_value m) = ap (λ x. putting u x) (filled_once m (filled_on grown means))
+
+-- a value, renamed, was put
+pub value_put : {w w' : GoWriter} {items : List FilledItem} {bytes old new : List ℕ} {R : NewId} {id u : TypeId}
+    {kept made : Filled} {given : GoItem} → given ≡ item.Put u made → R id ≡ Some u → RenamesKept R kept made
+    → PutsItem w w' items bytes given old new → TakesValue w w' items bytes old new R id kept
+value_put {w = w} {R = R} {id = id} {u = u} {made = made} g e k p = λ T v r h.
+    let a : HasRenamed R (types_of w) u made v = has_renamed k r e h in
+    record {
+      made = p.item;
+      on = item_written p;
+      renamed = subst (λ i. IsRenamedItem R (putting id v) i) (sym (value_is g a.means p)) (of_item e a.renamed);
+    }
 
 -- ---- definitions
 
@@ -333,3 +339,30 @@ value_taken {w = w} {w'' = w''} {items = items} {bytes = bytes} {old = old} {new
       where
         one : {i j : FilledItem} → IsRenamedItem R' i j → AreRenamed R' (i ∷ []) (values_of (j ∷ []))
         one (of_item e f) = items_then (of_item e f) no_items
+
+-- so does one of a type of the joined stream, where what fills its nils is renamed
+pub held_taken : {w w' w'' : GoWriter} {items : List FilledItem} {bytes old mid new : List ℕ} {T : Table}
+    {R R' : NewId} {id : TypeId} {kept made : Filled} {given : GoItem} {v : Tree} {fs : Fillings}
+    → given ≡ item.Put id made → RenamesKept R' kept made → IsFilledFrom (types_of w) T id kept v fs
+    → (s : Settles w w' items bytes old mid T R R')
+    → PutsItem w' w'' (items ++ s.more) (bytes ++ s.on.spelled) given mid new
+    → TakesHeld w w'' items bytes old new T R R' id v fs
+held_taken {w = w} {w' = w'} {T = T} {R' = R'} {id = id} {made = made} {v = v} {fs = fs} g k h s p = record {
+  more = s.more ++ p.item ∷ [];
+  on = written_on s.on (item_written p);
+  renaming = renaming_on (none_grown T) (item_written p).grown s.renaming;
+  extends = s.extends;
+  fillings = a.fillings;
+  renamed = a.renamed;
+  values = values_append s.more (p.item ∷ []) ∙ ap (λ l. l ++ values_of (p.item ∷ [])) s.plain
+      ∙ ap (λ i. values_of (i ∷ [])) (value_is g means p);
+}
+  where
+    grown : Keeps (types_of w) (types_of w')
+    grown = record { shape = s.on.grown }
+
+    a : HaveRenamed R' (types_of w') (out-Filled made).fillings.items fs
+    a = k.fillings T (types_of w') fs s.renaming h.mean
+
+    means : IsFilled (types_of w') id made (filled v a.fillings)
+    means = is_filled (rw k.skeleton (top_on grown h.spelled)) a.mean

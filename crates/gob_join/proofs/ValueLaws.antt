@@ -10,8 +10,9 @@ use Rattle.gob_go.specs.declared.filled.Definition.{Definition}
 use Rattle.gob_go.specs.declared.filled.Filled.{Filled, out-Filled}
 use Rattle.gob_go.specs.declared.filled.Filling.{Filling, out-Filling}
 use Rattle.gob_go_writer.proofs.ValueSteps.{FirstFilling, first_filling}
-use Rattle.gob_join.specs.Renaming.{AreRenamedFillings, none_renamed, one_renamed, of_value, IsRenaming, NewId}
-use Rattle.gob_join.specs.Machine.Renamed.{HasRenamed, HaveRenamed, RenameFillings, RenamesFilling, RenamesKept}
+use Rattle.gob_join.specs.Renaming.{AreRenamedFillings, none_renamed, one_renamed, IsRenamedValue, of_value}
+use Rattle.gob_join.specs.Renaming.{IsRenaming, NewId}
+use Rattle.gob_join.specs.Machine.Renamed.{HaveRenamed, RenameFillings, RenamesFilling, RenamesKept}
 use Rattle.gob_join.proofs.RenamedLaws.{top_renamed}
 
 -- ---- what fills nils
@@ -79,17 +80,26 @@ pub value_renamed : {R : NewId} {kept made : Filled} {left fillings : List Filli
     → RenamesSo R (out-Filled kept).fillings.items left fillings → length left ≡ 0
     → (out-Filled made).skeleton.items ≡ (out-Filled kept).skeleton.items
     → (out-Filled made).fillings.items ≡ fillings → RenamesKept R kept made
-value_renamed {R = R} {kept = kept} {made = made} s e skeleton are = λ T U t u w r stands h. by T U r stands h
-  where
-    by : (T U : Table) {t u : TypeId} {w : spelled.Filled} → IsRenaming R T U → R t ≡ Some u → IsFilled T t kept w
-        → HasRenamed R U u made w
-    by T U r stands (is_filled {v = v} top fl) =
-        let g = all_renamed s e T U _ r fl in
-        record {
-          value = filled v g.fillings;
-          renamed = of_value g.renamed;
-          means = is_filled (rw skeleton (top_renamed r stands top)) (rw are g.mean);
-        }
+value_renamed {R = R} {kept = kept} s e skeleton are = record {
+  skeleton = skeleton;
+  fillings = subst (λ made. RenameFillings R (out-Filled kept).fillings.items made) (sym are) (all_renamed s e);
+}
+
+-- what is kept stands for this value, renamed
+pub record HasRenamed (R : NewId) (U : Table) (u : TypeId) (made : Filled) (w : spelled.Filled) : Type 0 where
+  pub value : spelled.Filled
+  pub renamed : IsRenamedValue R w value
+  pub means : IsFilled U u made value
+
+pub has_renamed : {R : NewId} {kept made : Filled} {T U : Table} {t u : TypeId} {w : spelled.Filled}
+    → RenamesKept R kept made → IsRenaming R T U → R t ≡ Some u → IsFilled T t kept w → HasRenamed R U u made w
+has_renamed {U = U} h r stands (is_filled {v = v} top fl) =
+    let g = h.fillings _ U _ r fl in
+    record {
+      value = filled v g.fillings;
+      renamed = of_value g.renamed;
+      means = is_filled (rw h.skeleton (top_renamed r stands top)) g.mean;
+    }
 
 pub filling_renamed : {R : NewId} {kept made : Filling}
     → RenamesKept R (out-Filling kept).value (out-Filling made).value
@@ -110,7 +120,7 @@ filling_renamed {R = R} {kept = kept} {made = made} h stands place name none = �
     by : (T U : Table) {fs : Fillings} → IsRenaming R T U → AreFillings T (kept ∷ []) fs
         → HaveRenamed R U (made ∷ []) fs
     by T U r (filling_then {w = w} m no_fillings) =
-        let a = h T U (out-Filling kept).id (out-Filling made).id w r stands m in
+        let a : HasRenamed R U (out-Filling made).id (out-Filling made).value w = has_renamed h r stands m in
         record {
           fillings = filling (out-Filling kept).place (out-Filling kept).name.items no_definitions (out-Filling made).id
               a.value no_filling;

@@ -14,12 +14,14 @@
 //! are renamed. Definitions stand in items of their own, in front of the first value that they come with.
 //!
 //! [`take_item`] takes an item of a stream into the one that a [`GoWriter`](gob_go_writer::GoWriter) writes, and
-//! [`join_file`] all items of a stream.
+//! [`join_file`] all items of a stream. [`take_held`] takes in a value that was made to be one of a type of the joined
+//! stream, whose interfaces hold values of the other stream: of those alone the types are renamed, and defined by need.
 #![tactic(auto)]
 
 mod fault;
 mod fields;
 mod join_fault;
+mod needed;
 mod numbering;
 mod renaming;
 mod run;
@@ -31,4 +33,4 @@ mod value;
 pub use fault::TakeFault;
 pub use join_fault::JoinFault;
 pub use run::join_file;
-pub use taking::{KnownTypes, take_item};
+pub use taking::{KnownTypes, take_held, take_item};

@@ -3,14 +3,17 @@
 ghost use Rattle.std.specs.Prelude.{◌≡◌, ℕ, List, Contains, IfOk, OnOk};
 ghost use Rattle.gob_types.specs.Defined.{types};
 ghost use Rattle.gob_types.specs.Table.{Table as Types};
+ghost use Rattle.gob_value.specs.Tree.{Tree};
+ghost use Rattle.gob_filled.specs.Filled.{Fillings};
 ghost use Rattle.gob_filled.specs.Stream.{FilledItem};
 ghost use Rattle.gob_go.specs.Meaning.{ItemMeans};
 ghost use Rattle.gob_go_writer.specs.Calls.Writer.{HasPut, PutsItem, limits_of, types_of};
 ghost use Rattle.gob_join.specs.Renaming.{IsRenaming, among};
 ghost use Rattle.gob_join.specs.Machine.Taking.{Defines, PutsShape, Settles, TakesValue};
-ghost use Rattle.gob_join.specs.Taking.{TakesItem};
+ghost use Rattle.gob_join.specs.Taking.{IsFilledFrom, TakesHeld, TakesItem};
 
 use crate::fault::TakeFault;
+use crate::needed::push_needed;
 use crate::numbering::number;
 use crate::renaming::{NewIds, Renaming};
 use crate::shape::{is_renamed, renamed_shape};
@@ -102,6 +105,31 @@ pub fn take_item(
     Ok(())
 }
 
+/// Takes in a value of a type of the joined stream, whose interfaces hold values of types of the table: under its own
+/// type it goes out with what they hold, under the ids that stand for theirs, behind the definitions of those that the
+/// joined stream doesn't have.
+pub fn take_held(
+    alloc: Global,
+    id: TypeId,
+    value: Filled,
+    table: &Table,
+    known: &mut KnownTypes,
+    writer: &mut GoWriter,
+    text: &mut Vec<u8>,
+) -> Result<(), TakeFault>
+    ensures taken { (v : Tree) (fs : Fillings) (items : List FilledItem) (bytes : List ℕ)
+        → HasPut writer.old items bytes → IsRenaming (among known.old.renaming) (types table.now) (types_of writer.old)
+        → IsFilledFrom (types_of writer.old) (types table.now) id value v fs
+        → OnOk result (TakesHeld writer.old writer.new items bytes text.old.items text.new.items (types table.now)
+        (among known.old.renaming) (among known.new.renaming) id v fs) }
+    ensures limits { limits_of writer.new ≡ limits_of writer.old }
+{
+    push_needed(alloc, table, &value, &known.renaming, &mut known.pending)?;
+    settle_pending(alloc, table, known, writer, text)?;
+    let value = renamed_value(alloc, value, &known.renaming)?;
+    put_item(alloc, GoItem::Put { id, value }, writer, text)
+}
+
 // Puts a value under the ids that stand for its types.
 fn put_value(
     alloc: Global,
@@ -137,7 +165,7 @@ fn put_item(
     Ok(put?)
 }
 
-// Lets an id stand for each type that is ready, and defines those that the joined stream doesn't have.
+// Settles the pending types, unless none was defined since that was done last.
 #[tactic(auto, using(crate::proofs::TakingLaws::nothing_settled))]
 fn settle(
     alloc: Global,
@@ -156,12 +184,33 @@ fn settle(
     if known.settled == Some(count) {
         return Ok(());
     }
+    settle_pending(alloc, table, known, writer, text)?;
+    known.settled = Some(count);
+    Ok(())
+}
+
+// Lets an id stand for each pending type that is ready, and defines those that the joined stream doesn't have.
+#[tactic(auto, using(crate::proofs::TakingLaws::nothing_settled))]
+fn settle_pending(
+    alloc: Global,
+    table: &Table,
+    known: &mut KnownTypes,
+    writer: &mut GoWriter,
+    text: &mut Vec<u8>,
+) -> Result<(), TakeFault>
+    ensures settled { (items : List FilledItem) (bytes : List ℕ) → HasPut writer.old items bytes
+        → IsRenaming (among known.old.renaming) (types table.now) (types_of writer.old)
+        → OnOk result (Settles writer.old writer.new items bytes text.old.items text.new.items (types table.now)
+        (among known.old.renaming) (among known.new.renaming)) }
+    ensures limits { limits_of writer.new ≡ limits_of writer.old }
+{
+    if known.pending.is_empty() {
+        return Ok(());
+    }
     let ready = take_ready(alloc, table, &mut known.pending)?;
     let ids = ready.as_slice();
     number(alloc, table, writer.table(), ids, &mut known.renaming)?;
-    define_all(alloc, table, ids, &known.renaming, writer, text)?;
-    known.settled = Some(count);
-    Ok(())
+    define_all(alloc, table, ids, &known.renaming, writer, text)
 }
 
 // Takes those of the types that are ready; the others stay.

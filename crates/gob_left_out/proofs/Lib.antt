@@ -5,3 +5,5 @@ pub mod MayLaws
 pub mod PartLaws
 pub mod StayLaws
 pub mod WalkLaws
+pub mod TallyLaws
+pub mod TallyTextLaws

@@ -16,6 +16,7 @@ use Rattle.gob_match.proofs.SearchLaws.{below_or_past, slice_get-append_right}
 use Rattle.gob_left_out.specs.declared.field.UnwantedField.{UnwantedField}
 use Rattle.gob_left_out.specs.declared.walk.Met.{Met}
 use Rattle.gob_left_out.specs.LeftOut.{AreLeftOut, HasRow, LeavesOut, Row}
+use Rattle.gob_left_out.specs.Tally.{same_field}
 use Rattle.gob_left_out.specs.Machine.Walk.{Behind, IsAlone, Leaves, Meets, Notes, SomeOf}
 use Rattle.gob_types.specs.Table.{Table}
 use Rattle.gob_value.specs.Tree.{Tree}
@@ -200,14 +201,11 @@ meets_behind {old = old} {inner = inner} {last = last} {new = new} {s = s} {P = 
     }
 
 -- ---- a field is noted
-abbrev pub same_field : UnwantedField → UnwantedField → Bool
-same_field x y = same_pair x.pair y.pair && (x.number == y.number)
-
 both_true : (a b : Bool) → (a && b) ≡ true → (a ≡ true) × (b ≡ true)
 both_true true b e = (refl, e)
 both_true false b e = absurd (true≢false (sym e))
 
-same_exact_field : (x y : UnwantedField) → same_field x y ≡ true → x ≡ y
+pub same_exact_field : (x y : UnwantedField) → same_field x y ≡ true → x ≡ y
 same_exact_field x y e =
     let b = both_true (same_pair x.pair y.pair) (x.number == y.number) e in
     let p = same_exact x.pair y.pair b.0 in

@@ -1,2 +1,4 @@
 pub mod LeftOut
 pub mod Machine
+pub mod Tally
+pub mod TallyText

@@ -8,15 +8,19 @@
 //!
 //! - [`left_out`] finds the fields that a value leaves out, each once, with the steps to the first of them.
 //! - [`may_leave_out`] says of two types that match whether a value of theirs may leave out any.
+//! - [`Tally`] counts over many values how many of them leave out each field.
 #![tactic(auto)]
 
 mod field;
 mod kinds;
 mod may;
 mod noted;
+mod tally;
+mod tally_text;
 mod walk;
 
 pub use field::UnwantedField;
 pub use may::may_leave_out;
 pub use noted::LeftOut;
+pub use tally::{TalliedField, Tally};
 pub use walk::left_out;

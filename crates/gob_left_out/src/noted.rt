@@ -28,8 +28,8 @@ impl Model for LeftOut {
 }
 
 impl LeftOut {
-    /// None so far.
-    pub(crate) fn new(alloc: Global) -> LeftOut
+    /// No field.
+    pub fn new(alloc: Global) -> LeftOut
         ensures { result ≡ [] }
     {
         LeftOut {

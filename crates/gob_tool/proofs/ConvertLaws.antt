@@ -5,7 +5,6 @@ use Rattle.gob_types.specs.declared.id.TypeId.{TypeId}
 use Rattle.gob_types.specs.Base.{base_table}
 use Rattle.gob_types.specs.Table.{Table}
 use Rattle.gob_types.proofs.PublicLaws.{Keeps}
-use Rattle.gob_value.specs.Top.{SpellsTop}
 use Rattle.gob_value.specs.Tree.{Tree}
 use Rattle.gob_value.proofs.PublicLaws.{spells_on, top_back}
 use Rattle.gob_match.proofs.ReceiveLaws.{no_deeper}
@@ -83,21 +82,20 @@ module _ {L M : Bounds} (deep_as : M.depth ≡ L.depth) (types_as : M.types ≡ 
 
   -- ---- the values behind them
   values_stand : {S T U V W : Table} {u : TypeId} {offset : ℕ} {items : List StreamItem} {bytes text : List ℕ}
-      (low : ℕ) → MayPut W u → ((v : Tree) (b : List ℕ) → SpellsTop U u v b → SpellsTop W u v b)
-      → AreItems base_table L S offset items bytes V
+      (low : ℕ) → MayPut W u → Keeps W U → AreItems base_table L S offset items bytes V
       → AreReceivedIn form.Item T U u items text → length text ≤ M.item → low + length text ≤ M.stream
       → ValuesStand M T U W u low items text
-  values_stand low may back no_more no_item short fits = record { received = []; are = no_put; stands = no_more }
-  values_stand low may back (and_then (counted x l s (of_definition m d y z n k)) e r) (definition h) short fits =
-      let rest = values_stand low may back r h short fits in
+  values_stand low may keeps no_more no_item short fits = record { received = []; are = no_put; stands = no_more }
+  values_stand low may keeps (and_then (counted x l s (of_definition m d y z n k)) e r) (definition h) short fits =
+      let rest = values_stand low may keeps r h short fits in
       record { received = rest.received; are = no_put_of rest.are; stands = rest.stands }
-  values_stand {u = u} low may back (and_then (counted x l s (of_value m deep n k)) e r)
-      (value {w = w} {text = text} said match receives (spells_value spells h) none hs) short fits =
+  values_stand {u = u} low may keeps (and_then (counted x l s (of_value m deep n k)) e r)
+      (value {w = w} {text = text} said match receives (spells_value spells h) hs) short fits =
       let size = length-append said text in
       let less = no_deeper receives in
       let item = numbered low h (of_value may (omega (arith, deep, less, deep_as)) h.before.names
-      (back w _ spells)) (omega (arith, size, short)) (omega (arith, size, fits)) in
-      let rest = values_stand (low + length said) may back r hs (omega (arith, size, short))
+      (top_back keeps may.ready spells)) (omega (arith, size, short)) (omega (arith, size, fits)) in
+      let rest = values_stand (low + length said) may keeps r hs (omega (arith, size, short))
       (omega (arith, size, fits)) in
       record {
         received = puts u w ∷ rest.received;
@@ -106,19 +104,17 @@ module _ {L M : Bounds} (deep_as : M.depth ≡ L.depth) (types_as : M.types ≡ 
       }
 
 -- ---- both
-pub has_converted : {L : Bounds} {wanted bytes definitions text : List ℕ} {T U S : Table} {u : TypeId}
-    {given items : List StreamItem} {P : List ℕ → Type 0} → Stream base_table L given wanted S
+pub has_converted : {L : Bounds} {wanted bytes definitions text : List ℕ} {T U : Table} {u : TypeId}
+    {given items : List StreamItem} {P : List ℕ → Type 0} → Stream base_table L given wanted U
     → first_type given ≡ Some u → AreSpelled (in_front given) definitions
-    → ((v : Tree) (b : List ℕ) → SpellsTop U u v b → SpellsTop S u v b)
     → BeginsWithStream base_table L bytes items → AreReceivedIn form.Item T U u items text → P (definitions ++ text)
     → HasConverted L (in_front given) U u P T items
-has_converted {L = L} {definitions = definitions} {text = text} s first front back b values holds =
+has_converted {L = L} {definitions = definitions} {text = text} s first front b values holds =
     let size = length-append definitions text in
     let M : Bounds = as_long_as (definitions ++ text) L in
     let f = front_stands {L = L} {M = M} refl refl 0 (keeps_itself base_table) s first front (omega (arith, size))
     (omega (arith, size)) in
-    let v = values_stand {L = L} {M = M} refl refl (length definitions) f.may
-    (λ v b p. top_back f.keeps f.may.ready (back v b p)) b.stream values
+    let v = values_stand {L = L} {M = M} refl refl (length definitions) f.may f.keeps b.stream values
     (omega (arith, size)) (omega (arith, size)) in
     record {
       received = v.received;

@@ -14,4 +14,3 @@ mod TidiedLaws
 mod FormLaws
 pub mod ReaderRuns
 pub mod Profile
-mod ConvertWithRuns

@@ -11,14 +11,12 @@ use Rattle.gob_value.specs.Tree.{Tree, depth}
 use Rattle.gob_value.specs.Within.{FitsWithin}
 use Rattle.gob_value.proofs.PublicLaws.{spells_on}
 use Rattle.gob_match.proofs.PublicLaws.{match_on, receives_on}
-use Rattle.gob_left_out.proofs.PublicLaws.{left_back}
 use Rattle.gob_stream.specs.Bounds.{Bounds}
 use Rattle.gob_stream.specs.Item.{StreamItem, puts}
 use Rattle.gob_stream.specs.Body.{definition as of_definition, value as of_value}
 use Rattle.gob_stream.specs.Stream.{counted, AreItems, no_more, and_then}
 use Rattle.gob_tool.specs.Machine.Taken.{AreSent, none_sent, defined, sent}
-use Rattle.gob_tool.specs.Machine.Received.{AreReceivedIn, MayBe, no_item, definition, value}
-use Rattle.gob_tool.specs.Taking.{LeaveNothing, no_field, no_field_left, no_field_of}
+use Rattle.gob_tool.specs.Machine.Received.{AreReceivedIn, no_item, definition, value}
 use Rattle.gob_tool.specs.Taking.{AreReceived, no_item as no_line, definition as no_line_of, value as line_of}
 use Rattle.gob_tool.specs.declared.received_form.ReceivedForm.{ReceivedForm}
 use Rattle.gob_tool.specs.declared.received_form.ReceivedForm.TheVariants as form
@@ -44,22 +42,14 @@ stream_sent deep (and_then (counted u l s (of_value p d n k)) e r) keeps =
     (stream_sent deep r keeps)
 
 -- ---- what is received
-may_on : {V W U : Table} {t u : TypeId} (v : Tree) (how : ReceivedForm) → Keeps V W → IsReady V t → IsReady U u
-    → MayBe how V U t u v → MayBe how W U t u v
-may_on v form.Line keeps ready wanted may = may
-may_on v form.Item keeps ready wanted may = may
-may_on v form.WholeItem keeps ready wanted may =
-    λ path x l. may path x (left_back keeps (record { stream = ready; wanted = wanted }) l)
-
 pub received_on : {how : ReceivedForm} {U : Table} {u : TypeId} (wanted : IsReady U u) {base : Table} {L : Bounds}
     {T V W : Table} {offset : ℕ} {items : List StreamItem} {b text : List ℕ} → AreItems base L T offset items b V
     → Keeps V W → AreReceivedIn how V U u items text → AreReceivedIn how W U u items text
 received_on wanted no_more keeps no_item = no_item
 received_on wanted (and_then (counted x l s (of_definition p d y n q k)) e r) keeps (definition h) = definition
     (received_on wanted r keeps h)
-received_on {how = how} wanted (and_then (counted x l s (of_value p d n k)) e r) keeps (value {v = v} said m w is may h) =
-    let ready = ready_on (stream_keeps r) p.ready in
-    value said (match_on keeps ready wanted m) (receives_on keeps w) is (may_on v how keeps ready wanted may)
+received_on wanted (and_then (counted x l s (of_value p d n k)) e r) keeps (value said m w is h) =
+    value said (match_on keeps (ready_on (stream_keeps r) p.ready) wanted m) (receives_on keeps w) is
     (received_on wanted r keeps h)
 
 -- one behind another
@@ -69,28 +59,15 @@ pub received_append : {how : ReceivedForm} {T U : Table} {u : TypeId} {items oth
 received_append no_item q = q
 received_append (definition p) q = definition (received_append p q)
 received_append {how = how} {T = T} {U = U} {u = u} {others = others} {b = b} (value {t = t} {v = v} {items = items}
-    {text = text} said m r is may p) q =
+    {text = text} said m r is p) q =
     subst (λ (l : List ℕ). AreReceivedIn how T U u (puts t v ∷ (items ++ others)) l)
-    (sym (append_assoc said text b)) (value said m r is may (received_append p q))
+    (sym (append_assoc said text b)) (value said m r is (received_append p q))
 
 -- as lines
 pub lines_received : {T U : Table} {u : TypeId} {items : List StreamItem} {text : List ℕ}
     → AreReceivedIn form.Line T U u items text → AreReceived T U u items text
 lines_received no_item = no_line
 lines_received (definition h) = no_line_of (lines_received h)
-lines_received {T = T} {U = U} {u = u} (value {t = t} {v = v} {items = items} {text = text} said m r is may h) =
+lines_received {T = T} {U = U} {u = u} (value {t = t} {v = v} {items = items} {text = text} said m r is h) =
     subst (λ (l : List ℕ). AreReceived T U u (puts t v ∷ items) (l ++ text)) (sym is)
     (line_of m r (lines_received h))
-
--- as items, and none leaves out a field
-pub items_received : {T U : Table} {u : TypeId} {items : List StreamItem} {text : List ℕ}
-    → AreReceivedIn form.WholeItem T U u items text → AreReceivedIn form.Item T U u items text
-items_received no_item = no_item
-items_received (definition h) = definition (items_received h)
-items_received (value said m r is may h) = value said m r is tt (items_received h)
-
-pub nothing_left : {T U : Table} {u : TypeId} {items : List StreamItem} {text : List ℕ}
-    → AreReceivedIn form.WholeItem T U u items text → LeaveNothing T U u items
-nothing_left no_item = no_field
-nothing_left (definition h) = no_field_of (nothing_left h)
-nothing_left (value said m r is may h) = no_field_left may (nothing_left h)

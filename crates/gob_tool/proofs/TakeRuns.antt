@@ -1,5 +1,5 @@
 -- How a run that receives values goes on from item to item, and how it ends.
-use Rattle.std.proofs.Common.{Some, ◌≡◌, ◌≢◌, IfErr, ℕ, arith, List, [], ◌∷◌, ◌++◌, Option}
+use Rattle.std.proofs.Common.{Some, ◌≡◌, ℕ, arith, List, [], ◌∷◌, ◌++◌, Option}
 use Rattle.std.proofs.Common.{ap, append_assoc, Result, Ok, Err, ◌∙◌, sym, subst, refl, append-nil, inl, inr}
 use Rattle.std.specs.Io.KnownBytes.{Appends, Keeps}
 use Rattle.std.proofs.KnownBytes.{Appends-kept, Appends-trans}
@@ -7,13 +7,13 @@ use Rattle.gob_types.specs.Base.{base_table}
 use Rattle.gob_types.specs.Ready.{IsReady}
 use Rattle.gob_types.specs.Table.{Table}
 use Rattle.gob_types.specs.declared.id.TypeId.{TypeId}
+use Rattle.gob_match.specs.Faults.{IsMatchFault}
+use Rattle.gob_match.specs.declared.fault.MatchFault.{MatchFault}
+use Rattle.gob_match.specs.declared.fault.MatchFault.TheVariants as matching
 use Rattle.gob_match.specs.Matching.{Match}
-use Rattle.gob_match.specs.Pairs.{of_types}
-use Rattle.gob_left_out.specs.LeftOut.{LeavesOut}
 use Rattle.gob_match.specs.Received.{Receives}
 use Rattle.gob_read.specs.Calls.Builders.{tree_building}
 use Rattle.gob_value.specs.Tree.{Tree}
-use Rattle.gob_value.specs.View.{view}
 use Rattle.gob_value.specs.Within.{FitsWithin}
 use Rattle.gob_value.specs.declared.value.Value.{Value}
 use Rattle.gob_stream.specs.Body.{value as of_value}
@@ -38,20 +38,18 @@ use Rattle.gob_tool.proofs.ShowLaws.{begins_first, meant, same_behind}
 use Rattle.gob_tool.proofs.TextLaws.{begun, ended_begins, runs_as, runs_begun, value_text}
 use Rattle.gob_tool.specs.Ending.{CountsOnlyWrites, EndsRun, ends_so, flush_fails}
 use Rattle.gob_tool.specs.Converting.{in_front}
-use Rattle.gob_tool.specs.Fault.{IsOfWanted}
-use Rattle.gob_tool.specs.Taking.{clashes, CountsTakeReads, first_type, leaves_out, Receiving, receives}
+use Rattle.gob_tool.specs.Taking.{clashes, CountsTakeReads, first_type, Receiving, receives}
 use Rattle.gob_tool.specs.Taking.{stops_at_wanted, takes_behind as received_behind}
-use Rattle.gob_tool.specs.Machine.Received.{AreReceivedIn, AreSpelled, FormAnswers, HasIn, MayBe, no_item, Says}
-use Rattle.gob_tool.specs.Machine.Received.{text_in_front, wants_all}
+use Rattle.gob_tool.specs.Machine.Received.{AreReceivedIn, AreSpelled, FormAnswers, HasIn, no_item, Says, text_in_front}
 use Rattle.gob_tool.specs.Machine.Received.{value as received_value}
 use Rattle.gob_tool.specs.declared.received_form.ReceivedForm.{ReceivedForm}
 use Rattle.gob_tool.specs.declared.received_form.ReceivedForm.TheVariants as form
 use Rattle.gob_tool.specs.Machine.Lines.{Trees}
-use Rattle.gob_tool.specs.Machine.Receiver.{Clashes, clashes_with, IsReceived, IsReceiveFault, KeepsKnown, leaves_out_field}
+use Rattle.gob_tool.specs.Machine.Receiver.{Clashes, clashes_with, IsReceived, KeepsKnown}
 use Rattle.gob_tool.specs.Machine.Receiver.{ReceivesNone, StaysKnown, TextsOrClash}
 use Rattle.gob_tool.specs.Showing.{AppendsPrefix, CountsReadFaults}
 use Rattle.gob_tool.specs.Machine.Counting.{CountsCounting}
-use Rattle.gob_tool.specs.Machine.Taken.{AreSent, KnowsWanted, defined, sent, views_given}
+use Rattle.gob_tool.specs.Machine.Taken.{AreSent, defined, sent, views_given}
 use Rattle.gob_tool.proofs.EndLaws.{all_kept, prefix_kept}
 use Rattle.gob_tool.proofs.LinesStay.{keeps_itself}
 use Rattle.gob_tool.proofs.ReaderRuns.{last_item, read_alone}
@@ -60,8 +58,7 @@ use Rattle.gob_stream.specs.Calls.ReaderOf.{StepsOnBy}
 use Rattle.gob_stream.specs.Stepping.{StandsBy}
 use Rattle.gob_stream.specs.StrictStepping.{strict_stepping}
 use Rattle.gob_tool.proofs.ConvertLaws.{has_converted}
-use Rattle.gob_tool.proofs.ReceivedLaws.{items_received, lines_received, nothing_left, received_append}
-use Rattle.gob_tool.proofs.ReceivedLaws.{received_on, stream_sent}
+use Rattle.gob_tool.proofs.ReceivedLaws.{lines_received, received_append, received_on, stream_sent}
 
 -- ---- what a step gave
 pub given_views : {o : Option (declared.Item Value)} {more : List StreamItem} → GivesItems tree_building.means o more
@@ -152,6 +149,14 @@ prefix_behind old mid new x y a p = record {
   out = Appends-trans old mid new x p.prefix a p.out;
 }
 
+-- what is known of the wanted stream: its items, and the spelling of the definitions in front of the wanted type
+pub record KnowsWanted (L : Bounds) (U : Table) (u : TypeId) (definitions : List ℕ) (given : List StreamItem) : Type
+    0 where
+  pub bytes : List ℕ
+  pub stream : Stream base_table L given bytes U
+  pub first : first_type given ≡ Some u
+  pub front : AreSpelled (in_front given) definitions
+
 module _ (how : ReceivedForm) {U : Table} {u : TypeId} (wanted : IsReady U u) {L : Bounds} {bytes definitions : List ℕ}
     {given : List StreamItem} (knows : KnowsWanted L U u definitions given) where
   -- by the types behind all of them
@@ -173,9 +178,7 @@ module _ (how : ReceivedForm) {U : Table} {u : TypeId} (wanted : IsReady U u) {L
           → BeginsWithStream base_table L bytes items → AreReceivedIn how T U u items text
           → P (text_in_front how definitions ++ text) → HasIn how L given U u P T items
       in_form form.Line {text = text} P b r p = record { lines = text; received = lines_received r; holds = p }
-      in_form form.Item P b r p = has_converted {P = P} knows.stream knows.first knows.front knows.back b r p
-      in_form form.WholeItem P b r p =
-          (has_converted {P = P} knows.stream knows.first knows.front knows.back b (items_received r) p, nothing_left r)
+      in_form form.Item P b r p = has_converted {P = P} knows.stream knows.first knows.front b r p
 
   module _ (now old mid new : Option (List ℕ)) (front : Appends old mid (text_in_front how definitions)) where
     all_written : {T : Table} (items : List StreamItem) (b : BeginsWithStream base_table L bytes items)
@@ -194,8 +197,8 @@ module _ (how : ReceivedForm) {U : Table} {u : TypeId} (wanted : IsReady U u) {L
     clash_behind : {i : StreamItem} {item : declared.Item Value} {f : ToolFault} (items : List StreamItem)
         (b : BeginsWithStream base_table L bytes (items ++ i ∷ []))
         → OfTexts strict (IsReceived how U u) L bytes (Appends mid new) items → ItemMeans tree_building.means item i
-        → Clashes how U u b.table item f
-        → Receiving (wants_all how) L bytes now U u (HasIn how L given U u (Appends old new))
+        → Clashes U u b.table item f
+        → Receiving L bytes now U u (HasIn how L given U u (Appends old new))
         (HasIn how L given U u (AppendsPrefix old new)) (Err f)
     clash_behind items b o means_definition x = elim x [ ]
     clash_behind items b o (means_value m) (clashes_with c) =
@@ -208,20 +211,9 @@ module _ (how : ReceivedForm) {U : Table} {u : TypeId} (wanted : IsReady U u) {L
           received = all_written items t.0 o (received_on wanted t.0.stream t.1 (all_received o.texts t.0));
           clash = c;
         })
-    clash_behind items b o (means_value {id = id} m) (leaves_out_field {path = path} {x = x} all l) =
-        let t = begins_first items _ b in
-        leaves_out all (record {
-          items = items;
-          id = _;
-          value = _;
-          begins = b;
-          received = all_written items t.0 o (received_on wanted t.0.stream t.1 (all_received o.texts t.0));
-          field = x;
-          left = subst (λ v. LeavesOut b.table U (of_types id u) v path.items x) m l;
-        })
 
     pub received_so : {r : Result (Unit {0}) ToolFault} → TextsOrClash how U u L bytes now mid new r
-        → Receiving (wants_all how) L bytes now U u (HasIn how L given U u (Appends old new))
+        → Receiving L bytes now U u (HasIn how L given U u (Appends old new))
         (HasIn how L given U u (AppendsPrefix old new)) r
     received_so {r = r} (answers h) =
         receives (runs_begun strict L bytes now
@@ -235,7 +227,7 @@ module _ (how : ReceivedForm) {U : Table} {u : TypeId} (wanted : IsReady U u) {L
 
   -- where what stands in front of them can't go out
   pub none_received : {now old new : Option (List ℕ)} → AppendsPrefix old new (text_in_front how definitions)
-      → Receiving (wants_all how) L bytes now U u (HasIn how L given U u (Appends old new))
+      → Receiving L bytes now U u (HasIn how L given U u (Appends old new))
       (HasIn how L given U u (AppendsPrefix old new)) (Err fault.Write)
   none_received {old = old} {new = new} p =
       let b : BeginsWithStream base_table L bytes [] =
@@ -260,23 +252,12 @@ has_as form.Item L given U u P Q f T items h = record {
   stream = h.stream;
   holds = f _ h.holds;
 }
-has_as form.WholeItem L given U u P Q f T items h = (
-  record {
-    received = h.0.received;
-    are = h.0.are;
-    bytes = h.0.bytes;
-    table = h.0.table;
-    stream = h.0.stream;
-    holds = f _ h.0.holds;
-  },
-  h.1,
-)
 
 -- what is received by the items of the wanted stream, its types and the wanted one
 abbrev Behind : ReceivedForm → Bounds → (bytes : List ℕ) → (now old new : Option (List ℕ)) → (given : List StreamItem)
     → Table → TypeId → Result (Unit {0}) ToolFault → Type 0
-Behind how L bytes now old new given U u result = Receiving (wants_all how) L bytes now U u
-    (HasIn how L given U u (Appends old new)) (HasIn how L given U u (AppendsPrefix old new)) result
+Behind how L bytes now old new given U u result = Receiving L bytes now U u (HasIn how L given U u (Appends old new))
+    (HasIn how L given U u (AppendsPrefix old new)) result
 
 module _ (how : ReceivedForm) (L : Bounds) (bytes : List ℕ) (now old mid new : Option (List ℕ)) (k : Keeps mid new)
     (given : List StreamItem) (U : Table) (u : TypeId) where
@@ -290,16 +271,6 @@ module _ (how : ReceivedForm) (L : Bounds) (bytes : List ℕ) (now old mid new :
       receives (runs_as strict L bytes now (HasIn how L given U u (Appends old mid))
       (HasIn how L given U u (Appends old new)) (HasIn how L given U u (AppendsPrefix old mid))
       (HasIn how L given U u (AppendsPrefix old new)) r h whole prefix)
-  kept_behind (leaves_out all c) = leaves_out all (record {
-    items = c.items;
-    id = c.id;
-    value = c.value;
-    begins = c.begins;
-    received = has_as how L given U u (Appends old mid) (Appends old new) (λ all a. Appends-kept old mid new all a k)
-        c.begins.table c.items c.received;
-    field = c.field;
-    left = c.left;
-  })
   kept_behind (clashes c) = clashes (record {
     items = c.items;
     id = c.id;
@@ -314,7 +285,7 @@ module _ (how : ReceivedForm) (L : Bounds) (bytes : List ℕ) (now old mid new :
   cut (receives w) = receives (ended_begins strict w (has_as how L given U u (Appends old mid) (AppendsPrefix old new)
       (λ all a. all_kept old mid new all a k)))
 
-  pub flushed : {answer result : Result (Unit {0}) ToolFault} → EndsRun answer result
+  flushed : {answer result : Result (Unit {0}) ToolFault} → EndsRun answer result
       → Behind how L bytes now old mid given U u answer → Behind how L bytes now old new given U u result
   flushed (ends_so e) h = subst (λ r. Behind how L bytes now old new given U u r) (sym e) (kept_behind h)
   flushed (flush_fails o e) h =
@@ -405,58 +376,12 @@ sent_ready (sent r n f s) = r
 pub sent_fits : {T : Table} {t : TypeId} {v : Tree} → AreSent T (puts t v ∷ []) → FitsWithin T t 1000 v
 sent_fits (sent r n f s) = f
 
-pub clash_given : (how : ReceivedForm) (T U : Table) (t u : TypeId) (value : Value) (f : ToolFault)
-    → IsReceiveFault how T U t u (view value) f → ReceivesNone how U u T (variant.Put t value) f
-clash_given how T U t u value (fault.Clash path reason) h = clashes_with h
-clash_given how T U t u value (fault.LeftOut path number) h = leaves_out_field h.0 h.2
-clash_given how T U t u value fault.Memory h = tt
-clash_given how T U t u value (fault.Refused R) h = absurd h
-clash_given how T U t u value (fault.Wanted R) h = absurd h
-clash_given how T U t u value fault.NoWantedType h = absurd h
-clash_given how T U t u value fault.Read h = absurd h
-clash_given how T U t u value fault.Write h = absurd h
-
--- what a fault at an item isn't
-pub none_unread : (how : ReceivedForm) (U T : Table) (u : TypeId) (i : declared.Item Value) (f : ToolFault)
-    → ReceivesNone how U u T i f → f ≢ fault.Read
-none_unread how U T u i (fault.Refused R) h e = h
-none_unread how U T u i (fault.Wanted R) h e = h
-none_unread how U T u i fault.NoWantedType h e = h
-none_unread how U T u i (fault.Clash path reason) h e = absurd (cc e)
-none_unread how U T u i (fault.LeftOut path number) h e = absurd (cc e)
-none_unread how U T u i fault.Read h e = h
-none_unread how U T u i fault.Write h e = h
-none_unread how U T u i fault.Memory h e = absurd (cc e)
-
-pub none_of_wanted : (how : ReceivedForm) (U T : Table) (u : TypeId) (i : declared.Item Value) (f : ToolFault)
-    → ReceivesNone how U u T i f → IsOfWanted f → ⊥
-none_of_wanted how U T u i (fault.Refused R) h w = h
-none_of_wanted how U T u i (fault.Wanted R) h w = h
-none_of_wanted how U T u i fault.NoWantedType h w = h
-none_of_wanted how U T u i (fault.Clash path reason) h w = w
-none_of_wanted how U T u i (fault.LeftOut path number) h w = w
-none_of_wanted how U T u i fault.Read h w = h
-none_of_wanted how U T u i fault.Write h w = h
-none_of_wanted how U T u i fault.Memory h w = w
-
-pub none_unwritten : (how : ReceivedForm) (U T : Table) (u : TypeId) (i : declared.Item Value) (failures : ℕ)
-    (r : Result (Unit {0}) ToolFault) → IfErr r (ReceivesNone how U u T i) → CountsOnlyWrites failures failures r
-none_unwritten how U T u i failures (Ok done) h = refl
-none_unwritten how U T u i failures (Err (fault.Refused R)) h = refl
-none_unwritten how U T u i failures (Err (fault.Wanted R)) h = refl
-none_unwritten how U T u i failures (Err fault.NoWantedType) h = refl
-none_unwritten how U T u i failures (Err (fault.Clash path reason)) h = refl
-none_unwritten how U T u i failures (Err (fault.LeftOut path number)) h = refl
-none_unwritten how U T u i failures (Err fault.Read) h = refl
-none_unwritten how U T u i failures (Err fault.Write) h = absurd h
-none_unwritten how U T u i failures (Err fault.Memory) h = refl
-
-pub err_as : {P Q : ToolFault → Type 0} (r : Result (Unit {0}) ToolFault) → IfErr r P → ((f : ToolFault) → P f → Q f)
-    → IfErr r Q
-err_as (Ok u) h f = tt
-err_as (Err e) h f = f e h
+pub clash_given : (T U : Table) (t u : TypeId) (value : Value) (e : MatchFault) → IsMatchFault T U t u e
+    → ReceivesNone U u T (variant.Put t value) e
+clash_given T U t u value (matching.Clash path reason) h = clashes_with h
+clash_given T U t u value matching.Memory h = tt
 
 pub value_received : {how : ReceivedForm} {T U : Table} {u : TypeId} {text : List ℕ} (id : TypeId) (v w : Tree)
-    → Match T U id u → Receives T U id u v w → MayBe how T U id u v → Says how U u w text → AreReceivedIn how T U u (puts id v ∷ []) text
-value_received {how = how} {T = T} {U = U} {u = u} {text = text} id v w m r may is =
-    subst (λ l. AreReceivedIn how T U u (puts id v ∷ []) l) (append-nil text) (received_value text m r is may no_item)
+    → Match T U id u → Receives T U id u v w → Says how U u w text → AreReceivedIn how T U u (puts id v ∷ []) text
+value_received {how = how} {T = T} {U = U} {u = u} {text = text} id v w m r is =
+    subst (λ l. AreReceivedIn how T U u (puts id v ∷ []) l) (append-nil text) (received_value text m r is no_item)

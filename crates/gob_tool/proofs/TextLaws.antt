@@ -12,7 +12,6 @@ use Rattle.gob_types.specs.Base.{base_table}
 use Rattle.gob_types.specs.Defined.{types}
 use Rattle.gob_types.specs.Table.{Table}
 use Rattle.gob_types.specs.declared.id.TypeId.{TypeId}
-use Rattle.gob_value.specs.Tree.{Tree}
 use Rattle.gob_stream.specs.Bounds.{Bounds}
 use Rattle.gob_stream.specs.Calls.ReaderOf.{EndsWithIn, HasReadBy, PassesOneBy, StepsOnBy, StopsBy, StopsIn}
 use Rattle.gob_stream.specs.Calls.ReaderOf.{session_of, types_behind, waits_in}

@@ -1,7 +1,6 @@
 -- How a stream is read for the type of its first value.
 use Rattle.std.proofs.Common.{◌≡◌, ℕ, arith, List, [], ◌∷◌, ◌++◌, Option, Some, None, Result, Ok, Err}
-use Rattle.gob_types.specs.declared.kind.Shape.{Shape}
-use Rattle.std.proofs.Common.{map, ◌∙◌, ◌<◌, ◌^◌, ap, sym, subst, refl, append_assoc, append-nil, IfSome}
+use Rattle.std.proofs.Common.{◌∙◌, ◌<◌, ◌^◌, ap, sym, subst, refl, append_assoc, append-nil, IfSome}
 use Rattle.std.specs.Io.KnownBytes.{Appends}
 use Rattle.gob_types.specs.Base.{base_table}
 use Rattle.gob_value.specs.View.{view}
@@ -34,18 +33,14 @@ use Rattle.gob_tool.specs.Machine.Lines.{Trees}
 use Rattle.gob_tool.specs.Converting.{in_front}
 use Rattle.gob_tool.specs.Taking.{HasWanted, LacksWanted, Receiving, first_type, takes_behind}
 use Rattle.gob_tool.specs.Showing.{AppendsPrefix}
-use Rattle.gob_tool.specs.Machine.Received.{AreSpelled, FormAnswers, HasIn, none_spelled, spelled, wants_all}
+use Rattle.gob_tool.specs.Machine.Received.{AreSpelled, FormAnswers, HasIn, none_spelled, spelled}
 use Rattle.gob_tool.specs.Machine.Rewritten.{IsLastOfStream}
 use Rattle.gob_tool.specs.declared.received_form.ReceivedForm.{ReceivedForm}
 use Rattle.gob_tool.proofs.LinesStay.{keeps_itself}
 use Rattle.gob_tool.proofs.ReceivedLaws.{stream_sent}
 use Rattle.gob_tool.proofs.RewriteLaws.{is_last}
 use Rattle.gob_tool.proofs.ShowLaws.{meant}
-use Rattle.gob_tool.proofs.TakeRuns.{given_views}
-use Rattle.gob_tool.specs.Machine.Taken.{KnowsWanted, ids_in}
-use Rattle.gob_rename.specs.Renaming.{ids_defined}
-use Rattle.gob_stream.specs.Body.{Body, definition as of_definition, value as of_value}
-use Rattle.gob_stream.specs.Stream.{AreItems, IsItem, and_then, counted, no_more}
+use Rattle.gob_tool.proofs.TakeRuns.{given_views, KnowsWanted}
 
 first_append : (items others : List StreamItem) → first_type (items ++ others)
     ≡ first_type_of (first_type items) (first_type others)
@@ -70,16 +65,10 @@ first_ready {r = r} T (Some id) same p =
     (sym p.is))
 
 -- ---- from step to step
-finds_first : (r : Trees) (read : Option (List ℕ)) (definitions : List ℕ) → definitions ≡ []
+pub finds_first : (r : Trees) (read : Option (List ℕ)) (definitions : List ℕ) → definitions ≡ []
     → HasReadFrom tree_building r read read [] → FindsSo r read read None definitions
 finds_first r read definitions empty has =
     record { given = []; has = has; is = refl; are = subst (AreSpelled []) (sym empty) none_spelled }
-
-pub finds_none : (r : Trees) (read : Option (List ℕ)) (definitions : List ℕ) (ids : List TypeId) → definitions ≡ []
-    → ids ≡ [] → HasReadFrom tree_building r read read []
-    → (p : FindsSo r read read None definitions) × (ids ≡ ids_in p.given)
-unfolding finds_first
-finds_none r read definitions ids empty unnamed has = (finds_first r read definitions empty has, unnamed)
 
 -- ---- the definitions in front of the first value
 -- behind a value none is, and else all are that stand in front of one of the others
@@ -128,7 +117,7 @@ step_last {L = L} {T = T} {bytes = bytes} given (gives_one {given = g} {i = i} m
     subst (λ U. IsLastOfStream U (item_view g)) (sym same)
     (is_last given (subst (λ i. Stream base_table L (given ++ i ∷ []) bytes T) (sym (meant m)) s))
 
-finds_step : {r q r' : Trees} {read now next : Option (List ℕ)} {first found : Option TypeId}
+pub finds_step : {r q r' : Trees} {read now next : Option (List ℕ)} {first found : Option TypeId}
     {definitions more : List ℕ} {step : Advance (declared.Item Value)}
     (p : FindsSo r read now first definitions) → StepsOnFrom tree_building q r' read next p.given step
     → found ≡ first_type_of first (first_type (views_given step.item)) → Notes first step.item definitions more
@@ -142,54 +131,6 @@ finds_step {first = first} {definitions = definitions} {more = more} {step = ste
   are = subst (λ l. AreSpelled (in_front (p.given ++ l)) more) (given_views t.gives)
       (spelled_more p.given first step.item (sym p.is) p.are n);
 }
-
--- ---- the ids of its definitions
-ids_append : (items others : List StreamItem) → ids_in (items ++ others) ≡ ids_in items ++ ids_in others
-ids_append [] others = refl
-ids_append (defines id v ∷ items) others = ap (λ (l : List TypeId). id ∷ l) (ids_append items others)
-ids_append (puts id v ∷ items) others = ids_append items others
-
--- the types behind items are those before and the ones that they define
-record Defined (T U : Table) (items : List StreamItem) : Type 0 where
-  more : Table
-  grown : U ≡ T ++ more
-  named : map (λ (e : TypeId × Shape). e.0) more ≡ ids_in items
-
-defined_behind : {L : Bounds} {T U : Table} {offset : ℕ} {items : List StreamItem} {bytes : List ℕ}
-    → AreItems base_table L T offset items bytes U → Defined T U items
-defined_behind {T = T} no_more = record { more = []; grown = sym (append-nil T); named = refl }
-defined_behind {T = T} (and_then (counted x l s (of_definition {id = id} {s = shape} may deep d y n k)) e r) =
-    let h = defined_behind r in
-    record {
-      more = (id, shape) ∷ h.more;
-      grown = h.grown ∙ append_assoc T ((id, shape) ∷ []) h.more;
-      named = ap (λ (l : List TypeId). id ∷ l) h.named;
-    }
-defined_behind (and_then (counted x l s (of_value may deep n k)) e r) =
-    let h = defined_behind r in record { more = h.more; grown = h.grown; named = h.named }
-
-pub ids_of_stream : {L : Bounds} {T : Table} {items : List StreamItem} {bytes : List ℕ} {ids : List TypeId}
-    → Stream base_table L items bytes T → ids ≡ ids_in items → ids ≡ ids_defined T
-ids_of_stream s e =
-    let h = defined_behind s in e ∙ sym h.named ∙ ap (λ (T : Table). ids_defined T) (sym h.grown)
-
-ids_step : {r q r' : Trees} {read now next : Option (List ℕ)} {first : Option TypeId}
-    {definitions : List ℕ} {old new : List TypeId} {step : Advance (declared.Item Value)}
-    (p : FindsSo r read now first definitions) → (t : StepsOnFrom tree_building q r' read next p.given step)
-    → old ≡ ids_in p.given → new ≡ old ++ ids_in (views_given step.item) → new ≡ ids_in (p.given ++ t.more)
-ids_step {step = step} p t e n =
-    n ∙ ap (λ (l : List TypeId). l ++ ids_in (views_given step.item)) e
-    ∙ ap (λ (l : List StreamItem). ids_in p.given ++ ids_in l) (given_views t.gives)
-    ∙ sym (ids_append p.given t.more)
-
-pub finds_more : {r q r' : Trees} {read now next : Option (List ℕ)} {first found : Option TypeId}
-    {definitions more : List ℕ} {old new : List TypeId} {step : Advance (declared.Item Value)}
-    (p : FindsSo r read now first definitions) → StepsOnFrom tree_building q r' read next p.given step
-    → found ≡ first_type_of first (first_type (views_given step.item)) → Notes first step.item definitions more
-    → old ≡ ids_in p.given → new ≡ old ++ ids_in (views_given step.item)
-    → (p' : FindsSo r' read next found more) × (new ≡ ids_in p'.given)
-unfolding finds_step
-finds_more p t e n o i = (finds_step p t e n, ids_step p t o i)
 
 -- ---- the ends
 pub wanted_stops : (L M : Bounds) (T T' : Table) (items : List StreamItem) (bytes : List ℕ) (now : Option (List ℕ))
@@ -250,7 +191,7 @@ pub found_wanted : (how : ReceivedForm) {L : Bounds} {wanted : List ℕ} {wanted
     {t : TypeId} {definitions bytes : List ℕ} {now old new : Option (List ℕ)} {r : Result (Unit {0}) ToolFault}
     → HasWanted L wanted wanted_now (IsWantedOf V t definitions) → W ≡ V
     → ((given : List StreamItem) → KnowsWanted L W t definitions given
-    → Receiving (wants_all how) L bytes now W t (HasIn how L given W t (Appends old new))
+    → Receiving L bytes now W t (HasIn how L given W t (Appends old new))
     (HasIn how L given W t (AppendsPrefix old new))
     r) → FormAnswers how L wanted bytes wanted_now now old new r
 found_wanted how {L = L} {wanted = wanted} {W = W} {t = t} {bytes = bytes} {now = now} {old = old} {new = new} {r = r} h
@@ -261,15 +202,13 @@ found_wanted how {L = L} {wanted = wanted} {W = W} {t = t} {bytes = bytes} {now 
       end = h.end;
       id = h.id;
       first = h.first;
-      holds = subst (λ (u : TypeId). Receiving (wants_all how) L bytes now h.table u (HasIn how L h.items h.table u (Appends old new))
+      holds = subst (λ (u : TypeId). Receiving L bytes now h.table u (HasIn how L h.items h.table u (Appends old new))
           (HasIn how L h.items h.table u (AppendsPrefix old new)) r) (sym h.holds.1)
-          (subst (λ (U : Table). Receiving (wants_all how) L bytes now U t (HasIn how L h.items U t (Appends old new))
+          (subst (λ (U : Table). Receiving L bytes now U t (HasIn how L h.items U t (Appends old new))
           (HasIn how L h.items U t (AppendsPrefix old new)) r) (e ∙ sym h.holds.0) (behind h.items (record {
             bytes = wanted;
-            table = W;
             stream = subst (λ (U : Table). Stream base_table L h.items wanted U) (h.holds.0 ∙ sym e) h.stream;
             first = h.first ∙ ap (λ u. Some u) h.holds.1;
             front = h.holds.2;
-            back = λ v b p. p;
           })));
     })

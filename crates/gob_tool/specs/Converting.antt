@@ -1,6 +1,6 @@
 -- What a run answers that writes the stream of the values of another, received as values of a wanted type, and what it
 -- has written then. (docs/LIBRARY.md, Matching and receiving; docs/FORMAT.md, The program: this project's own.)
-use Rattle.std.specs.Prelude.{ℕ, false, List, [], ◌∷◌, ◌++◌, length, Option, Result}
+use Rattle.std.specs.Prelude.{ℕ, List, [], ◌∷◌, ◌++◌, length, Option, Result}
 use Rattle.gob_types.specs.declared.id.TypeId.{TypeId}
 use Rattle.gob_types.specs.Base.{base_table}
 use Rattle.gob_types.specs.Table.{Table}
@@ -48,5 +48,5 @@ pub record HasConverted (L : Bounds) (definitions : List StreamItem) (U : Table)
 abbrev pub ConvertAnswers : Bounds → (wanted bytes : List ℕ) → (wanted_now now old new : Option (List ℕ))
     → Result (Unit {0}) ToolFault → Type 0
 ConvertAnswers L wanted bytes wanted_now now old new result =
-    WantedAnswers false (λ given U u P T items. HasConverted L (in_front given) U u P T items) L wanted bytes wanted_now now
+    WantedAnswers (λ given U u P T items. HasConverted L (in_front given) U u P T items) L wanted bytes wanted_now now
     old new result

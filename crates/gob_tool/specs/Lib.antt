@@ -5,7 +5,6 @@ pub mod Fault
 pub mod Showing
 pub mod Taking
 pub mod Converting
-pub mod ConvertWith
 pub mod Checking
 pub mod Rewriting
 pub mod Running

@@ -8,4 +8,3 @@ pub mod Taken
 pub mod Received
 pub mod FormsGo
 pub mod LinesGo
-pub mod Renamed

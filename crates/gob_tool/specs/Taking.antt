@@ -1,7 +1,7 @@
 -- What a run answers that receives the values of a stream as values of a wanted type, and what it has written then.
 -- (docs/LIBRARY.md, Matching and receiving; docs/FORMAT.md, The program: this project's own.)
 use Rattle.std.specs.Global.{Global}
-use Rattle.std.specs.Prelude.{◌≡◌, ℕ, ◌⊎◌, Bool, false, IsTrue, List, [], ◌∷◌, ◌++◌, Option, Some, None, Result, Err, Vec}
+use Rattle.std.specs.Prelude.{◌≡◌, ℕ, ◌⊎◌, List, [], ◌∷◌, ◌++◌, Option, Some, None, Result, Err, Vec}
 use Rattle.std.specs.Io.KnownBytes.{Appends}
 use Rattle.gob_types.specs.declared.id.TypeId.{TypeId}
 use Rattle.gob_types.specs.Base.{base_table}
@@ -11,10 +11,7 @@ use Rattle.gob_match.specs.declared.reason.ClashReason.{ClashReason}
 use Rattle.gob_match.specs.declared.step.TypeStep.{TypeStep}
 use Rattle.gob_match.specs.Clashing.{IsLeastClash}
 use Rattle.gob_match.specs.Matching.{Match}
-use Rattle.gob_match.specs.Pairs.{of_types}
 use Rattle.gob_match.specs.Received.{Receives}
-use Rattle.gob_left_out.specs.declared.field.UnwantedField.{UnwantedField}
-use Rattle.gob_left_out.specs.LeftOut.{LeavesNothing, LeavesOut}
 use Rattle.gob_stream.specs.Bounds.{Bounds}
 use Rattle.gob_stream.specs.Devices.{counts_up}
 use Rattle.gob_stream.specs.Item.{StreamItem, defines, puts}
@@ -72,37 +69,15 @@ pub record ClashesBehind (L : Bounds) (bytes : List ℕ) (U : Table) (u : TypeId
   pub received : P begins.table items
   pub clash : IsLeastClash begins.table U id u path reason
 
--- no value among the items leaves out a field
-pub data LeaveNothing (T U : Table) (u : TypeId) : List StreamItem → Type 0 where
-  no_field : LeaveNothing T U u []
-  no_field_of : {id : TypeId} {described : Tree} {items : List StreamItem} → LeaveNothing T U u items
-      → LeaveNothing T U u (defines id described ∷ items)
-  no_field_left : {t : TypeId} {v : Tree} {items : List StreamItem} → LeavesNothing T U (of_types t u) v
-      → LeaveNothing T U u items → LeaveNothing T U u (puts t v ∷ items)
-
--- the bytes begin with the stream of some items and of a value that leaves out the field to which the path leads, and
--- this holds of the items before it
-pub record LeavesOutBehind (L : Bounds) (bytes : List ℕ) (U : Table) (u : TypeId) (path : List TypeStep)
-    (P : Table → List StreamItem → Type 0) : Type 0 where
-  pub items : List StreamItem
-  pub id : TypeId
-  pub value : Tree
-  pub begins : BeginsWithStream base_table L bytes (items ++ puts id value ∷ [])
-  pub received : P begins.table items
-  pub field : UnwantedField
-  pub left : LeavesOut begins.table U (of_types id u) value path field
-
 -- how the part of the run behind the wanted stream ends, over an input with these bytes left, where `Whole` holds of
--- the items if all went out that was to be written of them, or `Cut` after a failed write: as any run, at a value whose
--- type clashes, or, where no field may be left out, at a value that leaves out one
-pub data Receiving (all : Bool) (L : Bounds) (bytes : List ℕ) (now : Option (List ℕ)) (U : Table) (u : TypeId)
+-- the items if all went out that was to be written of them, or `Cut` after a failed write: as any run, or at a value
+-- whose type clashes
+pub data Receiving (L : Bounds) (bytes : List ℕ) (now : Option (List ℕ)) (U : Table) (u : TypeId)
     (Whole Cut : Table → List StreamItem → Type 0) : Result (Unit {0}) ToolFault → Type 0 where
   receives : {r : Result (Unit {0}) ToolFault} → RunAnswersIn strict L bytes now Whole Cut r
-      → Receiving all L bytes now U u Whole Cut r
+      → Receiving L bytes now U u Whole Cut r
   clashes : {path : Vec TypeStep Global} {reason : ClashReason} → ClashesBehind L bytes U u path.items reason Whole
-      → Receiving all L bytes now U u Whole Cut (Err (fault.Clash path reason))
-  leaves_out : {path : Vec TypeStep Global} {number : ℕ} → IsTrue all → LeavesOutBehind L bytes U u path.items Whole
-      → Receiving all L bytes now U u Whole Cut (Err (fault.LeftOut path number))
+      → Receiving L bytes now U u Whole Cut (Err (fault.Clash path reason))
 
 -- nothing was written, and nothing was read of the input with these bytes left
 pub record Untouched (bytes : List ℕ) (now old new : Option (List ℕ)) : Type 0 where
@@ -127,21 +102,21 @@ LacksWanted L bytes now fault.Write = ⊥
 -- received went out, and nothing else, or after a failed write a prefix of it. `Has` says what is written: for the
 -- items of the wanted stream, its types and the wanted one, a property of the bytes, the types of the input and its
 -- items.
-pub data WantedAnswers (all : Bool) (Has : List StreamItem → Table → TypeId → (List ℕ → Type 0) → Table → List StreamItem → Type 0)
+pub data WantedAnswers (Has : List StreamItem → Table → TypeId → (List ℕ → Type 0) → Table → List StreamItem → Type 0)
     (L : Bounds) (wanted bytes : List ℕ) (wanted_now now old new : Option (List ℕ)) : Result (Unit {0}) ToolFault → Type
     0 where
   stops_at_wanted : {f : ToolFault} → LacksWanted L wanted wanted_now f → Untouched bytes now old new
-      → WantedAnswers all Has L wanted bytes wanted_now now old new (Err f)
+      → WantedAnswers Has L wanted bytes wanted_now now old new (Err f)
   takes_behind : {r : Result (Unit {0}) ToolFault}
-      → HasWanted L wanted wanted_now (λ given U u. Receiving all L bytes now U u (Has given U u (Appends old new))
+      → HasWanted L wanted wanted_now (λ given U u. Receiving L bytes now U u (Has given U u (Appends old new))
       (Has given U u (AppendsPrefix old new)) r)
-      → WantedAnswers all Has L wanted bytes wanted_now now old new r
+      → WantedAnswers Has L wanted bytes wanted_now now old new r
 
 -- the lines of what is received go out
 abbrev pub TakeAnswers : Bounds → (wanted bytes : List ℕ) → (wanted_now now old new : Option (List ℕ))
     → Result (Unit {0}) ToolFault → Type 0
 TakeAnswers L wanted bytes wanted_now now old new result =
-    WantedAnswers false (λ given U u P T items. HasTakenItems T U u items P) L wanted bytes wanted_now now old new result
+    WantedAnswers (λ given U u P T items. HasTakenItems T U u items P) L wanted bytes wanted_now now old new result
 
 -- a read of the one input or of the other failed where the fault is `Read`, and else only before a failed write
 abbrev pub CountsTakeReads : (wanted wanted' failures failures' : ℕ) → Result (Unit {0}) ToolFault → Type 0

@@ -12,8 +12,6 @@
 #![tactic(auto)]
 
 mod check;
-mod convert;
-mod convert_fault;
 mod end;
 mod fault;
 mod go;
@@ -34,8 +32,6 @@ mod tidied;
 mod wanted;
 
 pub use check::{Tally, run_check, run_check_in};
-pub use convert::{ConvertOptions, run_convert_with};
-pub use convert_fault::ConvertFault;
 pub use end::{end_run, flush_before_waiting};
 pub use fault::{ToolFault, status};
 pub use go::{run_check_go, run_rewrite_go, run_show_go};

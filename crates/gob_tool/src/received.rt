@@ -13,6 +13,7 @@ use crate::item_line::{line_depth, whole_item};
 use crate::receiver::{LastMatch, Receiver};
 use crate::text_steps::TextSteps;
 use crate::texts::Sent;
+use gob_match::MatchFault;
 use gob_read::TreeBuilder;
 use gob_stream::{Advance, Item, Output, Session, StreamReader};
 use gob_types::Table;
@@ -27,7 +28,7 @@ impl<const MOST: usize> TextSteps<Session<TreeBuilder>> for Receiver<'_, MOST> {
 
     ghost of_value = { λ receiver. is_received_of_value receiver.form (types receiver.wanted.now) receiver.wanted_id };
 
-    ghost stops = { λ receiver. Clashes receiver.form (types receiver.wanted.now) receiver.wanted_id };
+    ghost stops = { λ receiver. Clashes (types receiver.wanted.now) receiver.wanted_id };
 
     ghost fits = { λ receiver. KeepsMatch (types receiver.wanted.now) receiver.wanted_id };
 
@@ -44,7 +45,7 @@ impl<const MOST: usize> TextSteps<Session<TreeBuilder>> for Receiver<'_, MOST> {
         };
         let made = push_received(alloc, &item, reader.table(), self, kept, text);
         drop(item);
-        made
+        Ok(made?)
     }
 
     fn send_whole<W: Write>(
@@ -76,7 +77,7 @@ fn push_received<const MOST: usize>(
     receiver: &Receiver<'_, MOST>,
     kept: &mut LastMatch,
     text: &mut Vec<u8>,
-) -> Result<(), ToolFault>
+) -> Result<(), MatchFault>
     requires sent { AreSent (types stream.now) (item_view item.now ∷ []) }
     requires known { StaysKnown (types stream.now) (types receiver.now.wanted.now) receiver.now.wanted_id kept.old
         (Some item.now) }
@@ -87,7 +88,7 @@ fn push_received<const MOST: usize>(
         receiver.now.wanted_id (types stream.now) item.now text.new.items) }
     ensures known { OnOk result (KeepsKnown (types stream.now) (types receiver.now.wanted.now) receiver.now.wanted_id
         kept.new) }
-    ensures fault { IfErr result (ReceivesNone receiver.now.form (types receiver.now.wanted.now) receiver.now.wanted_id
+    ensures fault { IfErr result (ReceivesNone (types receiver.now.wanted.now) receiver.now.wanted_id
         (types stream.now) item.now) }
 {
     match item {

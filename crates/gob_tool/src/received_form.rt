@@ -12,8 +12,7 @@ ghost use Rattle.gob_stream.specs.Bounds.{greatest_depth};
 ghost use Rattle.gob_stream.specs.Calls.Ends.{failed_writes, writer_of};
 ghost use Rattle.gob_stream.specs.Calls.Writing.{CountsWriterFaults};
 ghost use Rattle.gob_stream.specs.Item.{defines, puts};
-ghost use Rattle.gob_tool.specs.Machine.Received.{Says, SendsReceived, item_form, text_in_front};
-ghost use Rattle.gob_tool.specs.Machine.Received.{wants_all};
+ghost use Rattle.gob_tool.specs.Machine.Received.{Says, SendsReceived, text_in_front};
 ghost use Rattle.gob_tool.specs.Machine.Rewritten.{IsLastOfStream, SpellsItem};
 ghost use Rattle.gob_tool.specs.Sending.{Sends};
 
@@ -34,22 +33,9 @@ pub(crate) enum ReceivedForm {
     Line,
     /// As an item of a stream, behind definitions.
     Item,
-    /// So, and no field of the value may be left out.
-    WholeItem,
 }
 
 impl ReceivedForm {
-    /// As items, by whether no field of a value may be left out.
-    pub(crate) fn of_items(all: bool) -> ReceivedForm
-        ensures { result ≡ item_form all }
-    {
-        if all {
-            ReceivedForm::WholeItem
-        } else {
-            ReceivedForm::Item
-        }
-    }
-
     /// Sends what stands in front of all values, where `definitions` are those of a stream.
     pub(crate) fn begin<W: Write>(
         self,
@@ -62,15 +48,8 @@ impl ReceivedForm {
     {
         match self {
             ReceivedForm::Line => Ok(()),
-            ReceivedForm::Item | ReceivedForm::WholeItem => output.send_all(definitions),
+            ReceivedForm::Item => output.send_all(definitions),
         }
-    }
-
-    /// Whether no field of a value may be left out.
-    pub(crate) fn wants_all(self) -> bool
-        ensures { result ≡ wants_all self }
-    {
-        matches!(self, ReceivedForm::WholeItem)
     }
 }
 
@@ -85,7 +64,7 @@ impl<const MOST: usize> Receiver<'_, MOST> {
     {
         match self.form {
             ReceivedForm::Line => push_line(alloc, self.wanted, self.wanted_id, value, text),
-            ReceivedForm::Item | ReceivedForm::WholeItem => {
+            ReceivedForm::Item => {
                 let pushed = push_put(alloc, self.wanted, self.wanted_id, &value, text);
                 drop(value);
                 pushed
@@ -112,9 +91,7 @@ impl<const MOST: usize> Receiver<'_, MOST> {
             ReceivedForm::Line => {
                 Some(send_item(self.wanted, self.wanted_id, body, depth, output))
             }
-            ReceivedForm::Item | ReceivedForm::WholeItem => {
-                send_content(alloc, self.wanted_id.0 as i64, body, output)
-            }
+            ReceivedForm::Item => send_content(alloc, self.wanted_id.0 as i64, body, output),
         }
     }
 }

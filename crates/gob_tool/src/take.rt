@@ -25,7 +25,7 @@ use std::alloc::Global;
 use std::io::{Read, Write};
 
 // A tree is made of no value that waits as a whole.
-pub(crate) const MOST_BUILT: usize = 0;
+const MOST_BUILT: usize = 0;
 
 /// Receives each value of a stream as a value of the wanted type, which is that of the first value of `wanted`, a
 /// stream of its own, and writes the JSON lines of what is received, under the wanted type. Definitions write nothing.
@@ -133,8 +133,7 @@ fn receive_as_wanted<Q: Read, R: Read, W: Write>(
 {
     let mut reader = StreamReader::<TreeBuilder>::new(alloc, limits)?;
     let mut definitions = Vec::new(alloc);
-    let mut ids = Vec::new(alloc);
-    let id = read_wanted(alloc, wanted, &mut reader, &mut definitions, &mut ids)?;
+    let id = read_wanted(alloc, wanted, &mut reader, &mut definitions)?;
     form.begin(&definitions, output)?;
     let receiver = Receiver::<'_, MOST_BUILT> {
         wanted: reader.table(),
@@ -145,7 +144,7 @@ fn receive_as_wanted<Q: Read, R: Read, W: Write>(
 }
 
 /// Receives the values.
-pub(crate) fn receive_values<R: Read, W: Write>(
+fn receive_values<R: Read, W: Write>(
     alloc: Global,
     receiver: &Receiver<'_, MOST_BUILT>,
     input: &mut Input<R>,

@@ -1,6 +1,6 @@
 //! The type that the values of another stream are received as.
 
-ghost use Rattle.std.specs.Prelude.{◌≡◌, ◌^◌, ◌<◌, ◌++◌, ℕ, List, Option, Some, [], IfOk, IfSome, OnOk};
+ghost use Rattle.std.specs.Prelude.{◌≡◌, ◌^◌, ◌<◌, ℕ, List, Option, Some, [], IfOk, IfSome, OnOk};
 ghost use Rattle.gob_read.specs.Calls.Builders.{tree_building};
 ghost use Rattle.gob_types.specs.Defined.{types};
 ghost use Rattle.gob_types.specs.Ready.{IsReady};
@@ -11,8 +11,7 @@ ghost use Rattle.gob_stream.specs.Calls.Session.{limits_of, types_of};
 ghost use Rattle.gob_stream.specs.Calls.Reader.{HasReadFrom, session_of};
 ghost use Rattle.gob_tool.specs.Machine.Counting.{CountsCounting};
 ghost use Rattle.gob_tool.specs.Machine.Taken.{CountsPiece, FindsWanted, ReadsWanted, first_type_of};
-ghost use Rattle.gob_rename.specs.Renaming.{ids_defined};
-ghost use Rattle.gob_tool.specs.Machine.Taken.{ids_in, views_given};
+ghost use Rattle.gob_tool.specs.Machine.Taken.{views_given};
 ghost use Rattle.gob_tool.specs.Machine.Taken.{FirstIsReady, Notes};
 ghost use Rattle.gob_tool.specs.Machine.Rewritten.{IsLastOfStream};
 ghost use Rattle.gob_tool.specs.Taking.{first_type};
@@ -28,27 +27,24 @@ use std::alloc::Global;
 use std::io::Read;
 
 /// Reads a whole stream, by a reader that has read nothing, for the type of its first value, and appends the
-/// definitions in front of that value to `definitions`, and the id of each of its definitions to `ids`. Its other items
-/// are ignored. The type stands in the reader's table.
+/// definitions in front of that value to `definitions`. Its other items are ignored. The type stands in the reader's
+/// table.
 pub(crate) fn read_wanted<Q: Read>(
     alloc: Global,
     input: &mut Input<Q>,
     reader: &mut StreamReader<TreeBuilder>,
     definitions: &mut Vec<u8>,
-    ids: &mut Vec<TypeId>,
 ) -> Result<TypeId, ToolFault>
     requires new { (read : Option (List ℕ)) → HasReadFrom tree_building reader.old read read [] }
     requires empty { definitions.old.items ≡ [] }
-    requires unnamed { ids.old.items ≡ [] }
     ensures found { (bytes : List ℕ) → Q.remaining (reader_of input.old) ≡ Some bytes
         → FindsWanted (within_trees (limits_of (session_of reader.old))) bytes (Q.remaining (reader_of input.new))
         (types_of (session_of reader.new)) definitions.new.items result }
     ensures ready { IfOk result (λ id. IsReady (types_of (session_of reader.new)) id) }
     ensures number { IfOk result (λ id. id.0 < 2 ^ 63) }
-    ensures ids { OnOk result (ids.new.items ≡ ids_defined (types_of (session_of reader.new))) }
     ensures reads { CountsCounting (failed_reads input.old) (failed_reads input.new) result }
 {
-    match read_type(alloc, input, reader, definitions, ids) {
+    match read_type(alloc, input, reader, definitions) {
         Ok(Some(id)) => Ok(id),
         Ok(None) => Err(ToolFault::NoWantedType),
         Err(fault) => Err(wanted_fault(fault)),
@@ -61,26 +57,21 @@ fn read_type<Q: Read>(
     input: &mut Input<Q>,
     reader: &mut StreamReader<TreeBuilder>,
     definitions: &mut Vec<u8>,
-    ids: &mut Vec<TypeId>,
 ) -> Result<Option<TypeId>, Fault>
     requires new { (read : Option (List ℕ)) → HasReadFrom tree_building reader.old read read [] }
     requires empty { definitions.old.items ≡ [] }
-    requires unnamed { ids.old.items ≡ [] }
     ensures read { (bytes : List ℕ) → Q.remaining (reader_of input.old) ≡ Some bytes
         → ReadsWanted (within_trees (limits_of (session_of reader.old))) bytes (Q.remaining (reader_of input.new))
         (types_of (session_of reader.new)) definitions.new.items result }
     ensures ready { FirstIsReady (types_of (session_of reader.new)) result }
-    ensures ids { OnOk result (ids.new.items ≡ ids_defined (types_of (session_of reader.new))) }
     ensures reads { CountsPiece (failed_reads input.old) (failed_reads input.new) result }
 {
     let mut first = None;
     'steps: while reader.more(input)? {
         let step = reader.step(alloc)?;
         let noted = note(alloc, first, &step.item, reader.table(), definitions);
-        let named = note_id(&step.item, ids);
         drop(step);
         first = noted?;
-        named?;
     }
     Ok(first)
 }
@@ -102,16 +93,6 @@ fn note(
         push_definition(alloc, table, *id, described, definitions)?;
     }
     Ok(first_put(known, item))
-}
-
-/// Appends the id of the item, if it is a definition.
-fn note_id(item: &Option<Item<Value>>, ids: &mut Vec<TypeId>) -> Result<(), Memory>
-    ensures { OnOk result (ids.new.items ≡ ids.old.items ++ ids_in (views_given item.now)) }
-{
-    if let Some(Item::Define { id, .. }) = item {
-        ids.push(*id)?;
-    }
-    Ok(())
 }
 
 /// The type that is known, or else that of the item, if it is a value.

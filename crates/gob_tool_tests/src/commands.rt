@@ -1,11 +1,10 @@
 //! Runs of the commands, and how they end.
 
+use gob_convert::{ConvertFault, ConvertOptions};
+use gob_left_out::Tally;
 use gob_rename::Rename;
 use gob_stream::{Input, Limits, Output};
-use gob_tool::{
-    ConvertFault, ConvertOptions, ToolFault, run_check, run_convert, run_convert_with, run_rewrite,
-    run_show, run_take,
-};
+use gob_tool::{ToolFault, run_check, run_convert, run_rewrite, run_show, run_take};
 use std::alloc::Global;
 use std::io::{Read, Write};
 
@@ -17,8 +16,8 @@ pub(crate) enum Command<'a> {
     Rewrite,
     Take(&'a [u8]),
     Convert(&'a [u8]),
-    /// With fields that have other names in the stream. Each fits the wanted types.
-    Rename(&'a [u8], &'a [Rename<'a>]),
+    /// The conversion of a stream of Go's encoder, with fields that have other names there. Each fits the wanted types.
+    ConvertGo(&'a [u8], &'a [Rename<'a>]),
 }
 
 impl<'a> Command<'a> {
@@ -55,24 +54,38 @@ impl<'a> Command<'a> {
                 let mut wanted = Input::new(wanted);
                 run_convert(alloc, &mut wanted, input, output, limits)
             }
-            Command::Rename(wanted, renames) => {
-                let asked = ConvertOptions {
+            Command::ConvertGo(wanted, renames) => {
+                let options = ConvertOptions {
                     renames,
                     all: false,
+                    limits,
                 };
-                let mut wanted = Input::new(wanted);
-                fitting(run_convert_with(alloc, &asked, &mut wanted, input, output, limits))
+                let mut left_out = Tally::new(alloc);
+                fitting(convert_go(alloc, &options, wanted, input, output, &mut left_out))
             }
         }
     }
 }
 
-// How a conversion ended whose renames fit.
+/// How the conversion of a stream of Go's encoder ends.
+pub(crate) fn convert_go<R: Read, W: Write>(
+    alloc: Global,
+    options: &ConvertOptions<'_>,
+    wanted: &[u8],
+    input: &mut Input<R>,
+    output: &mut Output<W>,
+    left_out: &mut Tally,
+) -> Result<(), ConvertFault> {
+    let mut wanted = Input::new(wanted);
+    gob_convert::run_convert(alloc, options, &mut wanted, input, output, left_out)
+}
+
+// How a conversion ended whose renames fit, and which isn't full.
 fn fitting(ended: Result<(), ConvertFault>) -> Result<(), ToolFault> {
     match ended {
         Ok(()) => Ok(()),
         Err(ConvertFault::Run(fault)) => Err(fault),
-        Err(ConvertFault::Misfits { .. }) => Err(ToolFault::NoWantedType),
+        Err(ConvertFault::Misfits { .. } | ConvertFault::Full(_)) => Err(ToolFault::NoWantedType),
     }
 }
 

@@ -44,5 +44,3 @@ mod streams;
 mod takes;
 #[cfg(test)]
 mod trials;
-#[cfg(test)]
-mod whole;

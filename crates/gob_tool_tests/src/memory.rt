@@ -1,7 +1,7 @@
 //! Runs that may lack memory. tools/refuse-memory has each allocation refused in turn.
 
 use crate::devices::{SlowWriter, Trouble};
-use crate::trials::{Trial, trials};
+use crate::trials::{HELD, RENAMED, Trial, trials};
 use gob_stream::Limits;
 use gob_tool::ToolFault;
 use std::alloc::Global;
@@ -33,6 +33,14 @@ fn is_begun(trial: &Trial, written: &[u8]) -> bool {
 #[test]
 fn runs_want_memory(rt: HostRuntime) {
     for trial in &trials() {
+        let is_right = is_right_without_memory(rt.alloc(), trial);
+        assert!(rt; is_right, "{}", trial.what);
+    }
+}
+
+#[test]
+fn conversions_want_memory(rt: HostRuntime) {
+    for trial in &[RENAMED, HELD] {
         let is_right = is_right_without_memory(rt.alloc(), trial);
         assert!(rt; is_right, "{}", trial.what);
     }

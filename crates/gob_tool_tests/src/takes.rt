@@ -31,6 +31,27 @@ pub(crate) const B_AND_A_AS_C: &[u8] = b"\
 /// The line of B 2 as the first field.
 pub(crate) const B_LINE: &[u8] = b"{\"type\":65,\"value\":[[0,\"B\",2]]}\n";
 
+/// A struct of A int and I interface, and two values of it, in which I holds structs of X int under the name P: A 1 and
+/// X 3, with the definition of that struct, which cuts the item in two; A 2 and X 4. Items of 28, 37 and 15 bytes.
+pub(crate) const A_AND_I: &[u8] = b"\
+    \x1b\xff\x81\x03\x01\x01\x01S\x01\xff\x82\x00\x01\x02\x01\x01A\x01\x04\x00\x01\x01I\x01\x10\x00\x00\x00\
+    \x1c\xff\x82\x01\x02\x01\x01P\xff\x83\x03\x01\x01\x01P\x01\xff\x84\x00\x01\x01\x01\x01X\x01\x04\x00\x00\x00\
+    \x07\xff\x84\x03\x01\x06\x00\x00\
+    \x0e\xff\x82\x01\x04\x01\x01P\xff\x84\x03\x01\x08\x00\x00";
+
+/// A struct of I interface and A int, and its empty value.
+pub(crate) const I_AND_A: &[u8] = b"\
+    \x1b\xff\x81\x03\x01\x01\x01W\x01\xff\x82\x00\x01\x02\x01\x01I\x01\x10\x00\x01\x01A\x01\x04\x00\x00\x00\
+    \x03\xff\x82\x00";
+
+/// The definitions of that struct and of the one that is held, and both values: I holds X 3, A 1; I holds X 4, A 2.
+/// Items of 28, 22, 15 and 15 bytes.
+pub(crate) const I_AND_A_RECEIVED: &[u8] = b"\
+    \x1b\xff\x81\x03\x01\x01\x01W\x01\xff\x82\x00\x01\x02\x01\x01I\x01\x10\x00\x01\x01A\x01\x04\x00\x00\x00\
+    \x15\xff\x83\x03\x01\x01\x01P\x01\xff\x84\x00\x01\x01\x01\x01X\x01\x04\x00\x00\x00\
+    \x0e\xff\x82\x01\x01P\xff\x84\x03\x01\x06\x00\x01\x02\x00\
+    \x0e\xff\x82\x01\x01P\xff\x84\x03\x01\x08\x00\x01\x04\x00";
+
 /// A struct of two ints, both X, and its empty value.
 pub(crate) const X_TWICE: &[u8] = b"\
     \x1b\xff\x81\x03\x01\x01\x01W\x01\xff\x82\x00\x01\x02\x01\x01X\x01\x04\x00\x01\x01X\x01\x04\x00\x00\x00\
@@ -81,6 +102,9 @@ pub(crate) fn stream_of(alloc: Global, text: &str) -> Result<Vec<u8>, AllocError
         "X_TWICE" => X_TWICE.to_vec(alloc),
         "B_ALONE" => B_ALONE.to_vec(alloc),
         "B_AND_A_AS_C" => B_AND_A_AS_C.to_vec(alloc),
+        "A_AND_I" => A_AND_I.to_vec(alloc),
+        "I_AND_A" => I_AND_A.to_vec(alloc),
+        "I_AND_A_RECEIVED" => I_AND_A_RECEIVED.to_vec(alloc),
         _ => bytes_of(alloc, text),
     }
 }

@@ -2,7 +2,9 @@
 
 use crate::commands::Command;
 use crate::streams::{THREE, THREE_LINES};
-use crate::takes::{A_AND_B, B_ALONE, B_AND_A_AS_C, B_AND_C, B_LINE};
+use crate::takes::{
+    A_AND_B, A_AND_I, B_ALONE, B_AND_A_AS_C, B_AND_C, B_LINE, I_AND_A, I_AND_A_RECEIVED,
+};
 use gob_rename::Rename;
 
 /// What is tried: a command, and a stream that it goes through to the end.
@@ -33,7 +35,7 @@ impl Trial {
 }
 
 // The trials.
-const TRIALS: [Trial; 7] = [
+const TRIALS: [Trial; 6] = [
     Trial {
         what: "three items shown: whole lines are written",
         command: Command::Show,
@@ -84,14 +86,25 @@ const TRIALS: [Trial; 7] = [
         written: B_ALONE,
         ends: &[(0, 28), (36, 34)],
     },
-    Trial {
-        what: "the same value received by another name of C: the types are renamed before the definition is written",
-        command: Command::Rename(B_AND_C, &A_AS_C),
-        stream: A_AND_B,
-        written: B_AND_A_AS_C,
-        ends: &[(0, 28), (36, 36)],
-    },
 ];
+
+/// A conversion of a stream of Go's encoder, with renames.
+pub(crate) const RENAMED: Trial = Trial {
+    what: "the value received by another name of C: the types are renamed before the definition is written",
+    command: Command::ConvertGo(B_AND_C, &A_AS_C),
+    stream: A_AND_B,
+    written: B_AND_A_AS_C,
+    ends: &[(0, 28), (36, 36)],
+};
+
+/// Such a conversion, with values in interfaces.
+pub(crate) const HELD: Trial = Trial {
+    what: "structs in an interface, the first with its definition: that is written in front of the value",
+    command: Command::ConvertGo(I_AND_A, &[]),
+    stream: A_AND_I,
+    written: I_AND_A_RECEIVED,
+    ends: &[(0, 28), (65, 65), (80, 80)],
+};
 
 // The field C has the name A in the stream.
 const A_AS_C: [Rename<'static>; 1] = [Rename {
@@ -101,6 +114,6 @@ const A_AS_C: [Rename<'static>; 1] = [Rename {
 }];
 
 /// The trials.
-pub(crate) fn trials() -> [Trial; 7] {
+pub(crate) fn trials() -> [Trial; 6] {
     TRIALS
 }

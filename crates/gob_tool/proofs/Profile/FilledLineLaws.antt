@@ -2,23 +2,20 @@
 use Rattle.std.proofs.Common.{◌≡◌, ◌∙◌, ℕ, List, ◌++◌, [], arith, length, take, refl, sym, ap, subst, min}
 use Rattle.std.proofs.Common.{length-append}
 use Rattle.std.proofs.lemmas.List.{length-take-le}
-use Rattle.serde_json.specs.Data.{Data}
 use Rattle.gob_num.specs.Unsigned.{AreBytes}
 use Rattle.gob_num.proofs.PublicLaws.{bytes-append, signed_unsigned, unsigned_bytes, unsigned_length}
 use Rattle.gob_types.specs.Base.{base_table}
 use Rattle.gob_types.specs.Table.{Table}
 use Rattle.gob_types.specs.declared.id.TypeId.{TypeId}
-use Rattle.gob_value.specs.Tree.{Tree}
 use Rattle.gob_stream.specs.Bounds.{Bounds, greatest_depth, within_trees}
 use Rattle.gob_stream.specs.Stepping.{in_grammar}
 use Rattle.gob_filled.specs.Filled.{SpellsFilled}
 use Rattle.gob_filled.specs.Filled as spelled
-use Rattle.gob_filled.specs.Stream.{FilledItem, IsFilledItem, putting, of_value, AreCounted, last_counted}
+use Rattle.gob_filled.specs.Stream.{FilledItem, IsFilledItem, putting, of_value, last_counted}
 use Rattle.gob_go.specs.Calls.Reader.{GoReader, session_of, waits_in}
 use Rattle.gob_go.specs.Calls.Session.{HasBodyNext, IsBetweenItems, limits_of, taken_of, types_of}
 use Rattle.gob_go.specs.GoStepping.{go_stepping}
 use Rattle.gob_go.specs.Whole.{IsFilledWhole}
-use Rattle.gob_json_writer.specs.FilledJson.{FilledShows}
 use Rattle.gob_json_writer.proofs.OnceLaws.{same_nils, shown_once}
 use Rattle.gob_filled_walk.specs.FilledLine.{FilledLine, DefinesNothing, defines_nothing, DefineNothing, none_defines}
 use Rattle.gob_filled_walk.specs.FilledLine.{and_defines}

@@ -1,5 +1,5 @@
 -- Each item of a stream shows something, so it has lines.
-use Rattle.std.proofs.Common.{◌≡◌, ℕ, List, [], ◌∷◌, ◌++◌, Option, Result}
+use Rattle.std.proofs.Common.{ℕ, List, [], ◌∷◌, ◌++◌, Option, Result}
 use Rattle.gob_types.specs.Base.{base_table}
 use Rattle.gob_types.specs.Table.{Table}
 use Rattle.gob_stream.specs.Bounds.{Bounds}

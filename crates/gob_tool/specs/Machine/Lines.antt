@@ -4,13 +4,12 @@ use Rattle.gob_types.specs.Table.{Table}
 use Rattle.gob_types.specs.declared.id.TypeId.{TypeId}
 use Rattle.gob_read.specs.Calls.Builders.{tree_building}
 use Rattle.gob_read.specs.declared.tree_builder.TreeBuilder.{TreeBuilder}
-use Rattle.gob_value.specs.Tree.{Tree}
 use Rattle.gob_value.specs.Whole.{IsWhole}
 use Rattle.gob_value.specs.declared.value.Value.{Value}
 use Rattle.gob_stream.specs.Calls.Reader.{StreamReader}
 use Rattle.gob_stream.specs.Calls.ReaderOf.{session_of, waits_in}
 use Rattle.gob_stream.specs.Calls.Session.{HasBodyNext, IsBetweenItems, types_of}
-use Rattle.gob_stream.specs.Item.{StreamItem, item_view, puts}
+use Rattle.gob_stream.specs.Item.{StreamItem, item_view}
 use Rattle.gob_stream.specs.StrictStepping.{strict_stepping}
 use Rattle.gob_stream.specs.declared.item.Item as declared
 use Rattle.gob_filled.specs.Filled.{Filled}

@@ -1,12 +1,10 @@
 -- What is written of received values, in each form. For private clauses.
-use Rattle.std.specs.Prelude.{◌≡◌, ℕ, Bool, true, false, List, [], ◌∷◌, ◌++◌, Option, Some, None, Result}
+use Rattle.std.specs.Prelude.{◌≡◌, ℕ, List, [], ◌∷◌, ◌++◌, Option, Some, None, Result}
 use Rattle.gob_types.specs.declared.id.TypeId.{TypeId}
 use Rattle.gob_types.specs.Base.{base_table}
 use Rattle.gob_types.specs.Table.{Table}
 use Rattle.gob_match.specs.Matching.{Match}
-use Rattle.gob_match.specs.Pairs.{of_types}
 use Rattle.gob_match.specs.Received.{Receives}
-use Rattle.gob_left_out.specs.LeftOut.{LeavesNothing}
 use Rattle.gob_value.specs.Tree.{Tree}
 use Rattle.gob_value.specs.Whole.{IsWhole}
 use Rattle.gob_stream.specs.Bounds.{Bounds}
@@ -16,7 +14,7 @@ use Rattle.gob_stream.specs.declared.fault.WriteFault.{WriteFault}
 use Rattle.gob_tool.specs.Converting.{HasConverted, in_front}
 use Rattle.gob_tool.specs.Line.{line}
 use Rattle.gob_tool.specs.Sending.{Sends}
-use Rattle.gob_tool.specs.Taking.{HasTakenItems, LeaveNothing, WantedAnswers}
+use Rattle.gob_tool.specs.Taking.{HasTakenItems, WantedAnswers}
 use Rattle.gob_tool.specs.Machine.Rewritten.{SpellsItem}
 use Rattle.gob_tool.specs.declared.fault.ToolFault.{ToolFault}
 use Rattle.gob_tool.specs.declared.received_form.ReceivedForm.{ReceivedForm}
@@ -26,30 +24,11 @@ use Rattle.gob_tool.specs.declared.received_form.ReceivedForm.TheVariants as for
 abbrev pub Says : ReceivedForm → Table → TypeId → Tree → List ℕ → Type 0
 Says form.Line U u w text = text ≡ line U (puts u w)
 Says form.Item U u w text = SpellsItem U (puts u w) text
-Says form.WholeItem U u w text = SpellsItem U (puts u w) text
-
--- whether no field of a value may be left out
-abbrev pub wants_all : ReceivedForm → Bool
-wants_all form.Line = false
-wants_all form.Item = false
-wants_all form.WholeItem = true
-
--- the form of items, by whether that may not be
-abbrev pub item_form : (all : Bool) → ReceivedForm
-item_form false = form.Item
-item_form true = form.WholeItem
-
--- none is, where that may not be
-abbrev pub MayBe : ReceivedForm → (T U : Table) → (t u : TypeId) → Tree → Type 0
-MayBe form.WholeItem T U t u v = LeavesNothing T U (of_types t u) v
-MayBe form.Item T U t u v = Unit {0}
-MayBe form.Line T U t u v = Unit {0}
 
 -- what stands in front of all of them
 abbrev pub text_in_front : ReceivedForm → (definitions : List ℕ) → List ℕ
 text_in_front form.Line definitions = []
 text_in_front form.Item definitions = definitions
-text_in_front form.WholeItem definitions = definitions
 
 -- each value among the items is of a type that matches u, and these are the texts of what is received of them
 pub data AreReceivedIn (how : ReceivedForm) (T U : Table) (u : TypeId) : List StreamItem → List ℕ → Type 0 where
@@ -57,7 +36,7 @@ pub data AreReceivedIn (how : ReceivedForm) (T U : Table) (u : TypeId) : List St
   definition : {id : TypeId} {described : Tree} {items : List StreamItem} {text : List ℕ}
       → AreReceivedIn how T U u items text → AreReceivedIn how T U u (defines id described ∷ items) text
   value : {t : TypeId} {v w : Tree} {items : List StreamItem} {text : List ℕ} (said : List ℕ) → Match T U t u
-      → Receives T U t u v w → Says how U u w said → MayBe how T U t u v → AreReceivedIn how T U u items text
+      → Receives T U t u v w → Says how U u w said → AreReceivedIn how T U u items text
       → AreReceivedIn how T U u (puts t v ∷ items) (said ++ text)
 
 -- what is written, in the words of each run
@@ -65,12 +44,11 @@ abbrev pub HasIn : ReceivedForm → Bounds → List StreamItem → Table → Typ
     → List StreamItem → Type 0
 HasIn form.Line L given U u P T items = HasTakenItems T U u items P
 HasIn form.Item L given U u P T items = HasConverted L (in_front given) U u P T items
-HasIn form.WholeItem L given U u P T items = HasConverted L (in_front given) U u P T items × LeaveNothing T U u items
 
 abbrev pub FormAnswers : ReceivedForm → Bounds → (wanted bytes : List ℕ) → (wanted_now now old new : Option (List ℕ))
     → Result (Unit {0}) ToolFault → Type 0
 FormAnswers how L wanted bytes wanted_now now old new result =
-    WantedAnswers (wants_all how) (HasIn how L) L wanted bytes wanted_now now old new result
+    WantedAnswers (HasIn how L) L wanted bytes wanted_now now old new result
 
 -- the definitions, one behind another
 pub data AreSpelled : List StreamItem → List ℕ → Type 0 where

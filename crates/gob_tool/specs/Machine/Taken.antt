@@ -4,7 +4,6 @@ use Rattle.gob_types.specs.Ready.{IsReady}
 use Rattle.gob_types.specs.Table.{Table}
 use Rattle.gob_types.specs.declared.id.TypeId.{TypeId}
 use Rattle.gob_read.specs.Calls.Builders.{tree_building}
-use Rattle.gob_value.specs.Top.{SpellsTop}
 use Rattle.gob_value.specs.Tree.{Tree}
 use Rattle.gob_value.specs.Within.{FitsWithin}
 use Rattle.gob_value.specs.View.{view}
@@ -12,7 +11,6 @@ use Rattle.gob_value.specs.declared.value.Value.{Value}
 use Rattle.gob_stream.specs.Bounds.{Bounds}
 use Rattle.gob_stream.specs.Devices.{counts_up}
 use Rattle.gob_stream.specs.Item.{StreamItem, defines, item_view, puts}
-use Rattle.gob_stream.specs.Stream.{Stream}
 use Rattle.gob_stream.specs.declared.fault.Fault.{Fault}
 use Rattle.gob_stream.specs.declared.fault.Fault.TheVariants as reading
 use Rattle.gob_stream.specs.declared.item.Item as declared
@@ -44,23 +42,6 @@ pub data AreSent (T : Table) : List StreamItem → Type 0 where
       → AreSent T (puts t v ∷ items)
 
 -- ---- the wanted stream
--- the ids that the items define
-abbrev pub ids_in : List StreamItem → List TypeId
-ids_in [] = []
-ids_in (defines id described ∷ items) = id ∷ ids_in items
-ids_in (puts id value ∷ items) = ids_in items
-
--- what is known of the wanted stream, whose values are received by the types U: its items, its types, by which each
--- value of the wanted type has the same bytes, and the spelling of the definitions in front of its first value
-pub record KnowsWanted (L : Bounds) (U : Table) (u : TypeId) (definitions : List ℕ) (given : List StreamItem) : Type
-    0 where
-  pub bytes : List ℕ
-  pub table : Table
-  pub stream : Stream base_table L given bytes table
-  pub first : first_type given ≡ Some u
-  pub front : AreSpelled (in_front given) definitions
-  pub back : (v : Tree) (b : List ℕ) → SpellsTop U u v b → SpellsTop table u v b
-
 -- what was read of it, the type of its first value so far, and the definitions in front of that
 pub record FindsSo (r : Trees) (read now : Option (List ℕ)) (first : Option TypeId) (definitions : List ℕ) : Type
     0 where

@@ -3,7 +3,8 @@ use Rattle.std.proofs.Common.{subst, sym}
 use Rattle.std.specs.Io.Buffered.{writer_contents}
 use Rattle.gob_stream.specs.Bounds.{within_trees}
 use Rattle.gob_stream.specs.Calls.Ends.{failed_writes, reader_of, writer_of}
-use Rattle.gob_tool.specs.ConvertWith.{ConvertWithAnswers, OfRun}
+use Rattle.gob_convert.specs.Faults.{OfRun}
+use Rattle.gob_convert.specs.Running.{ConvertAnswers}
 use Rattle.gob_tool.specs.Running.{order_limits}
 use Rattle.gob_tool.specs.Showing.{CountsWriteFaults}
 use Rattle.gob.proofs.convert.convert_out.Goals as goal
@@ -11,11 +12,13 @@ use Rattle.gob.proofs.convert.convert_out.Goals as goal
 pub returns-clause-ends : goal.returns-clause-ends
 returns-clause-ends g c =
     let renames = c.args.asked.now.renames.items in
-    let L = within_trees (order_limits c.args.order.now) in
-    let run = c.run_convert_with-answer in
+    let L = within_trees (order_limits c.args.asked.now.order) in
+    let run = c.run_convert-answer in
     let wanted_now = g.Q.Read.remaining (reader_of run.new.wanted) in
     let now = g.R.Read.remaining (reader_of run.new.input) in
     let left = writer_of run.new.output in
+    let told = c.args.left_out.now in
+    let telling = run.new.left_out in
     let settled = c.settled_as.ensures.settled in
     record {
       answer = run.result;
@@ -26,11 +29,12 @@ returns-clause-ends g c =
           (subst (λ n. OfRun (CountsWriteFaults n (failed_writes run.new.output)) run.result)
           c.new-output.ensures.failures run.ensures.writes);
       does = λ wanted_bytes bytes sought known.
-          subst (λ n. ConvertWithAnswers renames c.args.asked.now.all L wanted_bytes bytes wanted_now now
-          (writer_contents (λ pipe. g.W.Write.contents pipe.writer) c.args.writer) n run.result) settled.all
-          (subst (λ w. ConvertWithAnswers renames c.args.asked.now.all L wanted_bytes bytes wanted_now now
+          subst (λ n. ConvertAnswers renames c.args.asked.now.all L wanted_bytes bytes wanted_now now
+          (writer_contents (λ pipe. g.W.Write.contents pipe.writer) c.args.writer) n told telling run.result) settled.all
+          (subst (λ w. ConvertAnswers renames c.args.asked.now.all L wanted_bytes bytes wanted_now now
           (writer_contents (λ pipe. g.W.Write.contents pipe.writer) w)
-          (writer_contents (λ pipe. g.W.Write.contents pipe.writer) left) run.result) c.new-output.ensures.writer
-          (rw c.deref.ensures.value at (rw c.limits_of-limits.ensures at
+          (writer_contents (λ pipe. g.W.Write.contents pipe.writer) left) told telling run.result)
+          c.new-output.ensures.writer
+          (rw c.deref.ensures.value at (rw c.limits_of.ensures at
           run.ensures.converted wanted_bytes bytes sought known)));
     }

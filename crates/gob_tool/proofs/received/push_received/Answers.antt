@@ -23,10 +23,9 @@ returns-in_err-value-in-Put-clause-fault g c =
     let u = c.args.receiver.now.wanted_id in
     let T = types c.args.stream.now in
     let e = c.in_err-value-in-Put.field-0.0 in
-    let how = c.args.receiver.now.form in
-    fault_at (λ e. ReceivesNone how U u T c.args.item.now e) c.from_residual.result e c.from_residual.ensures.1
-    (subst (λ i. ReceivesNone how U u T i e) (sym c.in-Put.is)
-    (clash_given how T U c.in-Put.id u c.in-Put.value e c.in_err-value-in-Put.ensures.fault))
+    fault_at (λ e. ReceivesNone U u T c.args.item.now e) c.from_residual.result e c.from_residual.ensures.1
+    (subst (λ i. ReceivesNone U u T i e) (sym c.in-Put.is)
+    (clash_given T U c.in-Put.id u c.in-Put.value e c.in_err-value-in-Put.ensures.fault))
 
 pub returns-in-Define-clause-made : goal.returns-in-Define-clause-made
 returns-in-Define-clause-made g c =
@@ -39,4 +38,4 @@ returns-in_ok-pushed-in-Put-clause-made g c =
     subst (λ i. is_received_of_item receiver.form (types receiver.wanted.now) receiver.wanted_id
     (types c.args.stream.now) i c.push-pushed.new.text.items) (sym c.in-Put.is)
     (value_received c.in-Put.id (view c.in-Put.value) (view x.value) x.ensures.matched x.ensures.received
-    x.ensures.wanted c.in_ok-pushed-in-Put.ensures)
+    c.in_ok-pushed-in-Put.ensures)

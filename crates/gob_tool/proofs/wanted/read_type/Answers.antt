@@ -1,5 +1,5 @@
 -- From step to step the type of the first value that was read is known.
-use Rattle.std.proofs.Common.{Bool, ◌∙◌, ap, arith, refl, sym}
+use Rattle.std.proofs.Common.{Bool, ◌∙◌, ap, arith, refl}
 use Rattle.gob_types.specs.Defined.{types}
 use Rattle.gob_read.specs.Calls.Builders.{tree_building}
 use Rattle.gob_stream.specs.Bounds.{within_trees}
@@ -11,18 +11,14 @@ use Rattle.gob_stream.proofs.Reader.ReaderOfLaws.{goes_on, has_ended}
 use Rattle.gob_tool.specs.Machine.Taken.{CountsPiece, FirstIsReady, ReadsWanted}
 use Rattle.gob_tool.proofs.EndLaws.{at_error}
 use Rattle.gob_tool.proofs.TextLaws.{texts_fall}
-use Rattle.gob_tool.proofs.WantedLaws.{finds_more, finds_none, first_ready, piece_counts, step_counts, wanted_ends}
-use Rattle.gob_tool.proofs.WantedLaws.{ids_of_stream, step_last, wanted_stops}
-use Rattle.gob_rename.specs.Renaming.{ids_defined}
-use Rattle.gob_types.specs.Table.{Table}
+use Rattle.gob_tool.proofs.WantedLaws.{finds_first, finds_step, first_ready, piece_counts, step_counts, wanted_ends}
+use Rattle.gob_tool.proofs.WantedLaws.{step_last, wanted_stops}
 use Rattle.gob_tool.proofs.wanted.read_type.Goals as goal
 
 pub steps-init : goal.steps-init
 steps-init g c =
     let read = g.Q.Read.remaining (reader_of c.args.input.now) in
-    let first = finds_none c.args.reader.now read c.args.definitions.now.items c.args.ids.now.items c.requires.empty
-    c.requires.unnamed (c.requires.new read) in
-    (refl, refl, first.0, first.1)
+    (refl, refl, finds_first c.args.reader.now read c.args.definitions.now.items c.requires.empty (c.requires.new read))
 
 pub steps-smaller : goal.steps-smaller
 steps-smaller g c =
@@ -46,13 +42,11 @@ steps-preserved g c =
     let next = g.Q.Read.remaining (reader_of c.more.new.input) in
     let on = goes_on (strict_stepping tree_building) (session_of c.steps.reader) (types_of (session_of c.steps.reader))
     c.more.new.self read next p.given c.in_ok-more.field-0 c.if-branch.true
-    (c.in_ok-more.ensures.filled read p.given p.has) in
-    let found = finds_more p (c.in_ok-step.ensures.stepped read next p.given on.0) c.in_ok-first.ensures.first
-    c.in_ok-first.ensures.noted i.3 c.in_ok-named.ensures in (
+    (c.in_ok-more.ensures.filled read p.given p.has) in (
       c.in_ok-step.ensures.limits ∙ c.in_ok-more.ensures.limits ∙ i.0,
       c.in_ok-more.ensures.counted ∙ i.1,
-      found.0,
-      found.1,
+      finds_step p (c.in_ok-step.ensures.stepped read next p.given on.0) c.in_ok-first.ensures.first
+          c.in_ok-first.ensures.noted,
     )
 
 pub note-noted-requires : goal.note-noted-requires
@@ -150,14 +144,3 @@ returns-clause-ready g c =
 
 pub returns-clause-reads : goal.returns-clause-reads
 returns-clause-reads g c = c.in_ok-more.ensures.counted ∙ c.steps.invariant.1
-
-pub returns-clause-ids : goal.returns-clause-ids
-returns-clause-ids g c =
-    let i = c.steps.invariant in
-    let p = i.2 in
-    let s = session_of c.steps.reader in
-    let read = g.Q.Read.remaining (reader_of c.args.input.now) in
-    let next = g.Q.Read.remaining (reader_of c.more.new.input) in
-    let end = has_ended (strict_stepping tree_building) s (types_of s) c.more.new.self read next p.given
-    c.in_ok-more.field-0 c.if-branch.false (c.in_ok-more.ensures.filled read p.given p.has) in
-    ids_of_stream p.has.gave.stream i.3 ∙ ap (λ (T : Table). ids_defined T) (sym end.1)

@@ -4,7 +4,8 @@ use Rattle.gob_match.specs.declared.step.TypeStep.TheVariants as step
 use Rattle.gob_match.proofs.FoundLaws.{no_lookup}
 use Rattle.gob_left_out.specs.LeftOut.{Row}
 use Rattle.gob_left_out.specs.Machine.Walk.{IsAlone, Notes}
-use Rattle.gob_left_out.proofs.NoteLaws.{known_row, notes_known, notes_new, same_field}
+use Rattle.gob_left_out.specs.Tally.{same_field}
+use Rattle.gob_left_out.proofs.NoteLaws.{known_row, notes_known, notes_new}
 use Rattle.gob_left_out.proofs.noted.LeftOut.note.Goals as goal
 
 pub returns-in-Some : goal.returns-in-Some

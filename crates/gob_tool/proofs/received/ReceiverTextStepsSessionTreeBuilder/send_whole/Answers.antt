@@ -6,7 +6,6 @@ use Rattle.gob_types.specs.Defined.{Defined, types}
 use Rattle.gob_types.specs.Ready.{IsReady}
 use Rattle.gob_match.specs.Matching.{Match}
 use Rattle.gob_match.specs.ReceivedWhole.{ReceivesWhole}
-use Rattle.gob_tool.specs.Machine.Received.{MayBe}
 use Rattle.gob_tool.specs.Machine.Receiver.{KeepsKnown}
 use Rattle.gob_tool.proofs.ShowLaws.{next_whole}
 use Rattle.gob_tool.proofs.TakeRuns.{value_received}
@@ -40,15 +39,13 @@ returns-clause-sent g c =
     (c.receive_whole.ensures.received c.if-not-receive_whole.false)) in
     let m = subst (λ (D : Defined). Match (types D) U item.id u) c.table.ensures
     (c.receive_whole.ensures.matched c.if-not-receive_whole.false) in
-    let may = subst (λ (D : Defined). MayBe receiver.form (types D) U item.id u v.value) c.table.ensures
-    (c.receive_whole.ensures.wanted c.if-not-receive_whole.false v.value) in
     let sent = c.in_ok-sent.ensures (record { value = v.made; spelled = v.made_spelled; within = v.made_within }) in (
       sent.0,
       record {
         told = puts item.id v.value;
         item = next_whole (omega (arith, c.line_depth-depth.ensures)) w.between w.next
             (record { value = v.value; spelled = v.spelled; within = v.within });
-        is = of_unfilled (value_received item.id v.value v.made m v.receives may sent.1);
+        is = of_unfilled (value_received item.id v.value v.made m v.receives sent.1);
       },
       sent.2,
       sent.3,

@@ -1,9 +1,10 @@
 -- What is received of what a step gave, or why nothing is.
-use Rattle.std.proofs.Common.{arith, ◌≡◌, ◌∷◌, ◌++◌, [], Err, IfErr, IfSome, List, Ok, OnOk, Option, Result, Some}
-use Rattle.std.proofs.Common.{subst, sym, ℕ}
+use Rattle.std.proofs.Common.{arith, ◌≡◌, ◌∷◌, ◌++◌, [], IfSome, List, Option, Some, subst, sym, ℕ}
 use Rattle.gob_types.specs.Defined.{Defined, types}
 use Rattle.gob_types.specs.Table.{Table}
 use Rattle.gob_types.specs.declared.id.TypeId.{TypeId}
+use Rattle.gob_match.specs.declared.fault.MatchFault.{MatchFault}
+use Rattle.gob_match.specs.declared.fault.MatchFault.TheVariants as matching
 use Rattle.gob_read.specs.Calls.Builders.{tree_building}
 use Rattle.gob_value.specs.declared.value.Value.{Value}
 use Rattle.gob_stream.specs.Calls.ReaderOf.{HasReadBy, session_of, StepsOnBy, types_behind, waits_in}
@@ -16,52 +17,37 @@ use Rattle.gob_stream.specs.Calls.Session.{IsBetweenItems, limits_of, types_of}
 use Rattle.gob_stream.specs.declared.fault.Fault.TheVariants as reading
 use Rattle.gob_stream.specs.declared.item.Item as declared
 use Rattle.gob_stream.specs.declared.session.Advance.{Advance}
-use Rattle.gob_tool.specs.declared.fault.ToolFault.{ToolFault}
-use Rattle.gob_tool.specs.declared.fault.ToolFault.TheVariants as fault
-use Rattle.gob_tool.specs.declared.received_form.ReceivedForm.{ReceivedForm}
-use Rattle.gob_tool.specs.Fault.{reading_fault}
+use Rattle.gob_tool.specs.Fault.{matching_fault, reading_fault}
 use Rattle.gob_tool.specs.Machine.Lines.{Trees}
-use Rattle.gob_tool.specs.Machine.Receiver.{IsClash, is_received_of_item, IsReceived, KeepsKnown, ReceivesNone}
-use Rattle.gob_tool.specs.Machine.Receiver.{StaysKnown}
+use Rattle.gob_tool.specs.Machine.Receiver.{IsClash, is_received_of_item, IsReceived, ReceivesNone, StaysKnown}
 use Rattle.gob_tool.specs.Machine.Taken.{AreSent}
-use Rattle.gob_tool.specs.Machine.Texts.{MakesNext, stops_reading, StopsNext, TextGiven}
+use Rattle.gob_tool.specs.Machine.Texts.{stops_reading, StopsNext, TextGiven}
 use Rattle.gob_tool.proofs.ReaderRuns.{read_alone}
-use Rattle.gob_tool.proofs.TakeRuns.{err_as, none_of_wanted, none_unread, none_unwritten, step_known, step_sent}
+use Rattle.gob_tool.proofs.TakeRuns.{step_known, step_sent}
 use Rattle.gob_tool.proofs.TextLaws.{item_stops, makes_at, no_memory, step_made}
 use Rattle.gob_tool.proofs.received.ReceiverTextStepsSessionTreeBuilder.step_text.Goals as goal
 
 abbrev d : Stepping (SessionState TreeBuilder Value) (declared.Item Value) StreamItem
 d = strict_stepping tree_building
 
-none_received : {how : ReceivedForm} {r r' : Trees} {U : Table} {u : TypeId} {read now : Option (List ℕ)}
-    {given : List StreamItem} {step : Advance (declared.Item Value)} {item : declared.Item Value}
-    → GivesAllBy d (session_of r) → (h : HasReadBy d r read now given) → StepsOnBy d r r' read now given step
-    → step.item ≡ Some item → StandsBy d (session_of r') → IfSome step.item (λ _. IsBetweenItems (session_of r'))
-    → limits_of (session_of r') ≡ limits_of (session_of r) → (f : ToolFault)
-    → ReceivesNone how U u (types_of (session_of r')) item f
-    → StopsNext d (IsClash how U u) r r' read now given f
-none_received {item = item} gives h st is stands between same (fault.Clash path reason) c =
+none_received : {r r' : Trees} {U : Table} {u : TypeId} {read now : Option (List ℕ)} {given : List StreamItem}
+    {step : Advance (declared.Item Value)} {item : declared.Item Value} → GivesAllBy d (session_of r)
+    → (h : HasReadBy d r read now given) → StepsOnBy d r r' read now given step → step.item ≡ Some item
+    → StandsBy d (session_of r') → IfSome step.item (λ _. IsBetweenItems (session_of r'))
+    → limits_of (session_of r') ≡ limits_of (session_of r) → (e : MatchFault)
+    → ReceivesNone U u (types_of (session_of r')) item e
+    → StopsNext d (IsClash U u) r r' read now given (matching_fault e)
+none_received {item = item} gives h st is stands between same (matching.Clash path reason) c =
     item_stops d item st is stands between same c
-none_received {item = item} gives h st is stands between same (fault.LeftOut path number) c =
-    item_stops d item st is stands between same c
-none_received gives h st is stands between same fault.Memory c =
+none_received gives h st is stands between same matching.Memory c =
     stops_reading (types_behind d h) reading.Memory (no_memory d gives h)
-none_received gives h st is stands between same (fault.Refused R) c = absurd c
-none_received gives h st is stands between same (fault.Wanted R) c = absurd c
-none_received gives h st is stands between same fault.NoWantedType c = absurd c
-none_received gives h st is stands between same fault.Read c = absurd c
-none_received gives h st is stands between same fault.Write c = absurd c
-
-kept_as : {P Q : Type 0} (r : Result (Unit {0}) ToolFault) → OnOk r P → (P → Q) → OnOk r Q
-kept_as (Ok u) p f = f p
-kept_as (Err e) p f = tt
 
 pub returns-in_err-item-clause-made : goal.returns-in_err-item-clause-made
 returns-in_err-item-clause-made g c = λ read now given h.
     let U = types c.args.self.now.wanted.now in
     let u = c.args.self.now.wanted_id in
     let e = c.in_err-item.field-0.0 in
-    makes_at d (IsReceived c.args.self.now.form U u) (IsClash c.args.self.now.form U u) c.args.reader.now c.step.new.self read now given
+    makes_at d (IsReceived c.args.self.now.form U u) (IsClash U u) c.args.reader.now c.step.new.self read now given
     c.args.text.now.items
     c.from_residual.result (reading_fault e) c.from_residual.ensures.1
     (stops_reading (types_behind d h) e (c.in_err-item.ensures.stepped read now given h))
@@ -96,54 +82,16 @@ returns-in_default-clause-made g c = λ read now given h.
     c.requires.empty)
 
 pub returns-clause-made : goal.returns-clause-made
-returns-clause-made g c = λ read now given h. by read now given h c.push_received-made.result
-    c.push_received-made.ensures.made c.push_received-made.ensures.fault
-  where
-    by : (read now : Option (List ℕ)) (given : List StreamItem) → HasReadBy d c.args.reader.now read now given
-        → (r : Result (Unit {0}) ToolFault)
-        → OnOk r (is_received_of_item c.args.self.now.form (types c.args.self.now.wanted.now) c.args.self.now.wanted_id
-        (types c.table.result.now) c.in-Some.item c.push_received-made.new.text.items)
-        → IfErr r (ReceivesNone c.args.self.now.form (types c.args.self.now.wanted.now) c.args.self.now.wanted_id
-        (types c.table.result.now) c.in-Some.item)
-        → MakesNext d (IsReceived c.args.self.now.form (types c.args.self.now.wanted.now) c.args.self.now.wanted_id)
-        (IsClash c.args.self.now.form (types c.args.self.now.wanted.now) c.args.self.now.wanted_id) c.args.reader.now
-        c.step.new.self read now given c.push_received-made.new.text.items r
-    by read now given h (Ok u) made none =
-        step_made d c.in_ok-item.ensures.stands c.in_ok-item.ensures.used c.in_ok-item.ensures.limits
-        (c.in_ok-item.ensures.stepped read now given h) c.in_ok-item.ensures.between
-        (subst (λ (o : Option (declared.Item Value)). TextGiven (is_received_of_item c.args.self.now.form
-        (types c.args.self.now.wanted.now) c.args.self.now.wanted_id) (types_of (session_of c.step.new.self)) o
-        c.push_received-made.new.text.items) (sym c.in-Some.is)
-        (subst (λ D. is_received_of_item c.args.self.now.form (types c.args.self.now.wanted.now)
-        c.args.self.now.wanted_id (types D) c.in-Some.item c.push_received-made.new.text.items) c.table.ensures made))
-    by read now given h (Err f) made none =
-        none_received c.requires.so_far.stands.gives h (c.in_ok-item.ensures.stepped read now given h) c.in-Some.is
-        c.in_ok-item.ensures.stands c.in_ok-item.ensures.between c.in_ok-item.ensures.limits f
-        (subst (λ D. ReceivesNone c.args.self.now.form (types c.args.self.now.wanted.now) c.args.self.now.wanted_id
-        (types D) c.in-Some.item f) c.table.ensures none)
-
-pub returns-clause-fits : goal.returns-clause-fits
-returns-clause-fits g c = kept_as c.push_received-made.result c.push_received-made.ensures.known (λ k. record {
-  ready = c.requires.fits.ready;
-  number = c.requires.fits.number;
-  known = subst (λ D. KeepsKnown (types D) (types c.args.self.now.wanted.now) c.args.self.now.wanted_id
-      c.push_received-made.new.kept) c.table.ensures k;
-})
-
-pub returns-clause-unread : goal.returns-clause-unread
-returns-clause-unread g c = err_as c.push_received-made.result c.push_received-made.ensures.fault
-    (λ f h. none_unread c.args.self.now.form (types c.args.self.now.wanted.now)
-    (types c.table.result.now) c.args.self.now.wanted_id c.in-Some.item f h)
-
-pub returns-clause-own : goal.returns-clause-own
-returns-clause-own g c =
-    err_as c.push_received-made.result c.push_received-made.ensures.fault (λ f h. none_of_wanted c.args.self.now.form (types c.args.self.now.wanted.now)
-    (types c.table.result.now) c.args.self.now.wanted_id c.in-Some.item f h)
-
-pub returns-clause-unwritten : goal.returns-clause-unwritten
-returns-clause-unwritten g c = λ failures.
-    none_unwritten c.args.self.now.form (types c.args.self.now.wanted.now)
-    (types c.table.result.now) c.args.self.now.wanted_id c.in-Some.item failures c.push_received-made.result c.push_received-made.ensures.fault
+returns-clause-made g c = λ read now given h.
+    let U = types c.args.self.now.wanted.now in
+    let u = c.args.self.now.wanted_id in
+    let text = c.push_received-made.new.text.items in
+    step_made d c.in_ok-item.ensures.stands c.in_ok-item.ensures.used c.in_ok-item.ensures.limits
+    (c.in_ok-item.ensures.stepped read now given h) c.in_ok-item.ensures.between
+    (subst (λ (o : Option (declared.Item Value)). TextGiven (is_received_of_item c.args.self.now.form U u)
+    (types_of (session_of c.step.new.self)) o text) (sym c.in-Some.is)
+    (subst (λ D. is_received_of_item c.args.self.now.form U u (types D) c.in-Some.item text) c.table.ensures
+    c.in_ok-made.ensures.made))
 
 pub returns-in_default-clause-fits : goal.returns-in_default-clause-fits
 returns-in_default-clause-fits g c =
@@ -157,3 +105,16 @@ returns-in_default-clause-fits g c =
       known = step_known so e.stands e.limits st c.in_default.is (types c.args.self.now.wanted.now)
           c.args.self.now.wanted_id c.args.kept.now c.requires.fits.known;
     }
+
+pub returns-in_err-made-clause-made : goal.returns-in_err-made-clause-made
+returns-in_err-made-clause-made g c = λ read now given h.
+    let U = types c.args.self.now.wanted.now in
+    let u = c.args.self.now.wanted_id in
+    let e = c.in_err-made.field-0.0 in
+    let so = c.requires.so_far in
+    makes_at d (IsReceived c.args.self.now.form U u) (IsClash U u) c.args.reader.now c.step.new.self read now given
+    c.push_received-made.new.text.items c.from_residual-in_err-made.result (matching_fault e)
+    c.from_residual-in_err-made.ensures.1
+    (none_received so.stands.gives h (c.in_ok-item.ensures.stepped read now given h) c.in-Some.is
+    c.in_ok-item.ensures.stands c.in_ok-item.ensures.between c.in_ok-item.ensures.limits e
+    (subst (λ D. ReceivesNone U u (types D) c.in-Some.item e) c.table.ensures c.in_err-made.ensures.fault))

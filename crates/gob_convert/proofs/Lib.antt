@@ -1,0 +1,4 @@
+pub mod ConvertingLaws
+pub mod EndingLaws
+pub mod ValueLaws
+pub mod WantedLaws

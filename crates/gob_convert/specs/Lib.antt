@@ -1,0 +1,4 @@
+pub mod Converting
+pub mod Faults
+pub mod Machine
+pub mod Running

@@ -1,0 +1,5 @@
+pub mod Calls
+pub mod Loss
+pub mod Machine
+pub mod Numbered
+pub mod Received

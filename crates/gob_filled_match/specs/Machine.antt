@@ -1,0 +1,4 @@
+pub mod Bytes
+pub mod Distinct
+pub mod Moving
+pub mod Taking
