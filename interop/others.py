@@ -255,7 +255,7 @@ WITHIN = {
     "two_with_a_line_between": between("POINT, a line and POINT", 48, 51),
     "two_that_hold": Due("Go: two encoders, each of a list whose interface holds a struct",
                          "Another encoder's stream begins with this item: it defines type 65 once more, in the same "
-                         "way.", "head -c 64 IN | gob why; tail -c +65 IN | gob why",
+                         "way.", "gob values --salvage IN",
                          "then: refused 8 DefinedTwice(66) at 88 seen 90, without 13 bytes that define types again\n"),
     "middle_byte": damaged("NOTES, whose byte 824 is 07", 864),
     "first_byte": damaged("NOTES, whose byte 5 is 09", 38),

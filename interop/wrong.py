@@ -343,7 +343,7 @@ CAUSES = [
         "8 DefinedTwice(65) at 41 seen 43", "A type is defined under a number that has one already.",
         "item 2, which begins at byte 40", TYPE, "ff 81, at byte 41",
         "Another encoder's stream begins with this item: it defines type 65 once more, in another way.",
-        "head -c 40 IN | gob why; tail -c +41 IN | gob why")),
+        "gob values --salvage IN")),
     Row("no_stream_of_its_own", GOB + HEX("05ff81020000"), due(
         "8 DefinedTwice(65) at 41 seen 43", "A type is defined under a number that has one already.",
         "item 2, which begins at byte 40", TYPE, "ff 81, at byte 41", CHANGED, SALVAGE)),

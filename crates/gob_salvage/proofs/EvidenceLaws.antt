@@ -62,7 +62,7 @@ frame_here {c = c} s x f e u =
     let value = k.value in let place = k.place in let ends = f.ends in
     omega (arith, length-append c s)
 
-number_here : {at m : ℕ} {j number : ℤ} {bytes c a : List ℕ} (y x : List ℕ) → HasTypeAt bytes at number
+pub number_here : {at m : ℕ} {j number : ℤ} {bytes c a : List ℕ} (y x : List ℕ) → HasTypeAt bytes at number
     → drop at bytes ≡ c ++ y → IsUnsigned m c → y ≡ a ++ x → IsSigned j a → number ≡ j
 number_here {at = at} {bytes = bytes} {c = c} {a = a} y x h e u f s =
     let k = unsigned_here y h.counts e u in

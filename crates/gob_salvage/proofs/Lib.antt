@@ -3,6 +3,9 @@ pub mod PassingSteps
 pub mod RunLaws
 pub mod SalvageLaws
 pub mod EvidenceLaws
+pub mod AgainSteps
+pub mod FrontLaws
+pub mod LaterLaws
 pub mod NotingLaws
 pub mod SearchLaws
 pub mod TakingSteps

@@ -2,9 +2,12 @@ pub mod Evidence
 pub mod Salvage
 pub mod Searching
 pub mod Breaks
+pub mod Fronts
+pub mod Begins
 pub mod Streams
 pub mod Laws
 pub mod Taking
+pub mod Again
 pub mod Keeping
 pub mod Running
 pub mod Report

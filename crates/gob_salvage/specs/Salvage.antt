@@ -15,9 +15,9 @@ use Rattle.gob_stream.specs.Devices.{counts_up}
 use Rattle.gob_stream.specs.Refusing as refusing
 use Rattle.gob_stream.specs.declared.fault.Refusal.{Refusal}
 use Rattle.gob_filled.specs.Outcome.{RefusesFilled}
-use Rattle.gob_filled.specs.Stream.{FilledItem, IsFilledItem}
+use Rattle.gob_filled.specs.Stream.{FilledItem, IsFilledItem, FilledStream}
 use Rattle.gob_salvage.specs.declared.gap.Gap.{Gap}
-use Rattle.gob_salvage.specs.Evidence.{GoOn, IsFrame}
+use Rattle.gob_salvage.specs.Evidence.{AllDefine, GoOn, IsFrame}
 
 -- no item stands at the front of the bytes that continues a stream of so many bytes, behind which the types are these
 abbrev pub NoItemNext : Bounds → Table → (kept : ℕ) → List ℕ → Type 0
@@ -32,14 +32,14 @@ pub data RefusesHere (L : Bounds) (T : Table) (offset : ℕ) (z : List ℕ) : Re
       → RefusesHere L T offset z (refusing.refuses (offset + length z) (offset + length z) reason.Ended)
 
 -- why these bytes are left out where so many were kept: behind no more of them, with the same types, they are refused
--- for this reason, and at this place but for where they begin
+-- for this reason, and at the place that is as far behind where they begin
 pub record TellsWhy (L : Bounds) (T : Table) (kept : ℕ) (z : List ℕ) (g : Gap) : Type 0 where
   pub behind : ℕ
   pub few : behind ≤ kept
   pub refusal : Refusal
   pub refuses : RefusesHere L T behind z refusal
   pub reason_is : g.reason ≡ refusal.reason
-  pub place_is : g.place ≡ counts_up refusal.place (g.begin - behind)
+  pub place_is : g.place ≡ counts_up g.begin (refusal.place - behind)
 
 -- where an item of this kind is refused, it is left out by its count alone: its type isn't known, or it is a definition
 -- that is kept already
@@ -117,6 +117,34 @@ pub record IsSalvage (L : Bounds) (bytes : List ℕ) (count : ℕ) (out : List �
   pub salvages : Salvages L base_table [] true 0 0 bytes items out gaps table
   pub counted : count ≡ length items
   pub repeated : AllByRecursion (TellsRepeated bytes out) gaps
+
+-- ---- behind definitions
+-- the bytes are a stream of definitions, which stand in front
+pub record Front (L : Bounds) (bytes : List ℕ) : Type 0 where
+  pub items : List FilledItem
+  pub types : Table
+  pub stream : FilledStream base_table L items bytes types
+  pub only : AllDefine items
+
+-- behind these definitions, of the bytes: the items that are kept and their bytes, with those of the front, and what is
+-- left out, by offsets of the bytes; the types behind them are those of the table
+pub record SalvagesBehind (L : Bounds) (front : List ℕ) (f : Front L front) (bytes : List ℕ)
+    (items : List FilledItem) (out : List ℕ) (gaps : List Gap) (T : Table) : Type 0 where
+  pub more : List FilledItem
+  pub rest : List ℕ
+  pub items_are : items ≡ f.items ++ more
+  pub out_is : out ≡ front ++ rest
+  pub salvages : Salvages L f.types f.items true (length front) 0 bytes more rest gaps T
+
+-- so many items are kept of all the bytes behind the front, with its own
+pub record IsSalvageBehind (L : Bounds) (front bytes : List ℕ) (count : ℕ) (out : List ℕ) (gaps : List Gap) : Type 0
+  where
+    pub first : Front L front
+    pub items : List FilledItem
+    pub table : Table
+    pub salvages : SalvagesBehind L front first bytes items out gaps table
+    pub counted : count ≡ length items
+    pub repeated : AllByRecursion (TellsRepeated bytes out) gaps
 
 -- ---- what is told of the gaps
 -- how many bytes one leaves out

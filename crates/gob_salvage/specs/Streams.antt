@@ -1,6 +1,6 @@
--- What is kept of bytes in which several encoders' streams may stand one behind another: of each what is kept of it as
--- of one stream, and all of that as one stream, under ids that don't clash. (docs/FORMAT.md, What is kept of damaged
--- bytes: this project's own.)
+-- What is kept of bytes in which several encoders' streams may stand one behind another: of each what is kept of it
+-- behind the definitions in force, and all of that as one stream, under ids that don't clash. (docs/FORMAT.md, What is
+-- kept of damaged bytes: this project's own.)
 use Rattle.std.specs.Prelude.{◌≡◌, ℕ, ◌+◌, List, [], ◌∷◌, ◌++◌, length, drop}
 use Rattle.gob_types.specs.Base.{base_table}
 use Rattle.gob_types.specs.Table.{Table}
@@ -10,7 +10,7 @@ use Rattle.gob_filled.specs.Stream.{FilledItem, FilledStream}
 use Rattle.gob_join.specs.Renaming.{AreRenamed, IsRenaming, NewId, values_of}
 use Rattle.gob_salvage.specs.declared.gap.Gap.{Gap}
 use Rattle.gob_salvage.specs.Breaks.{Breaks, BreaksAt}
-use Rattle.gob_salvage.specs.Salvage.{IsSalvage}
+use Rattle.gob_salvage.specs.Salvage.{IsSalvage, IsSalvageBehind}
 
 -- ---- stream by stream
 -- the gap, so many bytes further on
@@ -27,14 +27,18 @@ abbrev pub moved : ℕ → List Gap → List Gap
 moved n [] = []
 moved n (g ∷ gaps) = moved_gap n g ∷ moved n gaps
 
--- from this offset of the bytes on: what is kept of each stream as of one stream, up to the next, and what is left out
-pub data AreKeptFrom (L : Bounds) (bytes : List ℕ) : (from : ℕ) → (streams : List (List ℕ)) → List Gap → Type 0 where
-  last : {from count : ℕ} {out : List ℕ} {gaps : List Gap} → IsSalvage L (drop from bytes) count out gaps
-      → AreKeptFrom L bytes from (out ∷ []) (moved from gaps)
-  then_another : {from begin count : ℕ} {out : List ℕ} {gaps told : List Gap} {streams : List (List ℕ)}
-      → IsSalvage L (drop from bytes) count out gaps → (b : BreaksAt L begin gaps (drop from bytes))
-      → AreKeptFrom L bytes (from + begin) streams told
-      → AreKeptFrom L bytes from (out ∷ streams) (moved from b.before ++ told)
+-- from this offset of the bytes on, behind this front: what is kept of each stream as of one stream, up to the next,
+-- and what is left out
+pub data AreKeptFrom (L : Bounds) (bytes : List ℕ) : (from : ℕ) → (front : List ℕ) → (streams : List (List ℕ))
+    → List Gap → Type 0 where
+  last : {from count : ℕ} {front out : List ℕ} {gaps : List Gap}
+      → IsSalvageBehind L front (drop from bytes) count out gaps
+      → AreKeptFrom L bytes from front (out ∷ []) (moved from gaps)
+  then_another : {from begin count : ℕ} {front next out : List ℕ} {gaps told : List Gap} {streams : List (List ℕ)}
+      → (k : IsSalvageBehind L front (drop from bytes) count out gaps)
+      → (b : BreaksAt L k.table begin next gaps (drop from bytes))
+      → AreKeptFrom L bytes (from + begin) next streams told
+      → AreKeptFrom L bytes from front (out ∷ streams) (moved from b.before ++ told)
 
 -- one stream of these items, which are the bytes: the values are those of the streams, in order, under the ids that
 -- stand for theirs, each with the shape of the other
@@ -51,5 +55,5 @@ pub data AreJoined (L : Bounds) : (streams : List (List ℕ)) → List FilledIte
 pub data IsSalvaged (L : Bounds) (bytes : List ℕ) (count : ℕ) (out : List ℕ) (gaps : List Gap) : Type 0 where
   of_one : IsSalvage L bytes count out gaps → IsSalvaged L bytes count out gaps
   of_several : {streams : List (List ℕ)} {items : List FilledItem} {T : Table} → Breaks L bytes
-      → AreKeptFrom L bytes 0 streams gaps → AreJoined L streams items out T → count ≡ length items
+      → AreKeptFrom L bytes 0 [] streams gaps → AreJoined L streams items out T → count ≡ length items
       → IsSalvaged L bytes count out gaps

@@ -2,6 +2,7 @@
 
 ghost use Rattle.std.specs.Prelude.{◌<◌, ◌≤◌, length, IfSome, IsTrue};
 ghost use Rattle.gob_salvage.specs.Evidence.{IsFrame};
+ghost use Rattle.gob_salvage.specs.Again.{IsNumbered};
 ghost use Rattle.gob_salvage.specs.Salvage.{HasTypeAt, StandsIn};
 
 use gob_num::{to_signed, uint_at};
@@ -12,6 +13,8 @@ use gob_stream::Limits;
 pub(crate) struct Frame {
     /// Where it ends.
     pub end: usize,
+    /// Where the type number begins.
+    pub head: usize,
     /// The type number: below 0 where a type is defined.
     pub number: i64,
     /// Where the body begins, behind that number.
@@ -29,6 +32,8 @@ impl Frame {
 pub(crate) fn frame_at(limits: &Limits, bytes: &[u8], at: usize) -> Option<Frame>
     ensures number { IfSome result (λ frame. HasTypeAt bytes.now at frame.number) }
     ensures frame { IfSome result (λ frame. IsFrame bytes.now at frame.end) }
+    ensures numbered { IfSome result (λ frame.
+        IsNumbered limits.now.item bytes.now at frame.head frame.body frame.end frame.number) }
     ensures behind { IfSome result (λ frame. at < frame.end) }
     ensures within { IfSome result (λ frame. frame.end ≤ length bytes.now) }
 {
@@ -39,6 +44,7 @@ pub(crate) fn frame_at(limits: &Limits, bytes: &[u8], at: usize) -> Option<Frame
     let (number, body) = uint_at(bytes, head)?;
     Some(Frame {
         end: head + count as usize,
+        head,
         number: to_signed(number),
         body,
     })

@@ -1,31 +1,31 @@
 //! What isn't damaged.
 
-ghost use Rattle.std.specs.Prelude.{◌≡◌, ◌+◌, ◌^◌, ◌<◌, ◌≤◌, ◌⊎◌, ℕ, length, take, None, Some, IfOk, IfSome, IsTrue};
-ghost use Rattle.std.specs.Prelude.{List, OnOk, true};
+ghost use Rattle.std.specs.Prelude.{◌≡◌, ◌+◌, ◌-◌, ◌^◌, ◌<◌, ◌≤◌, ◌⊎◌, ℕ, length, take, None, Some, IfOk, IfSome};
+ghost use Rattle.std.specs.Prelude.{IsTrue, List, OnOk, true};
 ghost use Rattle.gob_types.specs.Defined.{types};
-ghost use Rattle.gob_stream.specs.Bounds.{Bounds, within_trees};
+ghost use Rattle.gob_stream.specs.Bounds.{within_trees};
+ghost use Rattle.gob_stream.specs.Devices.{counts_up};
 ghost use Rattle.gob_filled.specs.Stream.{FilledItem};
 ghost use Rattle.gob_salvage.specs.Evidence.{IsFrame};
-ghost use Rattle.gob_salvage.specs.Keeping.{EndsTwice, GoesOn, IsKeeping, IsRefusedNext, KeepsMore};
-ghost use Rattle.gob_salvage.specs.Breaks.{BreaksAt, IsTwice};
+ghost use Rattle.gob_salvage.specs.Keeping.{from_nothing, GoesOn, HasDefinitions, HasKeptFront, IsKeeping};
+ghost use Rattle.gob_salvage.specs.Keeping.{IsKeptOf, IsRefusedNext, KeepsMore, Start};
+ghost use Rattle.gob_salvage.specs.Breaks.{IsTwice};
 ghost use Rattle.gob_salvage.specs.Searching.{AreNoted, HasSpent, IsNextPlace, IsUnknown};
-ghost use Rattle.gob_salvage.specs.Salvage.{HasTypeAt, IsDefinedAgain, IsSalvage};
+ghost use Rattle.gob_salvage.specs.Salvage.{HasTypeAt, IsDefinedAgain};
 ghost use Rattle.gob_salvage.specs.Taking.{NotesItem};
+ghost use Rattle.gob_salvage.specs.Again.{IsAgain, RepeatsNext};
 
 use crate::again::read_again;
 use crate::frame::{Frame, Span, frame_at, has_piece};
 use crate::gap::Gap;
 use crate::item::take_item;
+use crate::later::{Clash, Later, later_stream};
 use crate::search::Search;
 use gob_go::GoSession;
 use gob_num::Memory;
 use gob_stream::{Fault, Limits, Passed, Refusal};
-use gob_types::{Reason, Table};
+use gob_types::{DefineFault, Reason, Table, TypeId};
 use std::alloc::Global;
-
-// What is read again is looked at in vain too, and a definition takes so many times as long as a value of as many
-// bytes.
-const TIMES_A_VALUE: usize = 100;
 
 /// What is kept of bytes in which some are damaged, and what is left out.
 #[derive(Drop)]
@@ -73,21 +73,30 @@ struct Keeper {
     kept: Salvaged,
     // The offset of the first byte that is neither kept nor left out.
     at: usize,
-    // By how many bytes it is ahead of what the session has read.
-    ahead: usize,
+    // How many bytes the session has read.
+    read: usize,
     // Whether an item that is kept ends there, or one that is left out by its count.
     in_step: bool,
-    // Where another encoder's stream begins, if one was found. Nothing is kept of that.
-    later: Option<usize>,
+    // Another encoder's stream, if one was found. Nothing is kept of that.
+    later: Option<Later>,
     search: Search,
+}
+
+// A definition that stands there again.
+#[derive(Clone, Copy)]
+struct Again {
+    id: TypeId,
+    // Where its type number begins.
+    place: usize,
+    end: usize,
 }
 
 /// What is kept of one encoder's stream.
 #[derive(Drop)]
 pub(crate) struct Kept {
     pub kept: Salvaged,
-    /// The offset where another encoder's stream begins, if one was found. All of it is left out.
-    pub later: Option<usize>,
+    /// Another encoder's stream, if one was found. All of it is left out.
+    pub later: Option<Later>,
     /// How many bytes may still be looked at in vain.
     pub left: u64,
 }
@@ -98,33 +107,55 @@ pub(crate) struct Kept {
 pub(crate) fn keep_stream(
     alloc: Global,
     limits: Limits,
+    front: &[u8],
     bytes: &[u8],
     left: u64,
 ) -> Result<Kept, Memory>
-    requires { length bytes.now ≤ limits.stream }
-    ensures kept { IfOk result (λ kept.
-        IsSalvage (within_trees limits) bytes.now kept.kept.items kept.kept.bytes.items kept.kept.gaps.items) }
-    ensures later { IfOk result (λ kept.
-        IfSome kept.later (λ begin. BreaksAt (within_trees limits) begin kept.kept.gaps.items bytes.now)) }
+    requires { length front.now + length bytes.now ≤ limits.stream }
+    ensures { IfOk result (IsKeptOf (within_trees limits) front.now bytes.now) }
 {
-    let mut keeper = Keeper::over(alloc, limits, bytes, left)?;
+    let mut keeper = Keeper::behind(alloc, limits, front, left)?;
     'items: while keeper.at < bytes.len() {
         keeper.go_on(alloc, bytes)?;
     }
-    let later = keeper.later;
     let left = keeper.search.left();
     Ok(Kept {
         kept: keeper.kept,
-        later,
+        later: keeper.later,
         left,
     })
 }
 
 impl Keeper {
-    // Nothing is kept of the bytes yet.
-    fn over(alloc: Global, limits: Limits, bytes: &[u8], left: u64) -> Result<Keeper, Memory>
-        requires { length bytes.now ≤ limits.stream }
-        ensures keeping { IfOk result (λ keeper. IsKeeping (within_trees limits) keeper bytes.now) }
+    // The front is kept, and nothing yet of the bytes behind it.
+    fn behind(alloc: Global, limits: Limits, front: &[u8], left: u64) -> Result<Keeper, Memory>
+        requires { length front.now ≤ limits.stream }
+        ensures { IfOk result (HasKeptFront (within_trees limits) front.now) }
+    {
+        let mut keeper = Keeper::new(alloc, limits, left)?;
+        'front: while keeper.at < front.len() {
+            keeper.go_on(alloc, front)?;
+        }
+        if !keeper.has_definitions() {
+            // Of a stream of definitions all is kept.
+            return Err(Memory);
+        }
+        keeper.at = 0;
+        keeper.in_step = true;
+        Ok(keeper)
+    }
+
+    // Whether all was kept so far, and no value.
+    fn has_definitions(&self) -> bool
+        ensures { IsTrue result → HasDefinitions self.now }
+    {
+        self.kept.gaps.is_empty() && self.search.has_no_value()
+    }
+
+    // Nothing is kept yet.
+    fn new(alloc: Global, limits: Limits, left: u64) -> Result<Keeper, Memory>
+        ensures keeping { (bytes : List ℕ) → length bytes ≤ limits.stream
+            → IfOk result (λ keeper. IsKeeping (from_nothing (within_trees limits)) keeper bytes) }
         ensures later { IfOk result (λ keeper. keeper.later ≡ None) }
     {
         let session = GoSession::new(alloc, limits)?;
@@ -138,7 +169,7 @@ impl Keeper {
                 gaps: Vec::new(alloc),
             },
             at: 0,
-            ahead: 0,
+            read: 0,
             in_step: true,
             later: None,
             search: Search::new(alloc, limits, left),
@@ -148,25 +179,79 @@ impl Keeper {
     // Keeps the items of values that stand next, or what else does, or leaves out some bytes.
     fn go_on(&mut self, alloc: Global, bytes: &[u8]) -> Result<(), Memory>
         requires more { self.old.at < length bytes.now }
-        requires keeping { (L : Bounds) × IsKeeping L self.old bytes.now }
-        ensures { (L : Bounds) → IsKeeping L self.old bytes.now
-            → OnOk result (GoesOn L self.old self.new bytes.now) }
+        requires keeping { (S : Start) × IsKeeping S self.old bytes.now }
+        ensures { (S : Start) → IsKeeping S self.old bytes.now
+            → OnOk result (GoesOn S self.old self.new bytes.now) }
     {
         let piece = &bytes[self.at..];
         let passed = self.session.pass_values(piece);
         if passed.items > 0 {
-            self.search.keep_values(&piece[..passed.used], self.at)?;
+            self.search.keep_values(&piece[..passed.used])?;
             return self.keep(piece, passed);
         }
+        if let Some(again) = self.repeated(bytes) {
+            return self.pass_repeated(again);
+        }
         self.take(alloc, bytes)
+    }
+
+    // The definition that stands next, if it is kept already in its very bytes, and so would be refused. The session is
+    // not told it: that would have to read all definitions once more.
+    fn repeated(&self, bytes: &[u8]) -> Option<Again>
+        ensures { IfSome result (RepeatsNext self.now bytes.now) }
+    {
+        if !self.in_step {
+            return None;
+        }
+        let limits = self.session.limits();
+        let frame = frame_at(&limits, bytes, self.at)?;
+        let again = self.again(frame)?;
+        if frame.body > frame.end || !self.defines_again(bytes, frame) {
+            return None;
+        }
+        Some(again)
+    }
+
+    // That of this frame, if its type is defined.
+    fn again(&self, frame: Frame) -> Option<Again>
+        ensures { IfSome result (IsAgain self.now frame) }
+    {
+        if frame.number >= 0 {
+            return None;
+        }
+        let id = TypeId(frame.number.unsigned_abs());
+        match self.session.table().admits(id) {
+            Err(DefineFault::DefinedTwice) => Some(Again {
+                id,
+                place: frame.head,
+                end: frame.end,
+            }),
+            _ => None,
+        }
+    }
+
+    // Leaves out a definition that is kept already.
+    fn pass_repeated(&mut self, again: Again) -> Result<(), Memory>
+        ensures { (S : Start) (bytes : List ℕ) → IsKeeping S self.old bytes → RepeatsNext self.old bytes again
+            → OnOk result (GoesOn S self.old self.new bytes) }
+    {
+        self.kept.gaps.push(Gap {
+            begin: self.at as u64,
+            end: again.end as u64,
+            reason: Reason::DefinedTwice(again.id),
+            place: again.place as u64,
+            is_repeated: true,
+        })?;
+        self.at = again.end;
+        Ok(())
     }
 
     // Keeps the item that stands next, or leaves out some bytes.
     fn take(&mut self, alloc: Global, bytes: &[u8]) -> Result<(), Memory>
         requires more { self.old.at < length bytes.now }
-        requires keeping { (L : Bounds) × IsKeeping L self.old bytes.now }
-        ensures { (L : Bounds) → IsKeeping L self.old bytes.now
-            → OnOk result (GoesOn L self.old self.new bytes.now) }
+        requires keeping { (S : Start) × IsKeeping S self.old bytes.now }
+        ensures { (S : Start) → IsKeeping S self.old bytes.now
+            → OnOk result (GoesOn S self.old self.new bytes.now) }
     {
         let piece = &bytes[self.at..];
         let known = self.session.table().count();
@@ -177,7 +262,7 @@ impl Keeper {
                 let end = begin.saturating_add(used);
                 note_place(&mut self.defined, known, count, Span { begin, end })?;
                 note(&mut self.defining, known, count, &piece[..used])?;
-                self.search.keep_item(&piece[..used], self.at)?;
+                self.search.keep_item(&piece[..used])?;
                 self.keep(piece, Passed { items: 1, used })
             }
             Err(Fault::Refused(refusal)) => self.leave_out(alloc, bytes, refusal),
@@ -190,11 +275,13 @@ impl Keeper {
         requires within { passed.used ≤ length piece.now }
         requires few { self.old.kept.items + passed.items < 2 ^ 64 }
         requires near { self.old.at + passed.used < 2 ^ 64 }
+        requires read { self.old.read + passed.used < 2 ^ 64 }
         ensures { OnOk result (KeepsMore self.old self.new passed (take passed.used piece.now)) }
     {
         self.kept.bytes.extend_from_slice(&piece[..passed.used])?;
         self.kept.items += passed.items;
         self.at += passed.used;
+        self.read += passed.used;
         self.in_step = true;
         Ok(())
     }
@@ -202,29 +289,26 @@ impl Keeper {
     // Leaves out what begins with the refused item, up to where items go on.
     fn leave_out(&mut self, alloc: Global, bytes: &[u8], refusal: Refusal) -> Result<(), Memory>
         requires more { self.old.at < length bytes.now }
-        requires refused { (L : Bounds) × IsRefusedNext L self.old bytes.now refusal }
-        ensures { (L : Bounds) → IsRefusedNext L self.old bytes.now refusal
-            → OnOk result (GoesOn L self.old self.new bytes.now) }
+        requires refused { (S : Start) × IsRefusedNext S self.old bytes.now refusal }
+        ensures { (S : Start) → IsRefusedNext S self.old bytes.now refusal
+            → OnOk result (GoesOn S self.old self.new bytes.now) }
     {
         let limits = self.session.limits();
         let alone = self.end_alone(&limits, refusal.reason, bytes);
         let clash = self.clash_at(refusal.reason, alone);
-        let later = self.search.later_stream(alloc, bytes, clash)?;
-        self.search
-            .spend(self.defining.len().saturating_mul(TIMES_A_VALUE));
+        let later = later_stream(alloc, &mut self.search, &self.defining, bytes, clash)?;
         self.session = read_again(alloc, limits, &self.defining)?;
-        let known = known_end(alone, later, bytes.len());
+        let known = known_end(alone, &later, bytes.len());
         let table = self.session.table();
         let next = place_behind(alloc, &mut self.search, table, bytes, self.at, known)?;
-        self.search.go_behind(next);
         self.kept.gaps.push(Gap {
             begin: self.at as u64,
             end: next as u64,
             reason: refusal.reason,
-            place: refusal.place.saturating_add(self.ahead as u64),
-            is_repeated: ends_twice(alone, refusal.reason),
+            place: place_from(self.at as u64, refusal.place, self.read as u64),
+            is_repeated: false,
         })?;
-        self.ahead = next - self.defining.len();
+        self.read = self.defining.len();
         self.at = next;
         self.in_step = alone.is_some();
         self.later = later;
@@ -232,55 +316,36 @@ impl Keeper {
     }
 
     // Where the refused item ends, if it is left out alone: behind an end that is known it is a value of a type that
-    // isn't known, or defines a type with the very bytes with which that was defined before.
+    // isn't known.
     fn end_alone(&self, limits: &Limits, reason: Reason, bytes: &[u8]) -> Option<usize>
         ensures step { IfSome result (λ _. self.now.in_step ≡ true) }
         ensures frame { IfSome result (λ end. IsFrame bytes.now self.now.at end) }
-        ensures why { IfSome result (λ _. IsUnknown reason ⊎ IsTwice reason) }
+        ensures why { IfSome result (λ _. IsUnknown reason) }
         ensures behind { IfSome result (λ end. self.now.at < end) }
         ensures within { IfSome result (λ end. end ≤ length bytes.now) }
-        ensures again { IsTwice reason → IfSome result (λ end.
-            IsDefinedAgain bytes.now self.now.at end self.now.kept.bytes.items) }
     {
-        if !self.in_step || self.search.is_spent() {
+        if !self.in_step || self.search.is_spent() || !is_of_unknown_type(reason) {
             return None;
         }
         let frame = frame_at(limits, bytes, self.at)?;
-        if !self.is_alone(reason, bytes, frame) {
-            return None;
-        }
         Some(frame.end)
     }
 
-    // Where the refused item begins, if it isn't left out alone and defines a type again behind an item that is kept.
-    fn clash_at(&self, reason: Reason, alone: Option<usize>) -> Option<usize>
-        ensures here { IfSome result (λ at. at ≡ self.now.at) }
+    // The refused item, if it isn't left out alone and defines a type again behind an item that is kept.
+    fn clash_at(&self, reason: Reason, alone: Option<usize>) -> Option<Clash>
+        ensures here { IfSome result (λ clash. clash.at ≡ self.now.at) }
         ensures again { IfSome result (λ _. IsTwice reason) }
         ensures alone { IfSome result (λ _. alone ≡ None) }
     {
         match reason {
-            Reason::DefinedTwice(_) if self.in_step && alone.is_none() => Some(self.at),
+            Reason::DefinedTwice(id) if self.in_step && alone.is_none() => {
+                Some(Clash { at: self.at, id })
+            }
             _ => None,
         }
     }
 
-    // Whether the refused item, which has this frame, is such a value or such a definition.
-    fn is_alone(&self, reason: Reason, bytes: &[u8], frame: Frame) -> bool
-        requires order { self.now.at ≤ frame.end }
-        requires inside { frame.end ≤ length bytes.now }
-        requires number { HasTypeAt bytes.now self.now.at frame.number }
-        ensures why { IsTrue result → IsUnknown reason ⊎ IsTwice reason }
-        ensures again { IsTrue result → IsTwice reason
-            → IsDefinedAgain bytes.now self.now.at frame.end self.now.kept.bytes.items }
-    {
-        match reason {
-            Reason::UndefinedType(id) => id.0 >= 64,
-            Reason::DefinedTwice(_) => self.defines_again(bytes, frame),
-            _ => false,
-        }
-    }
-
-    // Whether it defines a type, and is kept already.
+    // Whether the item of this frame defines a type, and is kept already.
     fn defines_again(&self, bytes: &[u8], frame: Frame) -> bool
         requires order { self.now.at ≤ frame.end }
         requires inside { frame.end ≤ length bytes.now }
@@ -291,11 +356,25 @@ impl Keeper {
     }
 }
 
+// Whether what is refused so is a value of a type that isn't known.
+fn is_of_unknown_type(reason: Reason) -> bool
+    ensures { IsTrue result → IsUnknown reason }
+{
+    matches!(reason, Reason::UndefinedType(id) if id.0 >= 64)
+}
+
+// The place that a session refuses, which has read so many bytes, in what goes on at the offset.
+fn place_from(at: u64, place: u64, read: u64) -> u64
+    ensures { result ≡ counts_up at (place - read) }
+{
+    at.saturating_add(place.saturating_sub(read))
+}
+
 // Where what is left out ends, if that is known: where an item is left out alone, or another encoder's stream begins.
-fn known_end(alone: Option<usize>, later: Option<usize>, end: usize) -> Option<usize>
+fn known_end(alone: Option<usize>, later: &Option<Later>, end: usize) -> Option<usize>
     ensures alone { IfSome alone (λ known. result ≡ Some known) }
-    ensures later { IfSome later (λ _. alone ≡ None → result ≡ Some end) }
-    ensures none { alone ≡ None → later ≡ None → result ≡ None }
+    ensures later { IfSome later.now (λ _. alone ≡ None → result ≡ Some end) }
+    ensures none { alone ≡ None → later.now ≡ None → result ≡ None }
     ensures behind { (at : ℕ) → at < end → IfSome alone (λ known. at < known) → IfSome result (λ known. at < known) }
     ensures within { IfSome alone (λ known. known ≤ end) → IfSome result (λ known. known ≤ end) }
 {
@@ -342,14 +421,6 @@ fn note_place(
         defined.push(place)?;
     }
     Ok(())
-}
-
-// Whether what is refused so has a known end, and is a type that is defined twice.
-fn ends_twice(known: Option<usize>, reason: Reason) -> bool
-    ensures twice { IsTrue result → EndsTwice known reason }
-    ensures all { IfSome known (λ _. IsTwice reason → result ≡ true) }
-{
-    matches!((known, reason), (Some(_), Reason::DefinedTwice(_)))
 }
 
 // Appends the item where it has defined types, of which there are so many before and behind it.

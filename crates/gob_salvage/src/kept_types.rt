@@ -51,20 +51,20 @@ impl KeptTypes {
         self.ids.contains(&id.0)
     }
 
-    /// Notes the type of the item that the bytes are, if it is a value. Whether it is one.
-    pub(crate) fn note_item(&mut self, limits: &Limits, item: &[u8]) -> Result<bool, Memory>
+    /// Notes the type of the item that the bytes are, if it is a value.
+    pub(crate) fn note_item(&mut self, limits: &Limits, item: &[u8]) -> Result<(), Memory>
         ensures { OnOk result (NotesItemOf item.now self.old self.new) }
     {
         match frame_at(limits, item, 0) {
-            Some(frame) if frame.number < 0 => Ok(false),
+            Some(frame) if frame.number < 0 => Ok(()),
             Some(frame) => {
                 self.any = true;
                 self.ids.insert(frame.number as u64)?;
-                Ok(true)
+                Ok(())
             }
             None => {
                 self.any = true;
-                Ok(true)
+                Ok(())
             }
         }
     }

@@ -15,10 +15,12 @@
 mod again;
 mod behind;
 mod frame;
+mod front;
 mod gap;
 mod item;
 mod keeping;
 mod kept_types;
+mod later;
 pub mod laws;
 mod lines;
 mod run;

@@ -9,7 +9,6 @@ ghost use Rattle.gob_stream.specs.Bounds.{greatest_depth, within_trees};
 ghost use Rattle.gob_filled.specs.Stream.{FilledItem};
 ghost use Rattle.gob_go.specs.Whole.{IsFilledWhole};
 ghost use Rattle.gob_salvage.specs.Evidence.{AllDefine, BeginsAnew, GoOn, HasValue, ReachesEnd, StandsUpTo};
-ghost use Rattle.gob_salvage.specs.Keeping.{BeginsBefore};
 ghost use Rattle.gob_salvage.specs.Searching.{AreNoted, HasSpent, IsNextPlace, NotesItemOf, NotesItemsOf, Suffices};
 ghost use Rattle.gob_salvage.specs.Searching.{ValueStands};
 ghost use Rattle.gob_salvage.specs.declared.search.There.TheVariants as what;
@@ -31,21 +30,22 @@ const ENOUGH: u64 = 3;
 // So many items do where no value was kept.
 const ENOUGH_ANEW: u64 = 32;
 
-// So many items show that another encoder's stream begins, behind an item that is kept.
-const FEW: u64 = 2;
-
 // So many other items may stand among the values.
 const MOST_OTHERS: u64 = 16;
 
 // A session is made in the time in which so many bytes of values are looked at, and reads a definition in it.
 const A_SESSION: u64 = 16384;
 
+// A definition takes so many times as long as a value of as many bytes.
+const TIMES_A_VALUE: usize = 100;
+
+// So many bytes of definitions are read in about the time in which sessions are made, and aren't counted.
+const FREE: usize = 1024;
+
 /// The search for the places where items go on, with what it may still cost over all of the bytes.
 pub(crate) struct Search {
     limits: Limits,
     kept_types: KeptTypes,
-    // Where the definitions begin that are kept and stand right in front of what was looked at last.
-    definitions: usize,
     // How many bytes may be looked at in vain.
     left: u64,
 }
@@ -55,7 +55,6 @@ impl Drop for Search {
         let Search {
             limits: _,
             kept_types: _,
-            definitions: _,
             left: _,
         } = self;
     }
@@ -135,9 +134,15 @@ impl Search {
         Search {
             limits,
             kept_types: KeptTypes::new(alloc),
-            definitions: 0,
             left,
         }
+    }
+
+    /// The limits.
+    pub(crate) fn limits(&self) -> Limits
+        ensures { result ≡ self.now.limits }
+    {
+        self.limits
     }
 
     /// How many bytes may still be looked at in vain.
@@ -145,24 +150,27 @@ impl Search {
         self.left
     }
 
-    /// This item is kept, which begins at the place.
-    pub(crate) fn keep_item(&mut self, item: &[u8], at: usize) -> Result<(), Memory>
+    /// This item is kept.
+    pub(crate) fn keep_item(&mut self, item: &[u8]) -> Result<(), Memory>
         ensures limits { self.new.limits ≡ self.old.limits }
         ensures noted { OnOk result (NotesItemOf item.now self.old.kept_types self.new.kept_types) }
     {
-        if self.kept_types.note_item(&self.limits, item)? {
-            self.definitions = at.saturating_add(item.len());
-        }
-        Ok(())
+        self.kept_types.note_item(&self.limits, item)
     }
 
-    /// These items are kept, which begin at the place: values that define nothing.
-    pub(crate) fn keep_values(&mut self, values: &[u8], at: usize) -> Result<(), Memory>
+    /// These items are kept: values that define nothing.
+    pub(crate) fn keep_values(&mut self, values: &[u8]) -> Result<(), Memory>
         ensures limits { self.new.limits ≡ self.old.limits }
         ensures noted { OnOk result (NotesItemsOf values.now self.old.kept_types self.new.kept_types) }
     {
-        self.definitions = at.saturating_add(values.len());
         self.kept_types.note_values(&self.limits, values)
+    }
+
+    /// Whether no value was kept.
+    pub(crate) fn has_no_value(&self) -> bool
+        ensures { IsTrue result → (kept : List FilledItem) → AreNoted self.now.kept_types kept → AllDefine kept }
+    {
+        self.kept_types.is_empty()
     }
 
     /// So many bytes were looked at in vain.
@@ -172,38 +180,20 @@ impl Search {
         self.left = self.left.saturating_sub(bytes as u64);
     }
 
+    /// So many bytes of definitions were read again.
+    pub(crate) fn spend_definitions(&mut self, bytes: usize)
+        ensures { HasSpent self.old self.new }
+    {
+        self.spend(bytes.saturating_sub(FREE).saturating_mul(TIMES_A_VALUE));
+    }
+
     /// Whether the search may cost no more.
     pub(crate) fn is_spent(&self) -> bool {
         self.left == 0
     }
 
-    /// Where another encoder's stream begins, if an item of it is refused at this place, since it defines a type again:
-    /// with the definitions that stand right in front of it, or with itself. It is seen by the items that stand there.
-    pub(crate) fn later_stream(
-        &mut self,
-        alloc: Global,
-        bytes: &[u8],
-        clash: Option<usize>,
-    ) -> Result<Option<usize>, Memory>
-        requires { IfSome clash (λ at. at ≤ length bytes.now) }
-        ensures spent { HasSpent self.old self.new }
-        ensures before { IfOk result (λ later. IfSome later (λ from. BeginsBefore clash from)) }
-        ensures anew { IfOk result (λ later. IfSome later (λ from.
-            BeginsAnew (within_trees self.old.limits) 2 (drop from bytes.now))) }
-    {
-        let Some(at) = clash else {
-            return Ok(None);
-        };
-        let from = self.definitions.min(at);
-        if from > 0 && self.begins_anew(alloc, &bytes[from..], FEW)? {
-            return Ok(Some(from));
-        }
-        Ok(None)
-    }
-
     /// Where items go on behind the refused one at the place: where its count says, if some go on there or the bytes
-    /// end,
-    /// else at the next place where some do. Where the search would cost too much, all that follows is given up.
+    /// end, else at the next place where some do. Where the search would cost too much, all that follows is given up.
     pub(crate) fn resume(
         &mut self,
         alloc: Global,
@@ -230,13 +220,6 @@ impl Search {
             }
         }
         self.next_place(alloc, table, bytes, at)
-    }
-
-    /// All before the place is kept or left out.
-    pub(crate) fn go_behind(&mut self, at: usize)
-        ensures { HasSpent self.old self.new }
-    {
-        self.definitions = at;
     }
 
     // The next place where items go on, or else the end.
@@ -335,8 +318,8 @@ impl Search {
         Ok(false)
     }
 
-    // A session has read so many items in vain.
-    fn spend_session(&mut self, items: u64)
+    /// A session has read so many items in vain.
+    pub(crate) fn spend_session(&mut self, items: u64)
         ensures { HasSpent self.old self.new }
     {
         let bytes = items.saturating_add(1).saturating_mul(A_SESSION);

@@ -7,12 +7,15 @@ ghost use Rattle.gob_stream.specs.Calls.Ends.{writer_of};
 ghost use Rattle.gob_filled.specs.Stream.{FilledItem};
 ghost use Rattle.gob_go_writer.specs.Calls.Writer.{HasPut, limits_of};
 ghost use Rattle.gob_join.specs.Joining.{JoinsWhole};
-ghost use Rattle.gob_salvage.specs.Joined.{AreTold, BreaksInto, HasJoined, IsKeptOf};
+ghost use Rattle.gob_salvage.specs.declared.later.Later.{Later};
+ghost use Rattle.gob_salvage.specs.Joined.{AreTold, BeginsWithAll, BreaksInto, HasJoined, IsFurtherOn};
+ghost use Rattle.gob_salvage.specs.Keeping.{IsKeptOf};
 ghost use Rattle.gob_salvage.specs.Breaks.{Breaks};
 ghost use Rattle.gob_salvage.specs.Streams.{IsSalvaged, moved, moved_gap};
 
 use crate::gap::Gap;
 use crate::keeping::{Kept, Salvaged, keep_stream};
+use crate::later::Later;
 use gob_go_writer::GoWriter;
 use gob_join::{JoinFault, join_file};
 use gob_num::Memory;
@@ -35,7 +38,7 @@ pub fn salvage(alloc: Global, limits: Limits, bytes: &[u8]) -> Result<Salvaged, 
     let left = (bytes.len() as u64)
         .saturating_mul(MOST_TIMES)
         .saturating_add(SOME_MORE);
-    let first = keep_stream(alloc, limits, bytes, left)?;
+    let first = keep_stream(alloc, limits, &[], bytes, left)?;
     if first.later.is_none() {
         return Ok(first.kept);
     }
@@ -50,8 +53,8 @@ struct Joined {
     writer: GoWriter,
     output: Output<Vec<u8>>,
     gaps: Vec<Gap>,
-    // Where the next stream begins, if there is one.
-    next: Option<usize>,
+    // The next stream, if there is one.
+    next: Option<Later>,
     // How many bytes may still be looked at in vain.
     left: u64,
 }
@@ -85,10 +88,11 @@ fn join_streams(
         return Ok(None);
     }
     'streams: for _ in 0..bytes.len() {
-        let Some(begin) = joined.next else {
+        let Some(later) = &joined.next else {
             return joined.into_salvaged(alloc, limits);
         };
-        let next = keep_stream(alloc, limits, &bytes[begin..], joined.left)?;
+        let begin = later.at;
+        let next = keep_stream(alloc, limits, &later.front, &bytes[begin..], joined.left)?;
         if !joined.take_in(alloc, limits, &next, begin)? {
             return Ok(None);
         }
@@ -99,15 +103,18 @@ fn join_streams(
 impl Joined {
     // Of no stream yet.
     fn new(alloc: Global, limits: Limits, left: u64) -> Result<Joined, Memory>
-        ensures joined { (bytes : List ℕ) → length bytes < 2 ^ 64
+        ensures joined { (bytes : List ℕ) → length bytes ≤ limits.stream → length bytes < 2 ^ 64
             → IfOk result (HasJoined (within_trees limits) bytes) }
-        ensures next { IfOk result (λ joined. joined.next ≡ Some 0) }
+        ensures next { IfOk result (λ joined. BeginsWithAll joined.next) }
     {
         Ok(Joined {
             writer: GoWriter::new(alloc, limits)?,
             output: Output::new(Vec::new(alloc)),
             gaps: Vec::new(alloc),
-            next: Some(0),
+            next: Some(Later {
+                at: 0,
+                front: Vec::new(alloc),
+            }),
             left,
         })
     }
@@ -120,8 +127,9 @@ impl Joined {
         next: &Kept,
         begin: usize,
     ) -> Result<bool, Memory>
-        ensures { (bytes : List ℕ) → HasJoined (within_trees limits) bytes self.old → self.old.next ≡ Some begin
-            → IsKeptOf (within_trees limits) (drop begin bytes) next.now
+        ensures { (bytes : List ℕ) (later : Later) → HasJoined (within_trees limits) bytes self.old
+            → self.old.next ≡ Some later → later.at ≡ begin
+            → IsKeptOf (within_trees limits) later.front.items (drop begin bytes) next.now
             → IfOk result (λ taken. taken ≡ true → HasJoined (within_trees limits) bytes self.new) }
     {
         let kept = &next.kept.bytes;
@@ -129,7 +137,7 @@ impl Joined {
             return Ok(false);
         }
         push_moved(&mut self.gaps, told_gaps(next), begin)?;
-        self.next = behind(begin, next.later);
+        self.next = behind(alloc, begin, &next.later)?;
         self.left = next.left;
         Ok(true)
     }
@@ -153,7 +161,7 @@ impl Joined {
             return Ok(None);
         }
         // Of a stream all is kept: so many items it has.
-        let whole = keep_stream(alloc, limits, &bytes, 0)?;
+        let whole = keep_stream(alloc, limits, &[], &bytes, 0)?;
         Ok(Some(Salvaged {
             items: whole.kept.items,
             bytes,
@@ -188,21 +196,25 @@ fn told_gaps(next: &Kept) -> &[Gap]
     ensures { AreTold next.now result.now }
 {
     let gaps = next.kept.gaps.as_slice();
-    match next.later {
+    match &next.later {
         Some(_) => &gaps[..gaps.len().saturating_sub(1)],
         None => gaps,
     }
 }
 
 // Where the stream behind one begins, in the bytes in which that one begins at this offset.
-fn behind(begin: usize, later: Option<usize>) -> Option<usize>
-    ensures none { later ≡ None → result ≡ None }
-    ensures some { IfSome later (λ more. begin + more < 2 ^ 64 → result ≡ Some (begin + more)) }
+fn behind(alloc: Global, begin: usize, later: &Option<Later>) -> Result<Option<Later>, Memory>
+    ensures none { later.now ≡ None → IfOk result (λ next. next ≡ None) }
+    ensures some { IfSome later.now (λ more. begin + more.at < 2 ^ 64
+        → IfOk result (IsFurtherOn begin more)) }
 {
-    match later {
-        Some(more) => Some(begin.saturating_add(more)),
-        None => None,
-    }
+    let Some(more) = later else {
+        return Ok(None);
+    };
+    let mut front = Vec::new(alloc);
+    front.extend_from_slice(&more.front)?;
+    let at = begin.saturating_add(more.at);
+    Ok(Some(Later { at, front }))
 }
 
 // Appends gaps of bytes that begin at this offset.

@@ -13,9 +13,7 @@ pub(crate) enum Cause {
     /// The input begins as JSON does.
     Json,
     /// The input is JSON, in which a string that begins so is base64 of a stream.
-    JsonString {
-        start: [u8; 8],
-    },
+    JsonString { start: [u8; 8] },
     /// The input is text.
     Text,
     /// The input is a text that spells a stream.
@@ -23,87 +21,45 @@ pub(crate) enum Cause {
     /// The input is a dump that spells the front of a stream, with a line of `*` in place of lines that repeat.
     ShortDump(Spelling),
     /// The input is a text that spells something else.
-    SpelledForm {
-        spelling: Spelling,
-        form: Form,
-    },
+    SpelledForm { spelling: Spelling, form: Form },
     /// It begins with a head of HTTP.
-    Http {
-        bytes: usize,
-    },
+    Http { bytes: usize },
     /// No byte but this one was read.
-    OneByte {
-        byte: u8,
-    },
+    OneByte { byte: u8 },
     /// Before the stream stands its length.
-    Length {
-        bytes: usize,
-        is_high_first: bool,
-    },
+    Length { bytes: usize, is_high_first: bool },
     /// Before the stream stand so many bytes.
-    Prefix {
-        bytes: usize,
-    },
+    Prefix { bytes: usize },
     /// The first bytes are no item, and items of types that nothing defines follow.
-    LostFront {
-        bytes: usize,
-    },
+    LostFront { bytes: usize },
     /// Nothing that the first bytes are is known.
     NoStream,
     /// U+FFFD stands in place of bytes.
     Replaced,
     /// Line feeds became a carriage return and a line feed.
     Returns,
-    /// Another stream begins with the item, which defines the type, in the same way or in another. Its first value may
-    /// be one by the types that were defined before.
-    AnotherStream {
-        begin: u64,
-        id: TypeId,
-        is_same: bool,
-        is_known: bool,
-    },
+    /// Another stream begins with the item, which defines the type, in the same way or in another.
+    AnotherStream { id: TypeId, is_same: bool },
     /// The item isn't all there, and another stream begins at this offset.
-    CutOff {
-        begin: u64,
-        stream: u64,
-    },
+    CutOff { begin: u64, stream: u64 },
     /// Bytes that are no item stand behind the last one, and another stream begins at this offset.
-    Between {
-        begin: u64,
-        stream: u64,
-    },
+    Between { begin: u64, stream: u64 },
     /// A line feed stands behind the last item.
-    LineFeed {
-        begin: u64,
-    },
+    LineFeed { begin: u64 },
     /// Something else stands behind the last item.
-    Behind {
-        begin: u64,
-    },
+    Behind { begin: u64 },
     /// From this offset on there are zeros alone.
-    ZerosToEnd {
-        begin: u64,
-    },
+    ZerosToEnd { begin: u64 },
     /// So many zeros stand there, and other bytes behind them.
-    Hole {
-        zeros: usize,
-    },
+    Hole { zeros: usize },
     /// The item ends where its count says, and others follow.
-    Damaged {
-        end: u64,
-    },
+    Damaged { end: u64 },
     /// The input ends within an item.
     Torn,
     /// The item has so many bytes.
-    ItemLimit {
-        limit: u64,
-        needed: u64,
-    },
+    ItemLimit { limit: u64, needed: u64 },
     /// The value has this depth.
-    DepthLimit {
-        limit: u64,
-        needed: u64,
-    },
+    DepthLimit { limit: u64, needed: u64 },
     /// The first item is a value of a type that isn't defined.
     NoBeginning,
 }
@@ -132,7 +88,7 @@ pub(crate) fn cause_text(alloc: Global, cause: Cause) -> Result<String, Memory> 
         } => length_text(alloc, bytes, is_high_first),
         Cause::Prefix { bytes } => prefix_text(alloc, bytes),
         Cause::Between { begin, stream } => between_text(alloc, begin, stream),
-        Cause::AnotherStream { id, is_same, .. } => another_text(alloc, id, is_same),
+        Cause::AnotherStream { id, is_same } => another_text(alloc, id, is_same),
         _ => numbered_text(alloc, cause),
     }
 }

@@ -14,9 +14,6 @@ use std::alloc::Global;
 // So many zeros are no accident.
 const MANY_ZEROS: usize = 8;
 
-// So many definitions are gone past to the first value behind them.
-const MOST_DEFINITIONS: u64 = 10000;
-
 // What stands behind the last item, as a checksum or a length does, has no more bytes.
 const MOST_BEHIND: usize = 64;
 
@@ -89,32 +86,9 @@ fn another_stream(alloc: Global, scene: &Scene<'_>, id: TypeId) -> Result<Option
         return Ok(None);
     };
     match defines_alike(alloc, scene.item(), id, shape, scene.limits)? {
-        Some(is_same) => Ok(Some(Cause::AnotherStream {
-            begin: scene.kept.begin,
-            id,
-            is_same,
-            is_known: is_known(alloc, scene)?,
-        })),
+        Some(is_same) => Ok(Some(Cause::AnotherStream { id, is_same })),
         None => Ok(None),
     }
-}
-
-// Whether the first value behind the definitions is one by the types that were defined before them, and holds nothing,
-// or no byte stands behind them.
-fn is_known(alloc: Global, scene: &Scene<'_>) -> Result<bool, Memory> {
-    let mut place = 0usize;
-    for _ in 0..MOST_DEFINITIONS {
-        let item = rest_from(scene.item(), place);
-        let Some(head) = head_of(item) else {
-            return Ok(item.is_empty());
-        };
-        if !head.defines {
-            let body = head.body_in(item);
-            return is_value(alloc, scene.table, head.id, body, scene.limits.depth());
-        }
-        place = place.saturating_add(head.end_in(item));
-    }
-    Ok(false)
 }
 
 // How many bytes the item has, where its own count is refused, and the type that it names may come.

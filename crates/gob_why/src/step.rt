@@ -17,13 +17,6 @@ pub(crate) fn step_text(alloc: Global, cause: Cause, file: &str) -> Result<Strin
         Cause::Http { bytes } | Cause::Length { bytes, .. } | Cause::Prefix { bytes } => {
             tail_text(alloc, bytes as u64, file)
         }
-        // what is defined again is left out, so one stream has all values, also where cutting would lose some
-        Cause::AnotherStream {
-            is_same: true,
-            is_known: true,
-            ..
-        } => with_file(alloc, "gob values --salvage IN", file),
-        Cause::AnotherStream { begin, .. } => halves_text(alloc, begin, begin, file),
         Cause::CutOff { begin, stream } | Cause::Between { begin, stream } => {
             halves_text(alloc, begin, stream, file)
         }
@@ -51,6 +44,8 @@ pub(crate) fn with_file(alloc: Global, text: &str, file: &str) -> Result<String,
 // What to do, where no number tells more.
 fn plain_step(cause: Cause) -> &'static str {
     match cause {
+        // It has all values, also those of types that the stream before defined, where cutting would lose some.
+        Cause::AnotherStream { .. } => "gob values --salvage IN",
         Cause::Json => "jq . IN",
         Cause::Text => "head IN",
         Cause::NoStream => "file IN",

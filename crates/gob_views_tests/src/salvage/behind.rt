@@ -39,11 +39,10 @@ gob: kept 2 items, 16 bytes; left out 6 bytes in 1 place",
 gob: kept 1 item, 8 bytes; left out 32 bytes in 1 place",
     },
     Row {
-        what: "a stream with another type under the id, behind one item, which is no stream to join",
+        what: "a stream with another type under the id, which is joined",
         bytes: "ARRAY 06 ff 82 00 02 02 04",
-        kept: "POINT",
-        told: "gob: left out 22 bytes, 0 to 21: DefinedTwice(65) at 1
-gob: kept 0 items, 0 bytes; left out 22 bytes in 1 place",
+        kept: "ARRAY 06 ff 82 00 02 02 04",
+        told: "gob: kept 2 items, 22 bytes; left out nothing",
     },
 ];
 

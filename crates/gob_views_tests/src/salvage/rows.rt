@@ -15,7 +15,7 @@ pub(crate) struct Row {
     pub is_damaged: bool,
 }
 
-pub(crate) const ROWS: [Row; 18] = [
+pub(crate) const ROWS: [Row; 21] = [
     Row {
         what: "no bytes",
         bytes: "",
@@ -95,14 +95,13 @@ gob: kept 3 items, 48 bytes; left out 32 bytes in 1 place",
             74 65 72 66 61 63 65 20 7b 7d 10 2b 00 0a 6d 61 69 6e 2e 50 6f 69 6e 74 ff 81 03 01 \
             01 05 50 6f 69 6e 74 01 ff 82 00 01 02 01 01 58 01 04 00 01 01 59 01 04 00 00 00 08 \
             ff 82 05 01 02 01 04 00",
-        items: 1,
-        kept: "57 10 00 0d 2a 69 6e 74 65 72 66 61 63 65 20 7b 7d 10 45 00 0d 2a 69 6e 74 65 72 66 \
-            61 63 65 20 7b 7d 10 2b 00 0a 6d 61 69 6e 2e 50 6f 69 6e 74 ff 81 03 01 01 05 50 6f \
-            69 6e 74 01 ff 82 00 01 02 01 01 58 01 04 00 01 01 59 01 04 00 00 00 08 ff 82 05 01 \
-            02 01 04 00",
-        told: "gob: left out 88 bytes, 88 to 175: DefinedTwice(65) at 136
-gob: kept 1 item, 88 bytes; left out 88 bytes in 1 place",
-        is_damaged: true,
+        items: 3,
+        kept: "POINT 37 10 00 0d 2a 69 6e 74 65 72 66 61 63 65 20 7b 7d 10 25 00 0d 2a 69 6e 74 65 72 66 \
+            61 63 65 20 7b 7d 10 14 00 0a 6d 61 69 6e 2e 50 6f 69 6e 74 ff 82 05 01 02 01 04 00 \
+            37 10 00 0d 2a 69 6e 74 65 72 66 61 63 65 20 7b 7d 10 25 00 0d 2a 69 6e 74 65 72 66 \
+            61 63 65 20 7b 7d 10 14 00 0a 6d 61 69 6e 2e 50 6f 69 6e 74 ff 82 05 01 02 01 04 00",
+        told: "gob: kept 3 items, 144 bytes; left out nothing",
+        is_damaged: false,
     },
     Row {
         what: "another encoder's stream, with another type under the id",
@@ -120,6 +119,57 @@ gob: kept 1 item, 88 bytes; left out 88 bytes in 1 place",
         kept: "POINT 07 ff 82 01 2c 01 42 00",
         told: "gob: left out 15 bytes, 40 to 54: DefinedTwice(65) at 41
 gob: kept 2 items, 40 bytes; left out 15 bytes in 1 place",
+        is_damaged: true,
+    },
+    // Go's: `type A struct { Name string; N int }` and `B { X float64; Tags []string }` of one program, and A and
+    // `C { Y int; Z []int }` of the other.
+    Row {
+        what: "two programs, the second of which says a type again that it needs behind another",
+        bytes: "1e ff 81 03 01 01 01 41 01 ff 82 00 01 02 01 04 4e 61 6d 65 01 0c 00 01 01 4e 01 04 \
+            00 00 00 09 ff 82 01 02 61 31 01 02 00 1f ff 83 03 01 01 01 42 01 ff 84 00 01 02 01 \
+            01 58 01 08 00 01 04 54 61 67 73 01 ff 86 00 00 00 16 ff 85 02 01 01 08 5b 5d 73 74 \
+            72 69 6e 67 01 ff 86 00 01 0c 00 00 05 ff 84 01 40 00 09 ff 82 01 02 61 33 01 06 00 \
+            1e ff 81 03 01 01 01 41 01 ff 82 00 01 02 01 04 4e 61 6d 65 01 0c 00 01 01 4e 01 04 \
+            00 00 00 09 ff 82 01 02 62 31 01 02 00 1c ff 83 03 01 01 01 43 01 ff 84 00 01 02 01 \
+            01 59 01 04 00 01 01 5a 01 ff 86 00 00 00 13 ff 85 02 01 01 05 5b 5d 69 6e 74 01 ff \
+            86 00 01 04 00 00 05 ff 84 01 04 00 09 ff 82 01 02 62 33 01 06 00 09 ff 82 01 02 62 \
+            34 01 08 00 05 ff 84 01 0a 00",
+        items: 13,
+        kept: "1e ff 81 03 01 01 01 41 01 ff 82 00 01 02 01 04 4e 61 6d 65 01 0c 00 01 01 4e 01 04 \
+            00 00 00 09 ff 82 01 02 61 31 01 02 00 1f ff 83 03 01 01 01 42 01 ff 84 00 01 02 01 \
+            01 58 01 08 00 01 04 54 61 67 73 01 ff 86 00 00 00 16 ff 85 02 01 01 08 5b 5d 73 74 \
+            72 69 6e 67 01 ff 86 00 01 0c 00 00 05 ff 84 01 40 00 09 ff 82 01 02 61 33 01 06 00 \
+            09 ff 82 01 02 62 31 01 02 00 1c ff 87 03 01 01 01 43 01 ff 88 00 01 02 01 01 59 01 \
+            04 00 01 01 5a 01 ff 8a 00 00 00 13 ff 89 02 01 01 05 5b 5d 69 6e 74 01 ff 8a 00 01 \
+            04 00 00 05 ff 88 01 04 00 09 ff 82 01 02 62 33 01 06 00 09 ff 82 01 02 62 34 01 08 \
+            00 05 ff 88 01 0a 00",
+        told: "gob: left out 31 bytes, 112 to 142: type 65 is defined again, in the same way
+gob: kept 13 items, 203 bytes; left out 31 bytes in 1 place",
+        is_damaged: false,
+    },
+    Row {
+        what: "two encoders, each of a slice whose first element holds a struct",
+        bytes: "0c ff 81 02 01 02 ff 82 00 01 10 00 00 29 ff 82 00 01 06 6d 61 69 6e 2e 41 ff 83 03 \
+            01 01 01 41 01 ff 84 00 01 02 01 04 4e 61 6d 65 01 0c 00 01 01 4e 01 04 00 00 00 09 \
+            ff 84 06 01 01 61 01 02 00 0c ff 81 02 01 02 ff 82 00 01 10 00 00 29 ff 82 00 01 06 \
+            6d 61 69 6e 2e 41 ff 83 03 01 01 01 41 01 ff 84 00 01 02 01 04 4e 61 6d 65 01 0c 00 \
+            01 01 4e 01 04 00 00 00 09 ff 84 06 01 01 61 01 02 00",
+        items: 4,
+        kept: "0c ff 81 02 01 02 ff 82 00 01 10 00 00 1e ff 83 03 01 01 01 41 01 ff 84 00 01 02 01 \
+            04 4e 61 6d 65 01 0c 00 01 01 4e 01 04 00 00 00 14 ff 82 00 01 06 6d 61 69 6e 2e 41 \
+            ff 84 06 01 01 61 01 02 00 14 ff 82 00 01 06 6d 61 69 6e 2e 41 ff 84 06 01 01 61 01 \
+            02 00",
+        told: "gob: left out 13 bytes, 65 to 77: type 65 is defined again, in the same way
+gob: kept 4 items, 86 bytes; left out 13 bytes in 1 place",
+        is_damaged: false,
+    },
+    Row {
+        what: "a definition whose id has changed to that of another, in front of a value of a type that is known",
+        bytes: "POINT 07 ff 82 01 2c 01 42 00 ARRAY 03 04 00 06 07 ff 82 01 02 01 04 00",
+        items: 4,
+        kept: "POINT 07 ff 82 01 2c 01 42 00 03 04 00 06 07 ff 82 01 02 01 04 00",
+        told: "gob: left out 15 bytes, 40 to 54: DefinedTwice(65) at 41
+gob: kept 4 items, 52 bytes; left out 15 bytes in 1 place",
         is_damaged: true,
     },
     Row {
