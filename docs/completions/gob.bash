@@ -21,6 +21,7 @@ _gob() {
         show) words+=' --go --progress --salvage --numbers-as-text' ;;
         check) words+=' --go --progress' ;;
         rewrite) words+=' --go --hoist' ;;
+        take) words+=' --go' ;;
         convert) words+=' --rename --all' ;;
         write) words+=' --go --line' ;;
         make) words+=' --line --types --type --lenient' ;;

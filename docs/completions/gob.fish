@@ -46,6 +46,7 @@ complete -c gob -n '__fish_seen_subcommand_from check' -l go -d 'Take all that G
 complete -c gob -n '__fish_seen_subcommand_from check' -l progress -d 'With --go, say on standard error how far it is'
 complete -c gob -n '__fish_seen_subcommand_from rewrite' -l go -d 'Take all that Go'\''s encoder writes, as values in interfaces'
 complete -c gob -n '__fish_seen_subcommand_from rewrite' -l hoist -d 'As --go, and put each definition in a value into an item of its own before it'
+complete -c gob -n '__fish_seen_subcommand_from take' -l go -d 'Print what convert writes, as show --go does: with values in interfaces'
 complete -c gob -n '__fish_seen_subcommand_from convert' -l rename -x -d 'Fill the wanted field NEW from the field OLD of the stream, with STRUCT.OLD=NEW in the wanted struct STRUCT alone; it may be given several times'
 complete -c gob -n '__fish_seen_subcommand_from convert' -l all -d 'Stop at a value that has a field which isn'\''t wanted'
 complete -c gob -n '__fish_seen_subcommand_from write' -l go -d 'Take the lines of show --go, with values in interfaces'

@@ -1,14 +1,16 @@
 -- How the program ends that converts a stream. (docs/FORMAT.md, The program: this project's own.)
-use Rattle.std.specs.Prelude.{◌≡◌, ℕ, Bool, List, Option, Some, Result, Ok, Err, IsErrAnd, string_bytes}
+use Rattle.std.specs.Prelude.{◌≡◌, ℕ, Bool, true, false, List, Option, Some, Result, Ok, Err, IsErrAnd}
+use Rattle.std.specs.Prelude.{string_bytes}
 use Rattle.std.specs.Str.{chars}
 use Rattle.std.specs.Io.KnownBytes.{append_known}
 use Rattle.gob_left_out.specs.Tally.{TallyRow}
 use Rattle.gob_left_out.specs.TallyText.{tally_line}
 use Rattle.gob_rename.specs.declared.rename.Rename.{Rename}
-use Rattle.gob_stream.specs.Bounds.{within_trees}
+use Rattle.gob_stream.specs.Bounds.{Bounds, within_trees}
 use Rattle.gob_convert.specs.declared.fault.ConvertFault.{ConvertFault}
 use Rattle.gob_convert.specs.declared.fault.ConvertFault.TheVariants as stop
 use Rattle.gob_convert.specs.Faults.{OfRun}
+use Rattle.gob_convert.specs.Printing.{TakeGoAnswers}
 use Rattle.gob_convert.specs.Running.{ConvertAnswers}
 use Rattle.gob_tool.specs.declared.fault.ToolFault.{ToolFault}
 use Rattle.gob_tool.specs.declared.fault.ToolFault.TheVariants as run_fault
@@ -57,9 +59,18 @@ pub record IsStopped (wrote new : Option (List ℕ)) (result : Result (Unit {0})
   pub told : IsErrAnd result TellsWord
   pub all : wrote ≡ append_known new lost
 
+-- what the run has done: written the stream that was asked for, or its lines
+abbrev pub ConvertsOrTakes : (in_lines : Bool) → List Rename → (all : Bool) → Bounds → (wanted bytes : List ℕ)
+    → (wanted_now now old new : Option (List ℕ)) → (told telling : List TallyRow)
+    → Result (Unit {0}) ConvertFault → Type 0
+ConvertsOrTakes false rs all L wanted bytes wanted_now now old new told telling result =
+    ConvertAnswers rs all L wanted bytes wanted_now now old new told telling result
+ConvertsOrTakes true rs all L wanted bytes wanted_now now old new told telling result =
+    TakeGoAnswers rs all L wanted bytes wanted_now now old new told telling result
+
 -- how a conversion ends, where the wanted stream, the input, the output and the tally of what values leave out were the
 -- first of each pair, and are the second
-pub record EndsConversion (order : Order) (renames : List Rename) (all : Bool)
+pub record EndsConversion (order : Order) (renames : List Rename) (all in_lines : Bool)
     (wanted wanted_now input now old new : Seen) (told telling : List TallyRow)
     (result : Result (Unit {0}) Exit) : Type 0 where
   pub answer : Result (Unit {0}) ConvertFault
@@ -70,8 +81,8 @@ pub record EndsConversion (order : Order) (renames : List Rename) (all : Bool)
   pub reads : OfRun (CountsTakeReads wanted.failures wanted_now.failures input.failures now.failures) answer
   pub writes : OfRun (CountsWriteFaults old.failures new.failures) answer
   pub does : (wanted_bytes bytes : List ℕ) → wanted.bytes ≡ Some wanted_bytes → input.bytes ≡ Some bytes
-      → ConvertAnswers renames all (within_trees (order_limits order)) wanted_bytes bytes wanted_now.bytes now.bytes
-      old.bytes (append_known new.bytes lost) told telling answer
+      → ConvertsOrTakes in_lines renames all (within_trees (order_limits order)) wanted_bytes bytes wanted_now.bytes
+      now.bytes old.bytes (append_known new.bytes lost) told telling answer
 
 -- ---- what is told of a fault, and of what is left out
 -- its line has names of the stream

@@ -1,18 +1,22 @@
-//! The stream of what is received of a stream's values, as the words ask.
+//! The stream of what is received of a stream's values, as the words ask, and its lines.
 
-ghost use Rattle.std.specs.Prelude.{◌≡◌, ◌↔◌, length, IfErr, IfOk, IsTrue, string_bytes};
+ghost use Rattle.std.specs.Prelude.{◌≡◌, ◌↔◌, ℕ, List, Some, length, IfErr, IfOk, IsTrue, string_bytes};
 ghost use Rattle.std.specs.Io.Buffered.{writer_contents};
-ghost use Rattle.gob_stream.specs.Calls.Ends.{failed_writes, writer_of};
-ghost use Rattle.gob_convert.specs.Faults.{IsAmongRenames};
+ghost use Rattle.gob_stream.specs.Bounds.{within_trees};
+ghost use Rattle.gob_stream.specs.Calls.Ends.{failed_reads, failed_writes, reader_of, writer_of};
+ghost use Rattle.gob_convert.specs.Faults.{IsAmongRenames, OfRun};
+ghost use Rattle.gob_tool.specs.Running.{order_limits};
+ghost use Rattle.gob_tool.specs.Showing.{CountsWriteFaults};
+ghost use Rattle.gob_tool.specs.Taking.{CountsTakeReads};
 ghost use Rattle.gob_words.specs.Escaped.{IsUnobeyed};
-ghost use Rattle.gob.specs.Converting.{EndsConversion, HasPath, IsFaultShown, IsSettledAs, IsShown, IsShownLine};
+ghost use Rattle.gob.specs.Converting.{ConvertsOrTakes, EndsConversion, HasPath, IsFaultShown, IsSettledAs, IsShown, IsShownLine};
 ghost use Rattle.gob.specs.Converting.{IsStopShown, IsStopped, IsTallyShown, TellsWord};
 ghost use Rattle.gob.specs.Exit.{IsQuietIfClosed, seen_after, seen_of, unused};
 
 use crate::pipe::Pipe;
 use crate::types::{TypesFile, wanted_of};
 use crate::{AfterRun, Exit, buffered, opened, settled};
-use gob_convert::{ConvertFault, ConvertOptions, run_convert};
+use gob_convert::{ConvertFault, ConvertOptions, run_convert, run_take_go};
 use gob_left_out::Tally;
 use gob_rename::{Misfit, Rename, WordFault, WordsFault, renames_said_by};
 use gob_stream::{Input, Output};
@@ -34,6 +38,8 @@ struct Conversion<'a> {
     renames: Vec<Rename<'a>>,
     /// Whether no field of a value may be left out.
     all: bool,
+    /// Whether the lines of that stream are printed, in place of the stream.
+    in_lines: bool,
     ghost as_many: { length renames.items ≡ length words.items },
 }
 
@@ -45,12 +51,29 @@ pub(crate) fn convert<'a>(
     names: &'a [&'a str],
 ) -> Result<(), Exit> {
     let asked = conversion_of(rt.alloc(), *order, names)?;
-    match order.wanted {
-        None => convert_on(rt, &asked, b"".as_slice()),
-        Some(word) if is_declaration(word) => convert_declared(rt, &asked, word.as_bytes()),
+    convert_by(rt, &asked)
+}
+
+/// Prints the stream that [`convert`] writes where the words say nothing beside the order, as `show --go` prints it.
+pub(crate) fn take_go(rt: &HostRuntime, order: &Order<'_>) -> Result<(), Exit> {
+    let asked = Conversion {
+        order: *order,
+        words: Vec::new(rt.alloc()),
+        renames: Vec::new(rt.alloc()),
+        all: false,
+        in_lines: true,
+    };
+    convert_by(rt, &asked)
+}
+
+// Converts by what has the wanted type.
+fn convert_by(rt: &HostRuntime, asked: &Conversion<'_>) -> Result<(), Exit> {
+    match asked.order.wanted {
+        None => convert_on(rt, asked, b"".as_slice()),
+        Some(word) if is_declaration(word) => convert_declared(rt, asked, word.as_bytes()),
         Some(path) => {
             let wanted = opened(File::open(rt, path))?;
-            convert_file(rt, &asked, wanted)
+            convert_file(rt, asked, wanted)
         }
     }
 }
@@ -71,6 +94,7 @@ fn conversion_of<'a>(
             words,
             renames,
             all,
+            in_lines: false,
         }),
         Err(WordsFault::Memory) => Err(Exit::Run(ToolFault::Memory)),
         Err(WordsFault::Word { number, fault }) => {
@@ -166,7 +190,7 @@ fn convert_out<Q: Read, R: Read, W: Write + Drop>(
     writer: BufWriter<Pipe<W>>,
     left_out: &mut Tally,
 ) -> AfterRun<W>
-    ensures ends { EndsConversion asked.now.order asked.now.renames.items asked.now.all
+    ensures ends { EndsConversion asked.now.order asked.now.renames.items asked.now.all asked.now.in_lines
         (seen_of Q.remaining wanted.old) (seen_of Q.remaining wanted.new)
         (seen_of R.remaining input.old) (seen_of R.remaining input.new)
         (unused (writer_contents (λ pipe. W.contents pipe.writer) writer)) (seen_after W.contents result)
@@ -174,13 +198,40 @@ fn convert_out<Q: Read, R: Read, W: Write + Drop>(
     ensures quiet { IsQuietIfClosed result }
 {
     let mut output = Output::new(writer);
+    let answer = run_asked(alloc, asked, wanted, input, &mut output, left_out);
+    settled_as(alloc, &asked.words, answer, output)
+}
+
+// The run that was asked for.
+fn run_asked<Q: Read, R: Read, W: Write>(
+    alloc: Global,
+    asked: &Conversion<'_>,
+    wanted: &mut Input<Q>,
+    input: &mut Input<R>,
+    output: &mut Output<W>,
+    left_out: &mut Tally,
+) -> Result<(), ConvertFault>
+    ensures does { (wanted_bytes bytes : List ℕ) → Q.remaining (reader_of wanted.old) ≡ Some wanted_bytes
+        → R.remaining (reader_of input.old) ≡ Some bytes
+        → ConvertsOrTakes asked.now.in_lines asked.now.renames.items asked.now.all
+        (within_trees (order_limits asked.now.order)) wanted_bytes bytes
+        (Q.remaining (reader_of wanted.new)) (R.remaining (reader_of input.new))
+        (W.contents (writer_of output.old)) (W.contents (writer_of output.new)) left_out.old left_out.new result }
+    ensures among { IfErr result (IsAmongRenames (length asked.now.renames.items)) }
+    ensures reads { OfRun (CountsTakeReads (failed_reads wanted.old) (failed_reads wanted.new)
+        (failed_reads input.old) (failed_reads input.new)) result }
+    ensures writes { OfRun (CountsWriteFaults (failed_writes output.old) (failed_writes output.new)) result }
+{
     let options = ConvertOptions {
         renames: &asked.renames,
         all: asked.all,
         limits: limits_of(&asked.order),
     };
-    let answer = run_convert(alloc, &options, wanted, input, &mut output, left_out);
-    settled_as(alloc, &asked.words, answer, output)
+    if asked.in_lines {
+        run_take_go(alloc, &options, wanted, input, output, left_out)
+    } else {
+        run_convert(alloc, &options, wanted, input, output, left_out)
+    }
 }
 
 // What comes of a conversion that answered this: where a rename doesn't fit the wanted types, its word is told, and

@@ -4,10 +4,11 @@
 //! standard output. `gob check [IN]` prints one line that says how much there is in a whole stream, and `gob rewrite
 //! [IN]` writes the stream without the fields that are zero.
 //! `gob take WANTED [IN]` receives each value of IN as one of the type of the first value in the file WANTED, and
-//! prints a line for each; `gob convert WANTED [IN]` writes the stream of what is received, by `--rename` also of
-//! fields that have other names in IN. `gob values [IN]` prints each value as plain JSON, `gob types [IN]` the types as
-//! Go source, `gob why [IN]` why IN is refused or how much is in it, `gob explain [IN]` the bytes row by row, and `gob
-//! version` the version. `gob verify FILE..` prints a line for each file that says whether it is a whole stream.
+//! prints a line for each, and with `--go` the lines of what `gob convert` writes; `gob convert WANTED [IN]` writes the
+//! stream of what is received, by `--rename` also of fields that have other names in IN. `gob values [IN]` prints each
+//! value as plain JSON, `gob types [IN]` the types as Go source, `gob why [IN]` why IN is refused or how much is in it,
+//! `gob explain [IN]` the bytes row by row, and `gob version` the version. `gob verify FILE..` prints a line for each
+//! file that says whether it is a whole stream.
 //! `gob write [LINES]` writes the stream that lines of `gob show` say, and `gob make --types TYPES [JSON]` that of the
 //! values that plain JSON says.
 //! `gob split IN DIR` writes IN as files of the directory DIR, each a whole stream, and `gob join FILE..` the values of
@@ -52,7 +53,7 @@ mod write;
 
 use crate::appended::{in_input, leaves_out};
 use crate::asked::{Asked, asked_by};
-use crate::convert::convert;
+use crate::convert::{convert, take_go};
 use crate::join::join;
 use crate::opening::open;
 use crate::pipe::Pipe;
@@ -192,6 +193,7 @@ fn run(rt: &HostRuntime) -> Result<(), Exit> {
         Ok(Asked::Order(order)) if order.command == Chosen::Show => show(rt, &order, &names),
         Ok(Asked::Order(order)) if order.command == Chosen::Convert => convert(rt, &order, &names),
         Ok(Asked::Order(order)) => run_for(rt, &order),
+        Ok(Asked::GoTaking(order)) => take_go(rt, &order),
         Ok(Asked::View(view)) if view.command == ViewCommand::Why => why(rt, &view),
         Ok(Asked::View(view)) if view.command == ViewCommand::Write => write(rt, &view),
         Ok(Asked::View(view)) if view.command == ViewCommand::Salvage => salvage(rt, &view, &names),

@@ -108,17 +108,15 @@ module _ (all : Bool) (L : Bounds) (bytes : List ℕ) (now : Option (List ℕ)) 
       (converts (Err fault.Write) (ended_whole (converted_as (whole_cut old mid new k)) answer h o))
 
 -- ---- all of it
-pub converted_behind : {rs : List Rename} {all own : Bool} {L M N : Bounds} {wanted bytes : List ℕ}
+pub converted_at : {rs : List Rename} {all own : Bool} {L M N : Bounds} {wanted bytes : List ℕ}
     {wanted_now now old new : Option (List ℕ)} {told telling : List TallyRow} {f : Front} {t : Target}
     {r : Result (Unit {0}) ConvertFault}
     (h : HasWanted (within_trees M) wanted wanted_now (λ given F u. IsFound rs f t given F u)) → M ≡ L → N ≡ L
     → own ≡ all
-    → ((items : List FilledItem) → HasPut f.writer items f.bytes.items
-    → ConvertsBehind own (within_trees N) bytes now items (types t.table) t.id old new told telling r)
+    → ConvertsBehind own (within_trees N) bytes now (in_front h.items) (types t.table) t.id old new told telling r
     → ConvertAnswers rs all (within_trees L) wanted bytes wanted_now now old new told telling r
-converted_behind {rs = rs} {all = all} {own = own} {L = L} {wanted = wanted} {bytes = bytes} {wanted_now = wanted_now}
-    {now = now} {old = old} {new = new} {told = told} {telling = telling} {t = t} {r = r} h same limits is behind =
-    let b = behind (in_front h.items) h.holds.put in
+converted_at {rs = rs} {all = all} {own = own} {L = L} {wanted = wanted} {bytes = bytes} {wanted_now = wanted_now}
+    {now = now} {old = old} {new = new} {told = told} {telling = telling} {t = t} {r = r} h same limits is b =
     converts_behind (subst (λ (L : Bounds). HasWanted (within_trees L) wanted wanted_now Fits) same (record {
       items = h.items;
       behind = h.behind;
@@ -148,6 +146,16 @@ converted_behind {rs = rs} {all = all} {own = own} {L = L} {wanted = wanted} {by
     Fits : List FilledItem → Table → TypeId → Type 0
     Fits given F u = AllFit rs F × ConvertsBehind all (within_trees L) bytes now (in_front given) (renamed rs F) u old
         new told telling r
+
+pub converted_behind : {rs : List Rename} {all own : Bool} {L M N : Bounds} {wanted bytes : List ℕ}
+    {wanted_now now old new : Option (List ℕ)} {told telling : List TallyRow} {f : Front} {t : Target}
+    {r : Result (Unit {0}) ConvertFault}
+    (h : HasWanted (within_trees M) wanted wanted_now (λ given F u. IsFound rs f t given F u)) → M ≡ L → N ≡ L
+    → own ≡ all
+    → ((items : List FilledItem) → HasPut f.writer items f.bytes.items
+    → ConvertsBehind own (within_trees N) bytes now items (types t.table) t.id old new told telling r)
+    → ConvertAnswers rs all (within_trees L) wanted bytes wanted_now now old new told telling r
+converted_behind h same limits is behind = converted_at h same limits is (behind (in_front h.items) h.holds.put)
 
 pub target_unfound : {rs : List Rename} {all : Bool} {L M : Bounds} {wanted bytes : List ℕ}
     {wanted_now now old new : Option (List ℕ)} (told : List TallyRow) (f : Front) (e : ConvertFault)

@@ -2,3 +2,5 @@ pub mod ConvertingLaws
 pub mod EndingLaws
 pub mod ValueLaws
 pub mod WantedLaws
+pub mod ShownLaws
+pub mod PrintingLaws

@@ -7,7 +7,7 @@
 //! written      dR R{ C 7, A 1 }                  the definitions in front of the wanted value, and the values received
 //! ```
 //!
-//! [`run_convert`] is the run. [`ConvertOptions`] say which fields of the wanted type have another name in the stream,
+//! [`run_convert`] is the run, and [`run_take_go`] the one that prints what it writes. [`ConvertOptions`] say which fields of the wanted type have another name in the stream,
 //! and whether no field of a value may be left out.
 #![tactic(auto)]
 
@@ -15,8 +15,11 @@ mod conversion;
 mod fault;
 mod options;
 mod run;
+mod shown;
+mod take;
 mod wanted;
 
 pub use fault::ConvertFault;
 pub use options::ConvertOptions;
 pub use run::run_convert;
+pub use take::run_take_go;

@@ -84,8 +84,8 @@ pub fn run_convert<Q: Read, R: Read, W: Write>(
     end_conversion(answer, output)
 }
 
-// Flushes behind what was written, unless a write failed. The first fault is answered.
-fn end_conversion<W: Write>(
+/// Flushes behind what was written, unless a write failed. The first fault is answered.
+pub(crate) fn end_conversion<W: Write>(
     answer: Result<(), ConvertFault>,
     output: &mut Output<W>,
 ) -> Result<(), ConvertFault>
@@ -208,8 +208,8 @@ fn convert_next<W: Write>(
     Ok(())
 }
 
-// Converts what a step gave.
-fn convert_item(
+/// Converts what a step gave.
+pub(crate) fn convert_item(
     alloc: Global,
     item: Option<GoItem>,
     table: &Table,

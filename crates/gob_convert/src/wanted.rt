@@ -95,6 +95,13 @@ impl Front {
         &self.bytes
     }
 
+    /// The limits of their stream.
+    pub(crate) fn limits(&self) -> Limits
+        ensures { result ≡ limits_of self.now.writer }
+    {
+        self.writer.limits()
+    }
+
     /// What has written them.
     pub(crate) fn into_writer(self) -> GoWriter
         ensures { result ≡ self.writer }

@@ -8,5 +8,6 @@ mod show;
 mod whole_form;
 
 pub use check::run_check_go;
+pub use item_lines::push_lines;
 pub use rewrite::run_rewrite_go;
 pub use show::run_show_go;

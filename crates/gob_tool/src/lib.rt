@@ -34,7 +34,7 @@ mod wanted;
 pub use check::{Tally, run_check, run_check_in};
 pub use end::{end_run, flush_before_waiting};
 pub use fault::{ToolFault, status};
-pub use go::{run_check_go, run_rewrite_go, run_show_go};
+pub use go::{push_lines, run_check_go, run_rewrite_go, run_show_go};
 pub use gob_words::{Chosen, Order, OrderFault, order_of};
 pub use item_json::{json_of, json_of_tape};
 pub use item_line::push_whole_line;

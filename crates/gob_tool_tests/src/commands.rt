@@ -80,6 +80,19 @@ pub(crate) fn convert_go<R: Read, W: Write>(
     gob_convert::run_convert(alloc, options, &mut wanted, input, output, left_out)
 }
 
+/// How the run ends that prints what such a conversion writes.
+pub(crate) fn take_go<R: Read, W: Write>(
+    alloc: Global,
+    options: &ConvertOptions<'_>,
+    wanted: &[u8],
+    input: &mut Input<R>,
+    output: &mut Output<W>,
+    left_out: &mut Tally,
+) -> Result<(), ConvertFault> {
+    let mut wanted = Input::new(wanted);
+    gob_convert::run_take_go(alloc, options, &mut wanted, input, output, left_out)
+}
+
 // How a conversion ended whose renames fit, and which isn't full.
 fn fitting(ended: Result<(), ConvertFault>) -> Result<(), ToolFault> {
     match ended {

@@ -1,7 +1,7 @@
 //! Streams of Go's encoder received as values of a type of another stream: with fields that have other names there,
 //! without a field left out, with what interfaces hold, and with what is told of the fields that are left out.
 
-use crate::commands::convert_go;
+use crate::commands::{convert_go, take_go};
 use crate::takes::stream_of;
 use gob_convert::{ConvertFault, ConvertOptions};
 use gob_left_out::Tally;
@@ -9,6 +9,7 @@ use gob_num::Memory;
 use gob_rename::renames_said_by;
 use gob_stream::{Input, Limits, Output};
 use gob_test_rows::part;
+use gob_tool::run_show_go;
 use std::alloc::{AllocError, Global};
 use std::test::*;
 
@@ -177,7 +178,39 @@ fn converts(alloc: Global, row: &str, options: &ConvertOptions<'_>) -> Result<bo
     Ok(output.into_inner().as_slice() == written.as_slice())
 }
 
-// Whether that of the row does.
+// Whether the lines of the stream that the row says are printed, with the same end.
+fn prints(alloc: Global, row: &str, options: &ConvertOptions<'_>) -> Result<bool, Memory> {
+    let wanted = stream_of(alloc, part(row, 2))?;
+    let bytes = stream_of(alloc, part(row, 3))?;
+    let mut input = Input::new(bytes.as_slice());
+    let mut output = Output::new(Vec::new(alloc));
+    let mut left_out = Tally::new(alloc);
+    let ended = take_go(
+        alloc,
+        options,
+        &wanted,
+        &mut input,
+        &mut output,
+        &mut left_out,
+    );
+    if !ends_so(alloc, ended, part(row, 5))? || !is_told(alloc, &left_out, part(row, 6))? {
+        return Ok(false);
+    }
+    let written = stream_of(alloc, part(row, 4))?;
+    Ok(is_shown(alloc, &written, output.into_inner().as_slice()))
+}
+
+// Whether these are the lines of the stream, with what interfaces hold.
+fn is_shown(alloc: Global, stream: &[u8], lines: &[u8]) -> bool {
+    let mut input = Input::new(stream);
+    let mut output = Output::new(Vec::new(alloc));
+    match run_show_go(alloc, &mut input, &mut output, Limits::standard()) {
+        Ok(()) => output.into_inner().as_slice() == lines,
+        Err(_) => false,
+    }
+}
+
+// Whether those of the row do.
 fn is_right(alloc: Global, row: &str) -> Result<bool, Memory> {
     let said = part(row, 1);
     let all = said == "--all";
@@ -191,7 +224,7 @@ fn is_right(alloc: Global, row: &str) -> Result<bool, Memory> {
         all,
         limits: limits(),
     };
-    converts(alloc, row, &options)
+    Ok(converts(alloc, row, &options)? && prints(alloc, row, &options)?)
 }
 
 #[test]

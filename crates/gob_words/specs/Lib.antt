@@ -9,4 +9,5 @@ pub mod Paths
 pub mod Splitting
 pub mod Making
 pub mod Converting
+pub mod Taking
 pub mod Numbers

@@ -98,6 +98,10 @@ types = with_input (with_salvage (with_progress (with_rule (with_options (codes 
 abbrev pub salvage : App
 salvage = with_rule (one_stream (codes "salvage")) (option_rule (codes "types"))
 
+-- the command that shows values of a wanted type, with the flag for which it shows what `convert` writes
+abbrev pub take : App
+take = with_rule (two_streams (codes "take")) (flag_rule (codes "go"))
+
 -- which field has another name, in a word of an option that may be given several times
 abbrev pub renames_rule : Rule
 renames_rule = record (option_rule (codes "rename")) { action = Some Append }
@@ -171,7 +175,7 @@ abbrev pub program : App
 program =
     with_subcommand (with_subcommand
     (with_subcommand (with_subcommand (with_subcommand (with_subcommand (with_subcommand
-    (with_subcommand people_program show.top) check.top) rewrite.top) (two_streams (codes "take")).top)
+    (with_subcommand people_program show.top) check.top) rewrite.top) take.top)
     convert.top) write.top) make.top) (new_app (codes "version")).top
 
 -- ---- what they say

@@ -6,7 +6,7 @@ ghost use Rattle.clap.specs.declared.builder.Command.TheViews.{out-Command};
 ghost use Rattle.gob_words.specs.Words.{bare_program, files_rule, flag_rule, kinds_rule, needed_rule, option_rule};
 ghost use Rattle.gob_words.specs.Words.{check, convert, explain, join, make, people_program, program, renames_rule};
 ghost use Rattle.gob_words.specs.Words.{rewrite, salvage, show, split};
-ghost use Rattle.gob_words.specs.Words.{one_stream, two_streams, types, values, verify, write};
+ghost use Rattle.gob_words.specs.Words.{one_stream, take, two_streams, types, values, verify, write};
 ghost use Rattle.gob_words.specs.Words.{with_elements, with_flags, with_go, with_go_flags, with_input, with_made};
 ghost use Rattle.gob_words.specs.Words.{with_options, with_parts, with_progress, with_salvage, with_sizes, with_types};
 
@@ -28,8 +28,7 @@ pub(crate) fn program<'a>(alloc: Global) -> Built<'a>
     let showing = with_command(people_program(alloc), show(alloc));
     let checking = with_command(showing, check(alloc));
     let rewriting = with_command(checking, rewrite(alloc));
-    let take = two_streams(alloc, "take", help::TAKE, help::WANTED);
-    let taking = with_command(rewriting, take);
+    let taking = with_command(rewriting, take(alloc));
     let converting = with_command(taking, convert(alloc));
     let writing = with_command(converting, write(alloc));
     let making = with_command(writing, make(alloc));
@@ -208,6 +207,15 @@ fn salvage<'a>(alloc: Global) -> Built<'a>
 {
     let reading = one_stream(alloc, "salvage", help::SALVAGE);
     with_arg(reading, option(alloc, "types", "GOOD", help::GOOD))
+}
+
+// The command that shows values of a wanted type, with the flag for which it shows what `convert` writes.
+fn take<'a>(alloc: Global) -> Built<'a>
+    ensures app { IfOk result (λ command. app_of command ≡ take) }
+    ensures local { IfOk result (λ command. (out-Command command).has_globals ≡ false) }
+{
+    let wanting = two_streams(alloc, "take", help::TAKE, help::WANTED);
+    with_flag(alloc, wanting, "go", help::GO_TAKEN)
 }
 
 // The command that writes values of a wanted type, with the flag for values all of whose fields are wanted.

@@ -57,6 +57,9 @@ pub(crate) const GO: &str = "Take all that Go's encoder writes, as values in int
 
 pub(crate) const GO_LINES: &str = "Take the lines of show --go, with values in interfaces";
 
+pub(crate) const GO_TAKEN: &str =
+    "Print what convert writes, as show --go does: with values in interfaces";
+
 pub(crate) const HOIST: &str =
     "As --go, and put each definition in a value into an item of its own before it";
 
@@ -95,7 +98,7 @@ pub(crate) const FAULT: &str = "Show the item that is refused alone";
 
 pub(crate) const AT: &str = "Show the item around the byte at this offset alone";
 
-pub(crate) const WANTED: &str = "The stream that has the wanted type";
+pub(crate) const WANTED: &str = "The stream that has the wanted type; with --go also Go source";
 
 pub(crate) const WANTED_OR_SOURCE: &str =
     "The file that has the wanted type: a stream, or Go source";
@@ -160,8 +163,8 @@ reason, the offset of the first byte that is refused, and how many bytes show it
       yet. Get the whole file. The items before the offset are whole.
   gob: refused 16 InterfaceValue at 3 seen 4
       A field of an interface type isn't nil. Type gob show --go: with --go
-      show, check and rewrite take what an interface holds.
+      show, check, rewrite and take read what an interface holds.
   gob: refused 19 WrongId at 3 seen 11
       A type that encodes itself, as big.Int, was first sent by a pointer, and Go
-      described it under two ids. Type gob show --go: with --go show, check and
-      rewrite take that too.";
+      described it under two ids. Type gob show --go: with --go show, check,
+      rewrite and take read that too.";

@@ -1,6 +1,6 @@
 //! What the words of the command line ask to be shown to people and to other programs, beside the orders.
 
-ghost use Rattle.std.specs.Prelude.{◌≡◌, ◌≢◌, ◌⊎◌, ℕ, Option, IfOk, MatchBool, MatchOption, MatchResult, map};
+ghost use Rattle.std.specs.Prelude.{◌≡◌, ◌≢◌, ◌⊎◌, ℕ, Option, IfOk, IfSome, MatchBool, MatchOption, MatchResult, map};
 ghost use Rattle.std.specs.Prelude.{string_bytes};
 ghost use Rattle.clap.specs.Words.{subcommand_rows_of};
 ghost use Rattle.gob_words.specs.declared.view.View.{View};
@@ -38,7 +38,7 @@ pub fn view_of<'a>(alloc: Global, words: &'a [&'a str]) -> Result<View<'a>, View
         Ok(matches) => view_met(alloc, &matches),
         Err(error) => match error.kind() {
             ErrorKind::DisplayVersion => Ok(version_view(alloc)),
-            kind => Err(word_fault(alloc, words, kind, &error)),
+            kind => Err(word_fault(alloc, names_view(words), kind, &error)),
         },
     }
 }
@@ -376,21 +376,31 @@ fn number_fault(alloc: Global, matches: &ArgMatches<'_>) -> ViewFault
     ) {
         return ViewFault::Order(OrderFault::Words);
     }
-    if let Some(word) = matches.get_str("depth")
-        && !is_number(word, 1, GREATEST_DEPTH)
-    {
-        return said(number_line(alloc, "depth", word, 1, GREATEST_DEPTH));
-    }
-    if let Some(word) = matches.get_str("item")
-        && !is_number(word, 0, u64::MAX)
-    {
-        return said(number_line(alloc, "item", word, 0, u64::MAX));
+    if let Some(fault) = limit_fault(alloc, matches) {
+        return fault;
     }
     match (matches.get_str("at"), matches.get_str("line")) {
         (Some(word), _) => said(number_line(alloc, "at", word, 0, u64::MAX)),
         (None, Some(word)) => said(number_line(alloc, "line", word, 0, u64::MAX)),
         (None, None) => ViewFault::Order(OrderFault::Words),
     }
+}
+
+// The fault of the numbers that each command has, where one of them is none or out of its range.
+pub(crate) fn limit_fault(alloc: Global, matches: &ArgMatches<'_>) -> Option<ViewFault>
+    ensures { IfSome result IsWordAtFault }
+{
+    if let Some(word) = matches.get_str("depth")
+        && !is_number(word, 1, GREATEST_DEPTH)
+    {
+        return Some(said(number_line(alloc, "depth", word, 1, GREATEST_DEPTH)));
+    }
+    if let Some(word) = matches.get_str("item")
+        && !is_number(word, 0, u64::MAX)
+    {
+        return Some(said(number_line(alloc, "item", word, 0, u64::MAX)));
+    }
+    None
 }
 
 fn is_number(word: &str, least: u64, most: u64) -> bool {
@@ -400,12 +410,18 @@ fn is_number(word: &str, least: u64, most: u64) -> bool {
     }
 }
 
-// The fault of words that clap answers with an error of this kind, which shows this.
-fn word_fault<D: Display>(alloc: Global, words: &[&str], kind: ErrorKind, shown: &D) -> ViewFault
+// The fault of words that clap answers with an error of this kind, which shows this: it is told in a line of words that
+// name one of the commands.
+pub(crate) fn word_fault<D: Display>(
+    alloc: Global,
+    are_named: bool,
+    kind: ErrorKind,
+    shown: &D,
+) -> ViewFault
     ensures { IsViewFaultOf kind result }
 {
     match fault_of(alloc, kind, shown) {
-        OrderFault::Words if names_view(words) => said(shown_line(alloc, shown)),
+        OrderFault::Words if are_named => said(shown_line(alloc, shown)),
         fault => ViewFault::Order(fault),
     }
 }
@@ -426,7 +442,7 @@ fn names_view(words: &[&str]) -> bool {
 }
 
 // Whether the flag is among the words, before the word -- where that is one of them.
-fn has_flag(words: &[&str], flag: &str) -> bool {
+pub(crate) fn has_flag(words: &[&str], flag: &str) -> bool {
     words
         .iter()
         .take_while(|word| **word != "--")

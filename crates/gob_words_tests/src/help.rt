@@ -76,6 +76,8 @@ const TAKE: &str = "\
 Usage: gob take [OPTIONS] <WANTED> [IN]
 --depth <N>
 --item <N>
+--go 
+Go source
 1 to 1000,";
 
 const VALUES: &str = "\

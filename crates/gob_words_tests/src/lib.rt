@@ -14,6 +14,8 @@ mod paths;
 #[cfg(test)]
 mod splits;
 #[cfg(test)]
+mod takings;
+#[cfg(test)]
 mod views;
 #[cfg(test)]
 mod words;

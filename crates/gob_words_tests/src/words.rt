@@ -94,6 +94,7 @@ show --deep 5
 show -d 5
 show --zeros
 take --raw w
+take --go w
 take --all w
 take --rename a=b w
 take

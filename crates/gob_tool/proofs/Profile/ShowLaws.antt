@@ -12,7 +12,7 @@ use Rattle.gob_tool.specs.LineGo.{IsLinesOf}
 use Rattle.gob_tool.specs.Machine.LinesGo.{ShowsInLines}
 use Rattle.gob_tool.specs.TextsGo.{TextsAnswers}
 
-item_lines : {L : Bounds} {T : Table} {bytes : List ℕ} (text : List ℕ) (items : List FilledItem) (i : FilledItem)
+pub item_lines : {L : Bounds} {T : Table} {bytes : List ℕ} (text : List ℕ) (items : List FilledItem) (i : FilledItem)
     → FilledStream base_table L (items ++ i ∷ []) bytes T → ShowsInLines T i text → IsLinesOf T i text
 item_lines text items (defining id v) s l = l
 item_lines text items (putting id w) s l =

@@ -23,8 +23,9 @@ use json::Writer;
 use std::alloc::Global;
 use std::mem;
 
-/// Makes the lines of an item in `lines`, which is empty.
-pub(crate) fn push_lines(
+/// Makes the lines of an item of a stream of Go's encoder, as [`run_show_go`](crate::run_show_go) writes them, by the
+/// types behind it, in `lines`, which is empty.
+pub fn push_lines(
     alloc: Global,
     item: &GoItem,
     table: &Table,
