@@ -51,7 +51,7 @@ static bool has_room(gob_reader *reader) {
 
 /* What is asked of the archive. */
 static struct raw_asked asked_of(const gob_limits *limits, bool exact) {
-    return (struct raw_asked){limits != NULL ? *limits : standard, exact};
+    return (struct raw_asked){limits != NULL ? *limits : standard, exact, false};
 }
 
 static gob_reader *opened(const gob_limits *limits, bool exact, gob_fault *fault) {
@@ -497,36 +497,85 @@ int64_t gob_lines_stream(const char *lines, size_t count, void *out, size_t size
     return streamed(&told, fault);
 }
 
-/* One of the exports that convert a stream. */
-typedef void converting(const unsigned char *bytes, size_t count, const struct raw_asked *asked,
-                        const unsigned char *types, size_t types_count, const unsigned char *name, size_t name_count,
-                        unsigned char *room, size_t size, struct raw_stream *told, unsigned char *said,
-                        size_t said_size);
+/* The renames, each with its 0 behind it, or NULL for want of memory. */
+static unsigned char *joined(const gob_conversion *asked, size_t *length) {
+    *length = 0;
+    for (size_t i = 0; i < asked->rename_count; i++) *length += strlen(asked->renames[i]) + 1;
+    unsigned char *all = *length != 0 ? malloc(*length) : &nowhere, *end = all;
+    for (size_t i = 0; all != NULL && i < asked->rename_count; i++) {
+        size_t more = strlen(asked->renames[i]) + 1;
+        memcpy(end, asked->renames[i], more);
+        end += more;
+    }
+    return all;
+}
 
-static int64_t converted(converting *made, const void *bytes, size_t count, const gob_limits *limits, const void *types,
-                         size_t types_count, const char *name, void *out, size_t size, gob_writer_fault *fault) {
+static bool has_renames(const gob_conversion *asked) {
+    if (asked->renames == NULL) return asked->rename_count == 0;
+    for (size_t i = 0; i < asked->rename_count; i++) {
+        if (asked->renames[i] == NULL) return false;
+    }
+    return true;
+}
+
+/* Converts to a type of a third stream, or of source. */
+static struct raw_stream run_convert(bool is_like, const void *bytes, size_t count, const gob_conversion *asked,
+                                     void *out, size_t size, const gob_left_out *left, gob_writer_fault *fault) {
+    struct raw_stream told = {.status = GOB_NO_MEMORY};
+    struct raw_asked raw = asked_of(asked->limits, false);
+    raw.all = asked->all != 0;
+    const void *types = is_like ? asked->stream : asked->source;
+    size_t types_count = is_like ? asked->stream_count : asked->source_count, words;
+    size_t length = asked->name != NULL ? strlen(asked->name) : 0;
+    unsigned char *renames = joined(asked, &words);
+    if (renames == NULL) return told;
+    (is_like ? gob_raw_convert_like : gob_raw_convert)(
+        some_bytes(bytes, count), count, &raw, some_bytes(types, types_count), types_count,
+        some_bytes(asked->name, length), length, renames, words, size != 0 ? out : &nowhere, size, &told,
+        (unsigned char *)fault->text, sizeof fault->text, room_of(left->text, left->size), room_for(left->size));
+    if (renames != &nowhere) free(renames);
+    return told;
+}
+
+static int64_t converted(bool is_like, const void *bytes, size_t count, const gob_conversion *asked, void *out,
+                         size_t size, gob_left_out *left, gob_writer_fault *fault) {
     gob_writer_fault unseen;
+    gob_left_out untold = {NULL, 0, 0};
     struct raw_stream told = {.status = GOB_MISUSED};
-    struct raw_asked asked = asked_of(limits, false);
     if (fault == NULL) fault = &unseen;
+    if (left == NULL) left = &untold;
     *fault = (gob_writer_fault){.status = GOB_OK};
-    if (!is_misused(bytes, count, out, size) && (types != NULL || types_count == 0)) {
-        size_t length = name != NULL ? strlen(name) : 0;
-        made(some_bytes(bytes, count), count, &asked, some_bytes(types, types_count), types_count,
-             some_bytes(name, length), length, size != 0 ? out : &nowhere, size, &told, (unsigned char *)fault->text,
-             sizeof fault->text);
+    if (!is_misused(bytes, count, out, size) && !is_misused(NULL, 0, left->text, left->size) && has_renames(asked) &&
+        !is_misused(asked->source, asked->source_count, NULL, 0) &&
+        !is_misused(asked->stream, asked->stream_count, NULL, 0)) {
+        told = run_convert(is_like, bytes, count, asked, out, size, left, fault);
+    }
+    left->length = told.left_out;
+    if (left->text != NULL && left->size != 0) {
+        left->text[told.left_out < left->size ? told.left_out : left->size - 1] = 0;
     }
     return streamed(&told, fault);
 }
 
 int64_t gob_convert(const void *bytes, size_t count, const gob_limits *limits, const char *source, size_t source_count,
                     const char *name, void *out, size_t size, gob_writer_fault *fault) {
-    return converted(gob_raw_convert, bytes, count, limits, source, source_count, name, out, size, fault);
+    gob_conversion asked = {.limits = limits, .source = source, .source_count = source_count, .name = name};
+    return converted(false, bytes, count, &asked, out, size, NULL, fault);
 }
 
 int64_t gob_convert_like(const void *bytes, size_t count, const gob_limits *limits, const void *stream,
                          size_t stream_count, const char *name, void *out, size_t size, gob_writer_fault *fault) {
-    return converted(gob_raw_convert_like, bytes, count, limits, stream, stream_count, name, out, size, fault);
+    gob_conversion asked = {.limits = limits, .stream = stream, .stream_count = stream_count, .name = name};
+    return converted(true, bytes, count, &asked, out, size, NULL, fault);
+}
+
+int64_t gob_convert_with(const void *bytes, size_t count, const gob_conversion *asked, void *out, size_t size,
+                         gob_left_out *left, gob_writer_fault *fault) {
+    /* (it has a rename, and none is there) */
+    static const gob_conversion misused = {.rename_count = 1};
+    bool is_like = asked != NULL && asked->stream != NULL;
+    if (asked == NULL || (is_like && asked->source != NULL)) asked = &misused;
+    return converted(is_like, bytes, count, asked, out, size, left, fault);
 }
 
 /* ---- the rest */

@@ -500,19 +500,51 @@ GOB_API int64_t gob_lines_text(const void *bytes, size_t count, const gob_limits
  * `fault->reason` says why, as GOB_REASON_TOO_DEEP, and no line may have more than 268435456 bytes. */
 GOB_API int64_t gob_lines_stream(const char *lines, size_t count, void *out, size_t size, gob_writer_fault *fault);
 
-/* The stream of the values of another, of the format that Go documents, each received as one of the type that this Go
- * source declares, as `gob convert` writes it: the type of this name, or where `name` is NULL or has no bytes the first
- * that is declared. Fields go by their names: those that the wanted type lacks are left out. GOB_REFUSED where the
- * source gives no such type; where the bytes are refused, with `fault->reason`; and where the type of a value doesn't
- * match: "gob: clash 33 DifferentKind at .X". */
+/* The stream of the values of another, each received as one of the type that this Go source declares, as `gob convert`
+ * writes it: the type of this name, or where `name` is NULL or has no bytes the first that is declared. Fields go by
+ * their names: those that the wanted type lacks are left out. What interfaces hold goes along, with its types.
+ * GOB_REFUSED where the source gives no such type; where the bytes are refused, with `fault->reason`; where the type of
+ * a value doesn't match: "gob: clash 33 DifferentKind at .X"; and where no more goes into one stream, with
+ * `fault->reason`. */
 GOB_API int64_t gob_convert(const void *bytes, size_t count, const gob_limits *limits, const char *source,
                             size_t source_count, const char *name, void *out, size_t size, gob_writer_fault *fault);
 
 /* So it makes the stream of values of a type of a third stream: of this name or id there, or where `name` is NULL or
- * has no bytes of that of the stream's first value. */
+ * has no bytes of that of the stream's first value. A stream of which a type is asked for by its name is of the format
+ * that Go documents. */
 GOB_API int64_t gob_convert_like(const void *bytes, size_t count, const gob_limits *limits, const void *stream,
                                  size_t stream_count, const char *name, void *out, size_t size,
                                  gob_writer_fault *fault);
+
+/* What is asked of gob_convert_with. A member that is 0 or NULL asks for nothing. */
+typedef struct gob_conversion {
+    const gob_limits *limits;   /* NULL: the standard ones */
+    const char *source;         /* Go source that declares the wanted type, as for gob_convert, */
+    size_t source_count;        /* so many bytes of it; */
+    const void *stream;         /* or a stream that has it, as for gob_convert_like, where this isn't NULL, */
+    size_t stream_count;        /* so many bytes of it */
+    const char *name;           /* of the wanted type, or NULL */
+    const char *const *renames; /* fields that have another name in the stream: "Old=New", */
+    size_t rename_count;        /* so many */
+    int all;                    /* whether no field of a value may be left out */
+} gob_conversion;
+
+/* Room for the line of the fields that values left out, as "gob: left out .Tries of 1 value, .Tags of 1: they aren't
+ * wanted". It gets no more than `size` bytes of it, the last of which is 0; `text` may be NULL where `size` is 0. */
+typedef struct gob_left_out {
+    char *text;
+    size_t size;
+    uint64_t length; /* how many bytes the whole line has without the 0, which is written: 0 where there is none */
+} gob_left_out;
+
+/* So it converts as `asked` says, and tells what the values of the stream that is made left out. A rename "User=Name"
+ * has the wanted field Name take what the stream has under the name User, "Login.User=Name" in the wanted structs named
+ * Login alone; each is of the names that those before it leave. GOB_REFUSED, with no byte written, where a rename says
+ * nothing, or doesn't fit the wanted type: "gob: rename User=Nme: the wanted type has no field Nme". With `all` it is
+ * GOB_REFUSED in front of the first value that would leave out a field: "gob: value 3 has .Tries, which isn't wanted".
+ * -GOB_MISUSED where both a source and a stream are given, or NULL for `asked` or for a rename. `left` may be NULL. */
+GOB_API int64_t gob_convert_with(const void *bytes, size_t count, const gob_conversion *asked, void *out, size_t size,
+                                 gob_left_out *left, gob_writer_fault *fault);
 
 #ifdef __cplusplus
 }

@@ -13,10 +13,11 @@ struct raw_handed {
     uint64_t items, nodes, bytes, waiting, next_nodes, next_bytes;
 };
 
-/* What is asked of a reader: its limits, and whether it reads the documented format alone. */
+/* What is asked: limits; of a reader or a check whether it reads the documented format alone; and of a conversion
+ * whether no field of a value may be left out. */
 struct raw_asked {
     gob_limits limits;
-    bool exact;
+    bool exact, all;
 };
 
 void gob_raw_open(const struct raw_asked *asked, gob_fault *told, void **reader);
@@ -68,10 +69,11 @@ void gob_raw_writer_close(void *writer);
 
 /* What is told of a stream that is made in memory, as much of which stands in the room as there is room for: how that
  * ended, and how long it is. Of a fault its words stand in `said`, as much of them as there is room for; `words` is how
- * long they are. */
+ * long they are. A conversion is given each of its renames with a 0 behind it; the line of what the values leave out
+ * stands in `left` so, and `left_out` is how long it is. */
 struct raw_stream {
     uint32_t status, reason;
-    uint64_t column, words, length;
+    uint64_t column, words, length, left_out;
 };
 void gob_raw_lines_text(const unsigned char *bytes, size_t count, const struct raw_asked *asked, unsigned char *room,
                         size_t size, struct raw_text *told);
@@ -79,11 +81,14 @@ void gob_raw_lines_stream(const unsigned char *lines, size_t count, unsigned cha
                           struct raw_stream *told, unsigned char *said, size_t said_size);
 void gob_raw_convert(const unsigned char *bytes, size_t count, const struct raw_asked *asked,
                      const unsigned char *source, size_t source_count, const unsigned char *name, size_t name_count,
-                     unsigned char *room, size_t size, struct raw_stream *told, unsigned char *said, size_t said_size);
+                     const unsigned char *renames, size_t renames_count, unsigned char *room, size_t size,
+                     struct raw_stream *told, unsigned char *said, size_t said_size, unsigned char *left,
+                     size_t left_size);
 void gob_raw_convert_like(const unsigned char *bytes, size_t count, const struct raw_asked *asked,
                           const unsigned char *stream, size_t stream_count, const unsigned char *name,
-                          size_t name_count, unsigned char *room, size_t size, struct raw_stream *told,
-                          unsigned char *said, size_t said_size);
+                          size_t name_count, const unsigned char *renames, size_t renames_count, unsigned char *room,
+                          size_t size, struct raw_stream *told, unsigned char *said, size_t said_size,
+                          unsigned char *left, size_t left_size);
 
 /* What the archive asks of its caller: memory. A block that isn't had is told by `ok`, and its pointer isn't NULL. */
 struct raw_block {

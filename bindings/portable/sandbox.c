@@ -296,7 +296,8 @@ void gob_raw_lines_stream(const unsigned char *lines, size_t count, unsigned cha
 
 /* One of the exports that convert a stream. */
 typedef void code_converting(code *, u64 bytes, u64 count, u64 asked, u64 types, u64 types_count, u64 name,
-                             u64 name_count, u64 room, u64 size, u64 told, u64 said, u64 said_size);
+                             u64 name_count, u64 renames, u64 renames_count, u64 room, u64 size, u64 told, u64 said,
+                             u64 said_size, u64 left, u64 left_size);
 
 /* Bytes that a call is given. */
 typedef struct given {
@@ -304,15 +305,25 @@ typedef struct given {
     size_t count;
 } given;
 
-static void convert(code_converting *made, given stream, const struct raw_asked *asked, given types, given name,
-                    unsigned char *room, size_t size, words *to, struct raw_stream *told) {
-    block named = {0, 0};
-    sandbox *box = about(stream.bytes, stream.count, asked, size);
+/* What a conversion is given beside the stream. */
+typedef struct asking {
+    const struct raw_asked *asked;
+    given types, name, renames;
+} asking;
+
+static void convert(code_converting *made, given stream, asking by, unsigned char *room, size_t size, words *to,
+                    words *left, struct raw_stream *told) {
+    block named = {0, 0}, renames = {0, 0};
+    sandbox *box = about(stream.bytes, stream.count, by.asked, size);
     *told = (struct raw_stream){.status = GOB_NO_MEMORY};
-    if (box != NULL && lent(box, &box->nodes, types.bytes, types.count) &&
-        lent(box, &named, name.bytes, name.count) && has_words(box, to)) {
-        made(&box->wasm, box->bytes.at, stream.count, box->piece, box->nodes.at, types.count, named.at, name.count,
-             box->heads.at, size, box->told, to->in.at, to->size);
+    if (box != NULL && lent(box, &box->nodes, by.types.bytes, by.types.count) &&
+        lent(box, &named, by.name.bytes, by.name.count) && lent(box, &renames, by.renames.bytes, by.renames.count) &&
+        has_words(box, to) && has_words(box, left)) {
+        made(&box->wasm, box->bytes.at, stream.count, box->piece, box->nodes.at, by.types.count, named.at,
+             by.name.count, renames.at, by.renames.count, box->heads.at, size, box->told, to->in.at, to->size,
+             left->in.at, left->size);
+        hear(box, told, sizeof *told);
+        get(box, left->said, left->size, left->in.at, at_most(told->left_out, left->size));
         say_stream(box, room, size, to, told);
         return;
     }
@@ -321,19 +332,22 @@ static void convert(code_converting *made, given stream, const struct raw_asked 
 
 void gob_raw_convert(const unsigned char *bytes, size_t count, const struct raw_asked *asked,
                      const unsigned char *source, size_t source_count, const unsigned char *name, size_t name_count,
-                     unsigned char *room, size_t size, struct raw_stream *told, unsigned char *said, size_t said_size) {
-    words to = {said, said_size, {0, 0}};
-    convert(code_gob_raw_convert, (given){bytes, count}, asked, (given){source, source_count},
-            (given){name, name_count}, room, size, &to, told);
+                     const unsigned char *renames, size_t renames_count, unsigned char *room, size_t size,
+                     struct raw_stream *told, unsigned char *said, size_t said_size, unsigned char *left,
+                     size_t left_size) {
+    words to = {said, said_size, {0, 0}}, line = {left, left_size, {0, 0}};
+    asking by = {asked, {source, source_count}, {name, name_count}, {renames, renames_count}};
+    convert(code_gob_raw_convert, (given){bytes, count}, by, room, size, &to, &line, told);
 }
 
 void gob_raw_convert_like(const unsigned char *bytes, size_t count, const struct raw_asked *asked,
                           const unsigned char *stream, size_t stream_count, const unsigned char *name,
-                          size_t name_count, unsigned char *room, size_t size, struct raw_stream *told,
-                          unsigned char *said, size_t said_size) {
-    words to = {said, said_size, {0, 0}};
-    convert(code_gob_raw_convert_like, (given){bytes, count}, asked, (given){stream, stream_count},
-            (given){name, name_count}, room, size, &to, told);
+                          size_t name_count, const unsigned char *renames, size_t renames_count, unsigned char *room,
+                          size_t size, struct raw_stream *told, unsigned char *said, size_t said_size,
+                          unsigned char *left, size_t left_size) {
+    words to = {said, said_size, {0, 0}}, line = {left, left_size, {0, 0}};
+    asking by = {asked, {stream, stream_count}, {name, name_count}, {renames, renames_count}};
+    convert(code_gob_raw_convert_like, (given){bytes, count}, by, room, size, &to, &line, told);
 }
 
 /* One of the exports that make a writer. */

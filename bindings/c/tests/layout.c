@@ -61,5 +61,19 @@ int main(void) {
     MEMBER(gob_writer_fault, reason);
     MEMBER(gob_writer_fault, column);
     MEMBER(gob_writer_fault, text);
+    STRUCT(gob_conversion);
+    MEMBER(gob_conversion, limits);
+    MEMBER(gob_conversion, source);
+    MEMBER(gob_conversion, source_count);
+    MEMBER(gob_conversion, stream);
+    MEMBER(gob_conversion, stream_count);
+    MEMBER(gob_conversion, name);
+    MEMBER(gob_conversion, renames);
+    MEMBER(gob_conversion, rename_count);
+    MEMBER(gob_conversion, all);
+    STRUCT(gob_left_out);
+    MEMBER(gob_left_out, text);
+    MEMBER(gob_left_out, size);
+    MEMBER(gob_left_out, length);
     return 0;
 }

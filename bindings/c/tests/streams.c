@@ -136,9 +136,107 @@ static void wrong_values_are_refused(void) {
     DUE(gob_convert(point, 1, NULL, NULL, 1, NULL, room, 1, NULL) == -GOB_MISUSED);
 }
 
+/* Converts to a Line, with these renames. */
+static int64_t renamed(const char *const *renames, size_t count, unsigned char *room, size_t size, gob_left_out *left,
+                       gob_writer_fault *fault) {
+    gob_conversion asked = {.source = source, .source_count = strlen(source)};
+    asked.renames = renames;
+    asked.rename_count = count;
+    return gob_convert_with(point, sizeof point, &asked, room, size, left, fault);
+}
+
+/* The definition in front of a Line. */
+enum { LINE = sizeof line - 6 };
+
+static void fields_are_renamed(void) {
+    static const unsigned char swapped[] = {0x07, 0xff, 0x82, 0x01, 0x42, 0x01, 0x2c, 0x00};
+    static const unsigned char shifted[] = {0x07, 0xff, 0x82, 0x01, 0x2c, 0x01, 0x42, 0x00};
+    unsigned char room[256] = {0};
+    char text[128], cut[8];
+    gob_writer_fault fault;
+    gob_left_out left = {text, sizeof text, 99}, some = {cut, sizeof cut, 0}, none = {NULL, 0, 0};
+    /* Z takes X; or Y takes X, and Z takes Y */
+    DUE(renamed((const char *[]){"X=Z"}, 1, room, sizeof room, &left, &fault) == LINE + 8);
+    DUE(memcmp(room, line, LINE) == 0 && memcmp(room + LINE, swapped, 8) == 0);
+    DUE(is_fault(&fault, GOB_OK, 0, 0, "") && left.length == 0 && text[0] == 0);
+    DUE(renamed((const char *[]){"X=Y", "Line.Y=Z"}, 2, room, sizeof room, NULL, NULL) == LINE + 8);
+    DUE(memcmp(room, line, LINE) == 0 && memcmp(room + LINE, shifted, 8) == 0);
+    /* without a rename X is left out */
+    static const char told[] = "gob: left out .X of 1 value: it isn't wanted";
+    DUE(is_due(renamed(NULL, 0, room, sizeof room, &left, &fault), room, line, sizeof line));
+    DUE(left.length == sizeof told - 1 && strcmp(text, told) == 0);
+    DUE(renamed(NULL, 0, room, sizeof room, &some, &fault) == sizeof line);
+    DUE(some.length == sizeof told - 1 && strcmp(cut, "gob: le") == 0);
+    DUE(renamed(NULL, 0, NULL, 0, &none, &fault) == sizeof line && none.length == sizeof told - 1);
+    gob_conversion like = {.stream = line, .stream_count = sizeof line, .name = "Line"};
+    DUE(is_due(gob_convert_with(point, sizeof point, &like, room, sizeof room, &left, NULL), room, line, sizeof line));
+    DUE(strcmp(text, told) == 0);
+}
+
+static void wrong_renames_are_refused(void) {
+    static const struct {
+        const char *renames[2], *text;
+    } rows[] = {
+        {{"X=Y", "X=W"}, "gob: rename X=W: the wanted type has no field W"},
+        {{"X=Z", "Lines.X=Y"}, "gob: rename Lines.X=Y: the wanted type has no field Lines.Y"},
+        {{"Z=Y", "X=Z"}, "gob: rename Z=Y: the wanted type has the field Y, and one of the old name beside it"},
+        {{"X=Z", "XZ"}, "gob: rename XZ: no = between two names"},
+        {{"X=Z", ""}, "gob: rename : no = between two names"},
+        {{"=Z", "XZ"}, "gob: rename =Z: a name is empty"},
+        {{"X=Z", "\xff=Y"}, "gob: a rename isn't UTF-8"},
+        {{"\33=W", "X=Z"}, "gob: rename \\u{1b}=W: the wanted type has no field W"},
+    };
+    unsigned char room[256];
+    char text[128] = "";
+    gob_writer_fault fault;
+    for (size_t i = 0; i < sizeof rows / sizeof *rows; i++) {
+        gob_left_out left = {text, sizeof text, 99};
+        DUE(renamed(rows[i].renames, 2, room, sizeof room, &left, &fault) == 0);
+        if (!is_fault(&fault, GOB_REFUSED, 0, 0, rows[i].text)) printf("row %zu: %s\n", i, fault.text), failed++;
+        DUE(left.length == 0 && text[0] == 0);
+    }
+}
+
+/* With `all` a value that would leave out a field isn't converted, nor is one behind it. */
+static void all_fields_are_kept(void) {
+    unsigned char room[256];
+    char text[128];
+    gob_writer_fault fault;
+    gob_left_out left = {text, sizeof text, 99};
+    gob_conversion asked = {.source = source, .source_count = strlen(source), .all = 1};
+    DUE(is_due(gob_convert_with(point, sizeof point, &asked, room, sizeof room, &left, &fault), room, line, LINE));
+    DUE(is_fault(&fault, GOB_REFUSED, 0, 0, "gob: value 1 has .X, which isn't wanted"));
+    DUE(left.length == 0 && text[0] == 0);
+    gob_conversion same = {.stream = point, .stream_count = sizeof point, .all = 1};
+    DUE(is_due(gob_convert_with(point, sizeof point, &same, room, sizeof room, &left, &fault), room, point,
+               sizeof point));
+    DUE(is_fault(&fault, GOB_OK, 0, 0, "") && left.length == 0);
+}
+
+static void misuse_is_answered(void) {
+    unsigned char room[256];
+    char text[128] = "";
+    gob_writer_fault fault;
+    gob_left_out left = {NULL, 1, 0};
+    gob_conversion both = {.source = source, .source_count = 1, .stream = point, .stream_count = sizeof point};
+    gob_conversion wordless = {.source = source, .rename_count = 1}, unlimited = {.limits = &(gob_limits){0}};
+    DUE(gob_convert_with(point, sizeof point, NULL, room, sizeof room, NULL, &fault) == -GOB_MISUSED);
+    DUE(is_fault(&fault, GOB_MISUSED, 0, 0, ""));
+    DUE(gob_convert_with(point, sizeof point, &both, room, sizeof room, NULL, NULL) == -GOB_MISUSED);
+    DUE(gob_convert_with(point, sizeof point, &wordless, room, sizeof room, NULL, NULL) == -GOB_MISUSED);
+    DUE(renamed((const char *[]){"X=Z", NULL}, 2, room, sizeof room, NULL, NULL) == -GOB_MISUSED);
+    DUE(renamed(NULL, 0, room, sizeof room, &left, NULL) == -GOB_MISUSED);
+    DUE(gob_convert_with(NULL, 1, &(gob_conversion){0}, room, sizeof room, NULL, NULL) == -GOB_MISUSED);
+    left = (gob_left_out){text, sizeof text, 99};
+    DUE(gob_convert_with(point, 1, &unlimited, room, sizeof room, &left, &fault) == -GOB_BAD_LIMITS);
+    DUE(is_fault(&fault, GOB_BAD_LIMITS, 0, 0, "") && left.length == 0);
+}
+
 /* A name that a terminal would obey. */
 static void names_are_escaped(void) {
     unsigned char room[256], other[sizeof point];
+    char told[128];
+    gob_left_out left = {told, sizeof told, 0};
     gob_writer_fault fault;
     memcpy(other, point, sizeof point);
     other[20] = 0x1b;
@@ -147,6 +245,9 @@ static void names_are_escaped(void) {
     int64_t count = written(text, room, sizeof room, &fault);
     DUE(count > 0 && gob_convert_like(other, sizeof other, NULL, room, (size_t)count, NULL, NULL, 0, &fault) > 0);
     DUE(is_fault(&fault, GOB_REFUSED, 0, 0, "gob: clash 33 DifferentKind at .\\u{1b}"));
+    gob_conversion asked = {.stream = line, .stream_count = sizeof line};
+    DUE(gob_convert_with(other, sizeof other, &asked, NULL, 0, &left, &fault) == sizeof line);
+    DUE(strcmp(told, "gob: left out .\\u{1b} of 1 value: it isn't wanted") == 0);
 }
 
 int main(void) {
@@ -155,6 +256,10 @@ int main(void) {
     wrong_lines_are_refused();
     values_are_converted();
     wrong_values_are_refused();
+    fields_are_renamed();
+    wrong_renames_are_refused();
+    all_fields_are_kept();
+    misuse_is_answered();
     names_are_escaped();
     return failed != 0;
 }

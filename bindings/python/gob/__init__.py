@@ -30,15 +30,15 @@ from typing import Any, BinaryIO, Callable, Iterable, Iterator, Mapping, NamedTu
 
 from ._annotations import go_source
 from ._decode import Decoder, Held, Opaque, Options, Pairs
-from ._errors import BadLine, BadTypes, BadValue, Clash, Error
+from ._errors import BadLine, BadTypes, BadValue, Clash, Error, LeftOut
 from ._library import Batch, Counts, Fault, Head, Limits as _Limits, Node, library
 from ._types import Field, Type, type_of
-from ._streams import from_lines
+from ._streams import Renames as _Renames, from_lines
 from ._writer import Types as _TypesGiven, Writer, dump, dumps
 from . import _streams, _texts, go
 
-__all__ = ["BadLine", "BadTypes", "BadValue", "Clash", "Error", "Field", "Held", "Item", "Limits", "Opaque", "Pairs",
-           "Reader", "Reason", "Refused", "Summary", "Type", "Writer", "check", "convert", "dump", "dumps",
+__all__ = ["BadLine", "BadTypes", "BadValue", "Clash", "Error", "Field", "Held", "Item", "LeftOut", "Limits", "Opaque",
+           "Pairs", "Reader", "Reason", "Refused", "Summary", "Type", "Writer", "check", "convert", "dump", "dumps",
            "from_lines", "go", "go_source", "iter_items", "iter_values", "lines", "load", "loads", "source", "types",
            "why"]
 
@@ -475,28 +475,37 @@ def lines(source: Source, *, limits: Limits | None = None) -> str:
     return text
 
 
-def convert(source: Source, types: _TypesGiven, type: str | None = None, *, limits: Limits | None = None) -> bytes:
+def convert(source: Source, types: _TypesGiven, type: str | None = None, *, rename: _Renames = None, all: bool = False,
+            left_out: Callable[[str], Any] | None = None, limits: Limits | None = None) -> bytes:
     """The stream of the values of another, each as one of a type that `types` and `type` say as they do for `Writer`:
     what `gob convert` writes, and what Go's decoder would take into that type.
 
-    Fields go by their names, and those that the type lacks are left out. The stream is one of the documented format.
-    Raises `BadTypes`, `Clash` where the type of a value doesn't match, and `Refused`, which has the stream of the
-    values before the fault as its one value. The bytes are mapped or held as by `source`.
+        data = gob.convert("logins.gob", Login, rename={"User": "Name"}, left_out=print)
+
+    Fields go by their names, and what interfaces hold goes along. `rename` has the names that fields of the type have
+    in the stream: `{"User": "Name"}` has the field Name take what the stream has as User, `{"Login.User": "Name"}` in
+    the structs named Login alone, one rename behind another; words such as "User=Name" may stand for the mapping.
+    Fields that the type lacks are left out: `left_out` is called with a line that says which, where there are any, and
+    with `all` the first is a `LeftOut`.
+
+    Raises `BadTypes`, also for a rename that doesn't fit the type, `Clash` where the type of a value doesn't match, and
+    `Refused`, which has the stream of the values before the fault as its one value; and `Error` where no more goes into
+    one stream. The bytes are mapped or held as by `source`.
     """
     held = _held(source)
     asked = None if limits is None else _Limits(*limits)
-    data, words = _streams.convert(held, asked, types, type)
+    data, words = _streams.convert(held, asked, types, type, rename, all, left_out)
     if words is not None:
-        _raise_with(_exact_fault(held, limits), data, source)
+        _raise_with(_fault_of(held, limits), data, source)
         raise Error(words)
     return data
 
 
-def _exact_fault(held: _texts.Held, limits: Limits | None) -> Fault:
-    """How these bytes end as those of the documented format, where no value is deeper than 1000."""
+def _fault_of(held: _texts.Held, limits: Limits | None) -> Fault:
+    """How these bytes end, where no value is deeper than 1000."""
     fault, asked = Fault(), limits or Limits()
     chosen = _Limits(*asked._replace(depth=min(asked.depth, 1000)))
-    library.gob_check_exact(*held, ctypes.byref(chosen), None, ctypes.byref(fault))
+    library.gob_check(*held, ctypes.byref(chosen), None, ctypes.byref(fault))
     return fault
 
 

@@ -43,6 +43,21 @@ class Clash(Error):
         return Clash, (self.reason, self.path, self.data)
 
 
+class LeftOut(Error):
+    """A value has a field that the wanted type lacks, where all are to be kept.
+
+    `path` says where in the value, as `.Tries`, `index` how many values there are before it, and `data` is the stream
+    of these.
+    """
+
+    def __init__(self, path: str, index: int = 0, data: bytes = b""):
+        super().__init__(f"value {index} has {path}, which isn't wanted")
+        self.path, self.index, self.data = path, index, data
+
+    def __reduce__(self) -> tuple[Any, ...]:
+        return LeftOut, (self.path, self.index, self.data)
+
+
 class BadValue(Error):
     """A value isn't one of the writer's type, and isn't written.
 

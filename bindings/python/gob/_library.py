@@ -69,6 +69,21 @@ class WriterFault(ctypes.Structure):
                 ("text", ctypes.c_char * 496)]
 
 
+class Conversion(ctypes.Structure):
+    """gob_conversion."""
+
+    _fields_ = [("limits", ctypes.POINTER(Limits)), ("source", ctypes.c_char_p), ("source_count", ctypes.c_size_t),
+                ("stream", ctypes.c_char_p), ("stream_count", ctypes.c_size_t), ("name", ctypes.c_char_p),
+                ("renames", ctypes.POINTER(ctypes.c_char_p)), ("rename_count", ctypes.c_size_t),
+                ("all", ctypes.c_int)]
+
+
+class LeftOut(ctypes.Structure):
+    """gob_left_out."""
+
+    _fields_ = [("text", ctypes.c_void_p), ("size", ctypes.c_size_t), ("length", ctypes.c_uint64)]
+
+
 def _candidates() -> Iterator[str]:
     named = os.environ.get("GOB_LIBRARY")
     if named:
@@ -102,8 +117,6 @@ def _load() -> ctypes.CDLL:
 library = _load()
 _reader, _checker, _counts, _fault = ctypes.c_void_p, ctypes.c_void_p, ctypes.POINTER(Counts), ctypes.POINTER(Fault)
 _writer, _writer_fault = ctypes.c_void_p, ctypes.POINTER(WriterFault)
-_converting = (ctypes.c_void_p, ctypes.c_size_t, ctypes.POINTER(Limits), ctypes.c_char_p, ctypes.c_size_t,
-               ctypes.c_char_p, ctypes.c_char_p, ctypes.c_size_t, _writer_fault)
 _calls: list[tuple[Any, ...]] = [
     ("gob_open", _reader, ctypes.POINTER(Limits), _fault),
     ("gob_open_exact", _reader, ctypes.POINTER(Limits), _fault),
@@ -134,8 +147,8 @@ _calls: list[tuple[Any, ...]] = [
      ctypes.c_size_t),
     ("gob_lines_stream", ctypes.c_int64, ctypes.c_char_p, ctypes.c_size_t, ctypes.c_char_p, ctypes.c_size_t,
      _writer_fault),
-    ("gob_convert", ctypes.c_int64, *_converting),
-    ("gob_convert_like", ctypes.c_int64, *_converting),
+    ("gob_convert_with", ctypes.c_int64, ctypes.c_void_p, ctypes.c_size_t, ctypes.POINTER(Conversion), ctypes.c_char_p,
+     ctypes.c_size_t, ctypes.POINTER(LeftOut), _writer_fault),
 ]
 for _name, _result, *_words in _calls:
     _function = getattr(library, _name)

@@ -710,7 +710,8 @@ class Layout(unittest.TestCase):
     def test_structures_are_those_of_the_header(self):
         due = pathlib.Path(os.environ["GOB_LAYOUT"]).read_text().splitlines()
         said = []
-        for name in ("Fault", "Limits", "Node", "Item", "Head", "Batch", "Counts", "WriterFault"):
+        for name in ("Fault", "Limits", "Node", "Item", "Head", "Batch", "Counts", "WriterFault", "Conversion",
+                     "LeftOut"):
             made = getattr(gob._library, name)
             said.append(f"{made.__doc__[:-1]} {ctypes.sizeof(made)}")
             for field, _ in made._fields_:

@@ -84,6 +84,55 @@ class StreamsTest(unittest.TestCase):
             path.write_text(source)
             self.assertEqual(gob.convert(POINT, path), data)
 
+    def test_fields_are_renamed(self):
+        for rename in ({"X": "Z"}, ["X=Z"], ("Line.X=Z",), iter(["X=Z"])):
+            data = gob.convert(POINT, "type Line struct { Y, Z int }", rename=rename, all=True)
+            self.assertEqual(gob.loads(data), [{"Y": 33, "Z": 22}])
+        swapped = gob.convert(POINT, POINT, rename={"T": "X", "X": "Y", "Y": "T"})
+        self.assertEqual(gob.loads(swapped), [{"X": 33, "Y": 22}])
+        self.assertEqual(gob.convert(POINT, POINT, rename={}), POINT)
+        for rename, due in [({"X": "W"}, "rename X=W: the wanted type has no field W"),
+                            ({"Z": "Y"}, "rename Z=Y: .* one of the old name beside it"),
+                            (["XZ"], "rename XZ: no = between two names"), (["X="], "a name is empty"),
+                            (["\udcff=Z"], "a rename isn't UTF-8"), (["X=Z\0"], "NUL")]:
+            with self.assertRaisesRegex(gob.BadTypes, due):
+                gob.convert(POINT, "type Line struct { Y, Z int }", rename=rename)
+        for rename in ("X=Z", b"X=Z", [b"X=Z"]):
+            self.assertRaises(TypeError, gob.convert, POINT, POINT, rename=rename)
+
+    def test_what_is_left_out(self):
+        told = []
+        data = gob.convert(POINT + POINT[32:], Line, left_out=told.append)
+        self.assertEqual(told, ["left out .X of 2 values: it isn't wanted"])
+        self.assertEqual(gob.loads(data), [{"Y": 33}] * 2)
+        gob.convert(POINT, POINT, left_out=told.append)
+        with self.assertRaises(gob.Refused):
+            gob.convert(POINT + b"\1", Line, left_out=told.append)
+        self.assertEqual(told[1:], ["left out .X of 1 value: it isn't wanted"])
+        with self.assertRaises(gob.LeftOut) as caught:
+            gob.convert(POINT[:32] + bytes.fromhex("05ff8202420005ff82012c00"), Line, all=True, left_out=told.append)
+        fault = caught.exception
+        self.assertEqual((fault.path, fault.index, gob.loads(fault.data)), (".X", 1, [{"Y": 33}]))
+        self.assertEqual(str(pickle.loads(pickle.dumps(fault))), "value 1 has .X, which isn't wanted")
+        self.assertEqual(len(told), 2)
+        fields = [f"F{at:04}{'x' * 200}" for at in range(30)]
+        wide = gob.dumps([{name: 1 for name in fields}], f"type Wide struct {{ {', '.join(fields)} int }}")
+        gob.convert(wide, f"type Wide struct {{ {fields[0]} int }}", left_out=told.append)
+        self.assertEqual(told[2], f"left out .{fields[1]} of 1 value, "
+                         + ", ".join(f".{name} of 1" for name in fields[2:21]) + ", and 9 more: they aren't wanted")
+
+    def test_what_interfaces_hold_goes_along(self):
+        paths = [*FILLED.glob("*.gob")]
+        self.assertTrue(paths)
+        for path in paths:
+            try:
+                data = gob.convert(path, path)
+            except gob.Clash as clash:
+                data = clash.data
+            made = gob.load(data)
+            self.assertTrue(made, path)
+            self.assertEqual(repr(made), repr(gob.load(path)[:len(made)]), path)
+
     def test_what_is_not_converted(self):
         with self.assertRaises(gob.Clash) as caught:
             gob.convert(POINT, "type Line struct { Y string }")

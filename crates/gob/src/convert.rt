@@ -9,14 +9,14 @@ ghost use Rattle.gob_tool.specs.Running.{order_limits};
 ghost use Rattle.gob_tool.specs.Showing.{CountsWriteFaults};
 ghost use Rattle.gob_tool.specs.Taking.{CountsTakeReads};
 ghost use Rattle.gob_words.specs.Escaped.{IsUnobeyed};
-ghost use Rattle.gob.specs.Converting.{ConvertsOrTakes, EndsConversion, HasPath, IsFaultShown, IsSettledAs, IsShown, IsShownLine};
-ghost use Rattle.gob.specs.Converting.{IsStopShown, IsStopped, IsTallyShown, TellsWord};
+ghost use Rattle.gob.specs.Converting.{ConvertsOrTakes, EndsConversion, HasPath, IsFaultShown, IsSettledAs, IsShown};
+ghost use Rattle.gob.specs.Converting.{IsShownLine, IsStopShown, IsStopped, IsTallyShown, TellsWord};
 ghost use Rattle.gob.specs.Exit.{IsQuietIfClosed, seen_after, seen_of, unused};
 
 use crate::pipe::Pipe;
 use crate::types::{TypesFile, wanted_of};
 use crate::{AfterRun, Exit, buffered, opened, settled};
-use gob_convert::{ConvertFault, ConvertOptions, run_convert, run_take_go};
+use gob_convert::{ConvertFault, ConvertOptions, MisfitText, WordText, run_convert, run_take_go};
 use gob_left_out::Tally;
 use gob_rename::{Misfit, Rename, WordFault, WordsFault, renames_said_by};
 use gob_stream::{Input, Output};
@@ -339,10 +339,7 @@ fn told(line: Result<String, AllocError>) -> Exit
 fn word_line(alloc: Global, word: &str, fault: WordFault) -> Result<String, AllocError>
     ensures { IfOk result (λ line. IsUnobeyed (string_bytes line)) }
 {
-    let why = match fault {
-        WordFault::NoEqualsSign => "no = between two names",
-        WordFault::EmptyName => "a name is empty",
-    };
+    let why = WordText(fault);
     let line = format!(in alloc; "invalid value '{word}' for '--rename <OLD=NEW>': {why}")?;
     escaped(alloc, line.as_str())
 }
@@ -359,23 +356,7 @@ fn full_line(alloc: Global, reason: Reason) -> Result<String, AllocError>
 fn misfit_line(alloc: Global, word: &str, misfit: Misfit) -> Result<String, AllocError>
     ensures { IfOk result (λ line. IsUnobeyed (string_bytes line)) }
 {
-    let field = wanted_field(alloc, word)?;
-    let line = match misfit {
-        Misfit::NoField => format!(in alloc;
-            "--rename {word}: the wanted type has no field {field}"
-        ),
-        Misfit::OldNameTaken => format!(in alloc;
-            "--rename {word}: the wanted type has the field {field}, and one of the old name beside it"
-        ),
-    }?;
+    let why = MisfitText { word, misfit };
+    let line = format!(in alloc; "--rename {why}")?;
     escaped(alloc, line.as_str())
-}
-
-// The wanted field of which the word tells, behind the name of its struct if that is said.
-fn wanted_field(alloc: Global, word: &str) -> Result<String, AllocError> {
-    let (place, new) = word.split_once('=').unwrap_or(("", word));
-    match place.rsplit_once('.') {
-        Some((of, _)) => format!(in alloc; "{of}.{new}"),
-        None => String::from_str(alloc, new),
-    }
 }

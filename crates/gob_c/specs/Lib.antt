@@ -6,5 +6,6 @@ pub mod Told
 pub mod Calls
 pub mod Texts
 pub mod Streams
+pub mod Renames
 pub mod Converting
 pub mod Writing

@@ -18,6 +18,7 @@ stream_told status reason column length words = record {
   column = column;
   words = words;
   length = length;
+  left_out = 0;
 }
 
 -- this is told of words that were put into the room, in which no character stands that a terminal obeys

@@ -6,9 +6,11 @@ ghost use Rattle.gob_c.specs.Converting.{IsConverted};
 ghost use Rattle.gob_c.specs.Streams.{IsLinesStream};
 ghost use Rattle.gob_c.specs.Texts.{IsShownOf};
 
+use gob_convert::{ConvertFault, ConvertOptions, run_convert};
+use gob_left_out::Tally;
 use gob_num::Memory;
 use gob_stream::{Input, Limits, Output};
-use gob_tool::{ToolFault, run_convert, run_show_go};
+use gob_tool::run_show_go;
 use gob_why::Said;
 use gob_write::{LinesFault, ShownLines, run_write};
 use std::alloc::Global;
@@ -33,11 +35,12 @@ impl Drop for LinesStream {
     }
 }
 
-/// The stream of the values that were converted, and how the run that wrote it ended.
+/// The stream of the values that were converted, how the run that wrote it ended, and what they leave out.
 pub(crate) struct Converted {
     /// That of the values before the fault.
     pub(crate) stream: Vec<u8>,
-    pub(crate) answer: Result<(), ToolFault>,
+    pub(crate) answer: Result<(), ConvertFault>,
+    pub(crate) left_out: Tally,
 }
 
 // Not derived, for the same reason.
@@ -46,6 +49,7 @@ impl Drop for Converted {
         let Converted {
             stream: _,
             answer: _,
+            left_out: _,
         } = self;
     }
 }
@@ -80,16 +84,32 @@ pub(crate) fn stream_of_lines(alloc: Global, text: &[u8]) -> LinesStream
 }
 
 /// What [`run_convert`] writes of these bytes, which are all of a stream, for the type of the first value of `wanted`,
-/// which is all of another. No value may be deeper than `limits.depth()` or than 1000.
-pub(crate) fn conversion_of(alloc: Global, wanted: &[u8], bytes: &[u8], limits: Limits) -> Converted
-    ensures { IsConverted (within_trees limits) wanted.now bytes.now result }
+/// which is all of another. No value may be deeper than `limits.depth()` or than 1000; what an interface holds is one
+/// deeper than the interface.
+pub(crate) fn conversion_of(
+    alloc: Global,
+    options: &ConvertOptions<'_>,
+    wanted: &[u8],
+    bytes: &[u8],
+) -> Converted
+    ensures { IsConverted options.now.renames.now options.now.all (within_trees options.now.limits) wanted.now bytes.now
+        result }
 {
     let mut types = Input::new(wanted);
     let mut input = Input::new(bytes);
     let mut output = Output::new(Vec::new(alloc));
-    let answer = run_convert(alloc, &mut types, &mut input, &mut output, limits);
+    let mut left_out = Tally::new(alloc);
+    let answer = run_convert(
+        alloc,
+        options,
+        &mut types,
+        &mut input,
+        &mut output,
+        &mut left_out,
+    );
     Converted {
         stream: output.into_inner(),
         answer,
+        left_out,
     }
 }

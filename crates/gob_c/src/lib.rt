@@ -14,6 +14,7 @@ ghost use Rattle.gob_c.specs.Calls.{OpenTold, IsNewReader, FeedTold, FinishTold,
 
 mod any_counter;
 mod check;
+mod converting;
 mod counter_handle;
 mod counts;
 mod handle;
@@ -21,6 +22,8 @@ mod in_memory;
 mod in_pieces;
 mod limits;
 mod parts;
+mod renames;
+mod stop_text;
 mod streams;
 mod texts;
 mod told;

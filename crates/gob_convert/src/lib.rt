@@ -7,14 +7,16 @@
 //! written      dR R{ C 7, A 1 }                  the definitions in front of the wanted value, and the values received
 //! ```
 //!
-//! [`run_convert`] is the run, and [`run_take_go`] the one that prints what it writes. [`ConvertOptions`] say which fields of the wanted type have another name in the stream,
-//! and whether no field of a value may be left out.
+//! [`run_convert`] is the run, and [`run_take_go`] prints what it writes. [`ConvertOptions`] say which fields of the
+//! wanted type have another name in the stream, and whether no field of a value may be left out. [`WordText`] and
+//! [`MisfitText`] say what is wrong with the words of renames.
 #![tactic(auto)]
 
 mod conversion;
 mod fault;
 mod options;
 mod run;
+mod said;
 mod shown;
 mod take;
 mod wanted;
@@ -22,4 +24,5 @@ mod wanted;
 pub use fault::ConvertFault;
 pub use options::ConvertOptions;
 pub use run::run_convert;
+pub use said::{MisfitText, WordText};
 pub use take::run_take_go;

@@ -9,9 +9,11 @@ pub returns : goal.returns
 returns c =
     let empty : (writer_of c.new-output.result).items ≡ [] = ap (λ w. w.items) c.new-output.ensures.writer
     ∙ c.new.ensures.items in
+    let options = c.args.options.now in
     let run = c.run_convert-answer in
     let written = run.ensures.converted c.args.wanted.now c.args.bytes.now
     (ap (λ r. Some r.now) c.new-types.ensures.reader) (ap (λ r. Some r.now) c.new-input.ensures.reader) in
-    converts_so (within_trees c.args.limits) c.args.wanted.now c.args.bytes.now (writer_of c.new-output.result).items
-    (writer_of run.new.output).items c.into_inner.result.items _ _ run.result empty
-    (ap (λ w. w.items) c.into_inner.ensures) written
+    converts_so options.renames.now options.all (within_trees options.limits) c.args.wanted.now c.args.bytes.now
+    (writer_of c.new-output.result).items (writer_of run.new.output).items c.into_inner.result.items _ _
+    c.new-left_out.result run.new.left_out run.result empty (ap (λ w. w.items) c.into_inner.ensures)
+    c.new-left_out.ensures written
