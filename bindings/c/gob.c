@@ -323,6 +323,7 @@ gob_status gob_check_exact(const void *bytes, size_t count, const gob_limits *li
 
 struct gob_writer {
     void *raw;
+    bool items;           /* whether items are given as nodes, and not values as plain JSON */
     unsigned char *bytes; /* what was handed out last */
     size_t room;
 };
@@ -376,12 +377,49 @@ gob_writer *gob_writer_open_like(const void *stream, size_t count, const char *n
     return opened_writer(gob_raw_writer_open_like, stream, count, name, fault);
 }
 
+gob_writer *gob_writer_open_items(const gob_limits *limits, gob_writer_fault *fault) {
+    gob_writer_fault unseen;
+    if (fault == NULL) fault = &unseen;
+    struct raw_written told = {.status = GOB_NO_MEMORY};
+    *fault = (gob_writer_fault){.status = GOB_OK};
+    gob_writer *writer = calloc(1, sizeof *writer);
+    if (writer != NULL) {
+        struct raw_asked asked = asked_of(limits, false);
+        writer->items = true;
+        gob_raw_items_open(&asked, &writer->raw, &told);
+    }
+    if (ended_so(&told, fault) == GOB_OK) return writer;
+    free(writer);
+    return NULL;
+}
+
+/* Whether an item may be passed on: its pointers stand where they have a length. */
+static bool is_given(const gob_item *item) {
+    return item != NULL && (item->kind == GOB_DEFINE || item->kind == GOB_VALUE) &&
+           (item->nodes != NULL || item->count == 0) && (item->bytes != NULL || item->size == 0);
+}
+
+gob_status gob_writer_put_item(gob_writer *writer, const gob_item *item, gob_writer_fault *fault) {
+    static const gob_node no_node;
+    gob_writer_fault unseen;
+    if (fault == NULL) fault = &unseen;
+    struct raw_written told = {.status = GOB_MISUSED};
+    *fault = (gob_writer_fault){.status = GOB_OK};
+    if (writer != NULL && writer->items && is_given(item)) {
+        struct raw_given given = {item->id, item->kind == GOB_DEFINE};
+        gob_raw_items_put(&writer->raw, &given, item->count != 0 ? item->nodes : &no_node, item->count,
+                          some_bytes(item->bytes, item->size), item->size, &told, (unsigned char *)fault->text,
+                          sizeof fault->text);
+    }
+    return ended_so(&told, fault);
+}
+
 gob_status gob_writer_put_json(gob_writer *writer, const char *text, size_t count, gob_writer_fault *fault) {
     gob_writer_fault unseen;
     if (fault == NULL) fault = &unseen;
     struct raw_written told = {.status = GOB_MISUSED};
     *fault = (gob_writer_fault){.status = GOB_OK};
-    if (writer != NULL && (text != NULL || count == 0)) {
+    if (writer != NULL && !writer->items && (text != NULL || count == 0)) {
         gob_raw_writer_put(&writer->raw, some_bytes(text, count), count, &told, (unsigned char *)fault->text,
                            sizeof fault->text);
     }
@@ -391,7 +429,9 @@ gob_status gob_writer_put_json(gob_writer *writer, const char *text, size_t coun
 /* How much is written and not taken. It is in the room then, where that is enough. */
 static uint64_t taken(gob_writer *writer) {
     uint64_t count = 0;
-    gob_raw_writer_take(&writer->raw, writer->room != 0 ? writer->bytes : &nowhere, writer->room, &count);
+    unsigned char *room = writer->room != 0 ? writer->bytes : &nowhere;
+    if (writer->items) gob_raw_items_take(&writer->raw, room, writer->room, &count);
+    else gob_raw_writer_take(&writer->raw, room, writer->room, &count);
     return count;
 }
 
@@ -419,7 +459,8 @@ int gob_writer_take(gob_writer *writer, const void **bytes, size_t *count) {
 
 void gob_writer_close(gob_writer *writer) {
     if (writer == NULL) return;
-    gob_raw_writer_close(writer->raw);
+    if (writer->items) gob_raw_items_close(writer->raw);
+    else gob_raw_writer_close(writer->raw);
     free(writer->bytes);
     free(writer);
 }

@@ -399,7 +399,7 @@ GOB_API void gob_check_close(gob_checker *checker);
  * A writer makes the stream of values of one type, each given as plain JSON: an object of the fields of a struct, of
  * which those that are zero may be left out; an array; a number, a string, true, false or null; base64 for []byte; a
  * time as in RFC 3339. So gob_values_text prints them, and so people write them. The types are Go source, or those of
- * another stream.
+ * another stream. One of gob_writer_open_items makes a stream of items, each given as nodes.
  *
  *     const char *source = "type Point struct { X, Y int }";
  *     gob_writer_fault fault;
@@ -421,7 +421,7 @@ GOB_API void gob_check_close(gob_checker *checker);
 typedef struct gob_writer_fault {
     uint32_t status; /* a gob_status */
     uint32_t reason; /* where a stream is refused, or can't go on: why, as GOB_REASON_TOO_DEEP; else 0 */
-    uint64_t column; /* where the text says no value of the type: at which of its bytes, from 1; else 0 */
+    uint64_t column; /* where a text or nodes say no value of the type: at which byte or node, from 1; else 0 */
     char text[496];
 } gob_writer_fault;
 
@@ -439,6 +439,32 @@ GOB_API gob_writer *gob_writer_open(const char *source, size_t count, const char
  * are of the type of this name or id there, or where `name` is NULL or has no bytes of that of the stream's first
  * value. All definitions of that stream are written, and none of its values. NULL as by gob_writer_open. */
 GOB_API gob_writer *gob_writer_open_like(const void *stream, size_t count, const char *name, gob_writer_fault *fault);
+
+/* A new writer that is given items, of gob_next or of one's own, as a stream has them: each definition, and values of
+ * the types that were defined. `limits` may be NULL, for the standard ones; no value may be deeper than 1000. So a copy
+ * of a stream is made, and what is wanted of it changed:
+ *
+ *     gob_writer *writer = gob_writer_open_items(NULL, &fault);
+ *     while (gob_next(reader, &item) == 1) {
+ *         if (is_wanted(&item)) gob_writer_put_item(writer, &item, &fault);
+ *     }
+ *
+ * NULL where there is no memory, or where these are no limits: `fault` says which. */
+GOB_API gob_writer *gob_writer_open_items(const gob_limits *limits, gob_writer_fault *fault);
+
+/* Writes the item, of which `kind`, `id`, `nodes`, `count`, `bytes` and `size` count. What gob_next hands out is
+ * written as the same item, and may be changed before, in a copy of its nodes: numbers as they are, and bytes by where
+ * they stand, in any place of the item's bytes. All of the nodes are one value of the type, or one definition: a list,
+ * a map or a struct says how many parts and nodes it has, fields come by rising numbers, and what interfaces hold
+ * stands behind the nodes of the value around it, in the order of the interfaces, each behind its name. `named` and
+ * `number` count where a field stands, and nowhere else.
+ *
+ * Whatever is given, nothing goes out but whole items that continue the stream. Else the item is GOB_REFUSED: then
+ * nothing is written, and the writer goes on as if it hadn't been asked; `fault->column` is the node that is wrong,
+ * from 1, and 0 where `fault->reason` says why the stream doesn't go on. GOB_MISUSED where the writer isn't one of
+ * gob_writer_open_items, or the item is NULL, of another kind, or has NULL for nodes or bytes that it counts. Behind
+ * GOB_NO_MEMORY all is as behind that of gob_writer_put_json. The answer is fault->status. */
+GOB_API gob_status gob_writer_put_item(gob_writer *writer, const gob_item *item, gob_writer_fault *fault);
 
 /* Writes the value that the text says, which is plain JSON in UTF-8; of a text of white space alone nothing. Where it
  * says no value of the type, or one that the stream can't go on with, that is GOB_REFUSED: then nothing is written, and

@@ -67,6 +67,18 @@ void gob_raw_writer_put(void **writer, const unsigned char *text, size_t count, 
 void gob_raw_writer_take(void **writer, unsigned char *room, size_t size, uint64_t *count);
 void gob_raw_writer_close(void *writer);
 
+/* A writer of items that are given as nodes, behind a pointer of its own. `column` is a node that is wrong, from 1. */
+struct raw_given {
+    uint64_t id;
+    bool defines;
+};
+void gob_raw_items_open(const struct raw_asked *asked, void **writer, struct raw_written *told);
+void gob_raw_items_put(void **writer, const struct raw_given *given, const gob_node *nodes, size_t node_count,
+                       const unsigned char *bytes, size_t size, struct raw_written *told, unsigned char *room,
+                       size_t room_size);
+void gob_raw_items_take(void **writer, unsigned char *room, size_t size, uint64_t *count);
+void gob_raw_items_close(void *writer);
+
 /* What is told of a stream that is made in memory, as much of which stands in the room as there is room for: how that
  * ended, and how long it is. Of a fault its words stand in `said`, as much of them as there is room for; `words` is how
  * long they are. A conversion is given each of its renames with a 0 behind it; the line of what the values leave out

@@ -392,14 +392,51 @@ void gob_raw_writer_put(void **writer, const unsigned char *text, size_t count, 
     hear_written(box, told, room, size);
 }
 
+/* One of the exports that hand out what a writer wrote. */
+typedef void writer_taking(code *, u64 handle, u64 room, u64 size, u64 count);
+
 /* (where the translated code has too little room for what there is room for, more is asked for than there can be) */
-void gob_raw_writer_take(void **writer, unsigned char *room, size_t size, uint64_t *count) {
-    sandbox *box = *writer;
+static void take_written(writer_taking *taking, sandbox *box, unsigned char *room, size_t size, uint64_t *count) {
     u64 some = room_in(box, &box->nodes, size);
-    code_gob_raw_writer_take(&box->wasm, box->handle, box->nodes.at, some, box->told);
+    taking(&box->wasm, box->handle, box->nodes.at, some, box->told);
     get(box, count, sizeof *count, box->told, sizeof *count);
     if (*count <= some) get(box, room, size, box->nodes.at, *count);
     else if (*count <= size) *count = UINT64_MAX;
 }
 
+void gob_raw_writer_take(void **writer, unsigned char *room, size_t size, uint64_t *count) {
+    take_written(code_gob_raw_writer_take, *writer, room, size, count);
+}
+
 void gob_raw_writer_close(void *writer) { end(writer); }
+
+void gob_raw_items_open(const struct raw_asked *asked, void **writer, struct raw_written *told) {
+    sandbox *box = begun();
+    *told = (struct raw_written){.status = GOB_NO_MEMORY};
+    if (box == NULL) return;
+    put(box, box->piece, asked, sizeof *asked);
+    code_gob_raw_items_open(&box->wasm, box->piece, box->handle, box->told);
+    hear(box, told, sizeof *told);
+    if (told->status == GOB_OK) *writer = box;
+    else end(box);
+}
+
+void gob_raw_items_put(void **writer, const struct raw_given *given, const gob_node *nodes, size_t node_count,
+                       const unsigned char *bytes, size_t size, struct raw_written *told, unsigned char *room,
+                       size_t room_size) {
+    sandbox *box = *writer;
+    *told = (struct raw_written){.status = GOB_NO_MEMORY};
+    if (node_count > SIZE_MAX / sizeof *nodes) return;
+    if (!lent(box, &box->nodes, (const unsigned char *)nodes, node_count * sizeof *nodes)) return;
+    if (!lent(box, &box->bytes, bytes, size) || room_in(box, &box->heads, room_size) < room_size) return;
+    put(box, box->piece, given, sizeof *given);
+    code_gob_raw_items_put(&box->wasm, box->handle, box->piece, box->nodes.at, node_count, box->bytes.at, size,
+                           box->told, box->heads.at, room_size);
+    hear_written(box, told, room, room_size);
+}
+
+void gob_raw_items_take(void **writer, unsigned char *room, size_t size, uint64_t *count) {
+    take_written(code_gob_raw_items_take, *writer, room, size, count);
+}
+
+void gob_raw_items_close(void *writer) { end(writer); }

@@ -1,5 +1,6 @@
 pub mod AsBox
 pub mod AsCounterBox
+pub mod AsItemsBox
 pub mod AsWriterBox
 pub mod CountsLaws
 pub mod HeldLaws

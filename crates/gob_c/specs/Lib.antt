@@ -9,3 +9,4 @@ pub mod Streams
 pub mod Renames
 pub mod Converting
 pub mod Writing
+pub mod ItemWriting

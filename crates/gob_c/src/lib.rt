@@ -20,6 +20,8 @@ mod counts;
 mod handle;
 mod in_memory;
 mod in_pieces;
+mod item_writing;
+mod items_handle;
 mod limits;
 mod parts;
 mod renames;

@@ -26,7 +26,7 @@ pub struct WriterTold {
     pub status: u32,
     /// The number of the reason for which no stream goes on with a value or a definition; else 0.
     pub reason: u32,
-    /// The byte of the text, from 1, at which it says no value of the wanted type; else 0.
+    /// The byte of the text, or the node, from 1, at which it says no value of the wanted type; else 0.
     pub column: u64,
     /// How many bytes the words about it have.
     pub length: u64,
@@ -127,8 +127,8 @@ pub extern "C" fn gob_raw_writer_close(writer: WriterHandle)
 }
 
 impl WriterTold {
-    // A status alone.
-    fn plain(status: u32) -> WriterTold
+    /// A status alone.
+    pub(crate) fn plain(status: u32) -> WriterTold
         ensures { result ≡ writer_told status 0 0 0 }
     {
         WriterTold {

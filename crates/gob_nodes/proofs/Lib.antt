@@ -1,0 +1,8 @@
+mod StandLaws
+mod GroupLaws
+mod PutLaws
+mod FieldLaws
+mod ShapeLaws
+mod SizeLaws
+mod SpelledLaws
+mod TapeLaws
