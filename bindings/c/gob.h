@@ -530,8 +530,8 @@ GOB_API int64_t gob_lines_stream(const char *lines, size_t count, void *out, siz
  * writes it: the type of this name, or where `name` is NULL or has no bytes the first that is declared. Fields go by
  * their names: those that the wanted type lacks are left out. What interfaces hold goes along, with its types.
  * GOB_REFUSED where the source gives no such type; where the bytes are refused, with `fault->reason`; where the type of
- * a value doesn't match: "gob: clash 33 DifferentKind at .X"; and where no more goes into one stream, with
- * `fault->reason`. */
+ * a value doesn't match: "gob: clash 33 DifferentKind at .X: value 3 has an int there, and a string is wanted"; and
+ * where no more goes into one stream, with `fault->reason`. */
 GOB_API int64_t gob_convert(const void *bytes, size_t count, const gob_limits *limits, const char *source,
                             size_t source_count, const char *name, void *out, size_t size, gob_writer_fault *fault);
 

@@ -116,7 +116,8 @@ static void wrong_values_are_refused(void) {
     unsigned char room[256];
     gob_writer_fault fault;
     DUE(converted("Other", room, sizeof room, &fault) > 0);
-    DUE(is_fault(&fault, GOB_REFUSED, 0, 0, "gob: clash 33 DifferentKind at .X"));
+    DUE(is_fault(&fault, GOB_REFUSED, 0, 0,
+                 "gob: clash 33 DifferentKind at .X: value 1 has an int there, and a string is wanted"));
     DUE(converted("Nobody", room, sizeof room, &fault) == 0 && fault.status == GOB_REFUSED);
     DUE(gob_convert(point, sizeof point, NULL, "type", 4, NULL, room, sizeof room, &fault) == 0);
     DUE(fault.status == GOB_REFUSED && strncmp(fault.text, "gob: types: line 1, column ", 27) == 0);
@@ -244,7 +245,8 @@ static void names_are_escaped(void) {
                                "{\"type\":65,\"value\":[]}";
     int64_t count = written(text, room, sizeof room, &fault);
     DUE(count > 0 && gob_convert_like(other, sizeof other, NULL, room, (size_t)count, NULL, NULL, 0, &fault) > 0);
-    DUE(is_fault(&fault, GOB_REFUSED, 0, 0, "gob: clash 33 DifferentKind at .\\u{1b}"));
+    DUE(is_fault(&fault, GOB_REFUSED, 0, 0,
+                 "gob: clash 33 DifferentKind at .\\u{1b}: value 1 has an int there, and a string is wanted"));
     gob_conversion asked = {.stream = line, .stream_count = sizeof line};
     DUE(gob_convert_with(other, sizeof other, &asked, NULL, 0, &left, &fault) == sizeof line);
     DUE(strcmp(told, "gob: left out .\\u{1b} of 1 value: it isn't wanted") == 0);

@@ -32,15 +32,21 @@ class Clash(Error):
     """The type of a value doesn't match the wanted one.
 
     `reason` says why, as `DifferentKind`, `path` where in the types, as `.Tries`, `[]` for an element, `{}` for a key
-    or `top` for the types themselves, and `data` is the stream of the values before.
+    or `top` for the types themselves, and `data` is the stream of the values before. `index` is how many values there
+    are before it, and None behind a very long path. `found` and `wanted` say what the value has there and what it
+    should, as `string` and `int`, where these differ.
     """
 
-    def __init__(self, reason: str, path: str, data: bytes = b""):
-        super().__init__(f"{reason} at {path}")
-        self.reason, self.path, self.data = reason, path, data
+    def __init__(self, reason: str, path: str, data: bytes = b"", index: int | None = None, found: str = "",
+                 wanted: str = ""):
+        value = "" if index is None else f" in value {index}"
+        kinds = f": {found}, where {wanted} is wanted" if found else ""
+        super().__init__(f"{reason} at {path}{value}{kinds}")
+        self.reason, self.path, self.data, self.index, self.found, self.wanted = (reason, path, data, index, found,
+                                                                                  wanted)
 
     def __reduce__(self) -> tuple[Any, ...]:
-        return Clash, (self.reason, self.path, self.data)
+        return Clash, (self.reason, self.path, self.data, self.index, self.found, self.wanted)
 
 
 class LeftOut(Error):

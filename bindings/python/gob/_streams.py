@@ -22,6 +22,7 @@ _LINE_ROOM = 4096
 # (words may be cut)
 _LINE = re.compile(r"gob: line (\d+)(?:, column (\d+))?(?:, at (.*?))?(?:: (.*))?", re.S)
 _CLASH = re.compile(r"gob: clash \d+ (\w+) at (.*)", re.S)
+_MET = re.compile(r"(.*): (?:in value (\d+)|value (\d+) has an? (.*) there, and an? (.*) is wanted)", re.S)
 _LEFT = re.compile(r"gob: value (\d+) has (.*), which isn't wanted", re.S)
 
 
@@ -117,8 +118,17 @@ def _raise_unmade(words: str | None, made: bytes) -> None:
     words = words or ""
     clash, left = _CLASH.fullmatch(words), _LEFT.fullmatch(words)
     if clash:
-        raise Clash(clash[1], clash[2], made)
+        raise _clash(clash[1], clash[2], made)
     if left:
         raise LeftOutFault(left[2], int(left[1]) - 1, made)
     if words.startswith(("gob: types:", "gob: wanted:", "gob: refused 35 ", "gob: rename ", "gob: a rename ")):
         raise BadTypes(words[len("gob: "):])
+
+
+def _clash(reason: str, rest: str, made: bytes) -> Clash:
+    """The clash for the reason, by what is told behind it: the path alone, where the words are cut."""
+    met = _MET.fullmatch(rest)
+    if met is None:
+        return Clash(reason, rest, made)
+    path, alone, number, found, wanted = met.groups("")
+    return Clash(reason, path, made, int(alone or number) - 1, found, wanted)

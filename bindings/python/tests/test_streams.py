@@ -139,7 +139,21 @@ class StreamsTest(unittest.TestCase):
         fault = caught.exception
         self.assertEqual((fault.reason, fault.path), ("DifferentKind", ".Y"))
         self.assertEqual(gob.loads(fault.data), [])
-        self.assertEqual(str(pickle.loads(pickle.dumps(fault))), "DifferentKind at .Y")
+        self.assertEqual((fault.index, fault.found, fault.wanted), (0, "int", "string"))
+        self.assertEqual(str(pickle.loads(pickle.dumps(fault))),
+                         "DifferentKind at .Y in value 0: int, where string is wanted")
+        with self.assertRaises(gob.Clash) as caught:
+            gob.convert(POINT, "type Line struct { Z int }")
+        fault = caught.exception
+        self.assertEqual((fault.reason, fault.path, fault.index, fault.found), ("NoCommonField", "top", 0, ""))
+        name = "Y: value 3 has an int there, and a map is wanted"
+        with self.assertRaises(gob.Clash) as caught:
+            gob.convert(self.named(name, 2), self.named(name, 6))
+        fault = caught.exception
+        self.assertEqual((fault.path, fault.index, fault.found, fault.wanted), ("." + name, 0, "int", "string"))
+        with self.assertRaises(gob.Clash) as caught:
+            gob.convert(self.named("Y" * 500, 2), self.named("Y" * 500, 6))
+        self.assertTrue(caught.exception.path.startswith(".YYY") and caught.exception.index is None)
         for types, name, words in [("type", None, "line 1"), ("type A int", "B", "declared"), (b"\0", None, "refused"),
                                    (POINT[:32], None, "NoWantedType"), (POINT, "Line", "no type"),
                                    (POINT, "Point\0", "NUL")]:
@@ -150,6 +164,11 @@ class StreamsTest(unittest.TestCase):
         self.assertEqual((caught.exception.place, caught.exception.values), (41, [POINT]))
         with self.assertRaisesRegex(ValueError, "limits"):
             gob.convert(POINT, POINT, limits=gob.Limits(depth=0))
+
+    def named(self, name, id):
+        """A value of a struct with a field of the name, of a basic type."""
+        return gob.from_lines([{"define": 65, "kind": "struct", "name": "P", "fields": [[name, id]]},
+                               {"type": 65, "value": []}])
 
     def test_hostile_texts_end_soon(self):
         many = 1_000_000

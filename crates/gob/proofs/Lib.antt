@@ -1,3 +1,4 @@
 mod AskedLaws
+mod ClashLaws
 mod ConvertLaws
 pub mod SalvagingLaws

@@ -1,12 +1,14 @@
 -- How the program ends that converts a stream. (docs/FORMAT.md, The program: this project's own.)
-use Rattle.std.specs.Prelude.{◌≡◌, ℕ, Bool, true, false, List, Option, Some, Result, Ok, Err, IsErrAnd}
-use Rattle.std.specs.Prelude.{string_bytes}
+use Rattle.std.specs.Prelude.{◌≡◌, ◌≢◌, ◌++◌, ℕ, Bool, true, false, codes, List, [], Option, Some}
+use Rattle.std.specs.Prelude.{Result, Ok, Err, IsErrAnd, string_bytes}
 use Rattle.std.specs.Str.{chars}
 use Rattle.std.specs.Io.KnownBytes.{append_known}
 use Rattle.gob_left_out.specs.Tally.{TallyRow}
 use Rattle.gob_left_out.specs.TallyText.{tally_line}
 use Rattle.gob_rename.specs.declared.rename.Rename.{Rename}
 use Rattle.gob_stream.specs.Bounds.{Bounds, within_trees}
+use Rattle.gob_convert.specs.ClashText.{told_clash}
+use Rattle.gob_convert.specs.declared.clash.Clash.{Clash}
 use Rattle.gob_convert.specs.declared.fault.ConvertFault.{ConvertFault}
 use Rattle.gob_convert.specs.declared.fault.ConvertFault.TheVariants as stop
 use Rattle.gob_convert.specs.Faults.{OfRun}
@@ -30,6 +32,20 @@ abbrev pub TellsWord : Exit → Type 0
 TellsWord (end.View line) = IsUnobeyed (string_bytes line)
 TellsWord told = told ≡ end.Run run_fault.Memory
 
+-- the line of a clash, with those characters escaped that a terminal obeys
+abbrev pub IsClashLine : Clash → (line : List ℕ) → Type 0
+IsClashLine c line = chars line ≡ escaped_text (chars (codes "gob: " ++ told_clash c))
+
+-- the clash is told so, unless no memory was had
+abbrev pub TellsClash : Clash → Exit → Type 0
+TellsClash c (end.Lines line) = IsClashLine c (string_bytes line)
+TellsClash c told = told ≡ end.Run run_fault.Memory
+
+-- a run that a clash stopped ends so, where its last bytes, these, were lost: if there are any a write failed
+pub record EndsAtClash (c : Clash) (lost : List ℕ) (result : Result (Unit {0}) Exit) : Type 0 where
+  pub whole : lost ≡ [] → IsErrAnd result (TellsClash c)
+  pub cut : lost ≢ [] → HasAnswered (Err run_fault.Write) result
+
 -- a run that answered so ends so, where its last bytes, these, were lost
 pub record EndsAs (answer : Result (Unit {0}) ToolFault) (lost : List ℕ) (result : Result (Unit {0}) Exit) : Type 0
   where
@@ -41,6 +57,7 @@ pub record EndsAs (answer : Result (Unit {0}) ToolFault) (lost : List ℕ) (resu
 abbrev pub EndsConversionAs : Result (Unit {0}) ConvertFault → (lost : List ℕ) → Result (Unit {0}) Exit → Type 0
 EndsConversionAs (Ok u) lost result = EndsAs (Ok u) lost result
 EndsConversionAs (Err (stop.Run fault)) lost result = EndsAs (Err fault) lost result
+EndsConversionAs (Err (stop.Clash c)) lost result = EndsAtClash c lost result
 EndsConversionAs (Err (stop.Full why)) lost result = IsErrAnd result TellsWord
 EndsConversionAs (Err (stop.Misfits number why)) lost result = IsErrAnd result TellsWord
 
@@ -50,6 +67,13 @@ pub record IsSettledAs (answer : Result (Unit {0}) ConvertFault) (wrote new : Op
   -- what it wrote and the writer didn't take
   pub lost : List ℕ
   pub ends : EndsConversionAs answer lost result
+  pub all : wrote ≡ append_known new lost
+
+-- so ends one that a clash stopped
+pub record IsClashed (c : Clash) (wrote new : Option (List ℕ)) (result : Result (Unit {0}) Exit) : Type 0 where
+  -- what it wrote and the writer didn't take
+  pub lost : List ℕ
+  pub ends : EndsAtClash c lost result
   pub all : wrote ≡ append_known new lost
 
 -- so ends one that is stopped, though nothing failed

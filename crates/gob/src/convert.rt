@@ -1,6 +1,6 @@
 //! The stream of what is received of a stream's values, as the words ask, and its lines.
 
-ghost use Rattle.std.specs.Prelude.{◌≡◌, ◌↔◌, ℕ, List, Some, length, IfErr, IfOk, IsTrue, string_bytes};
+ghost use Rattle.std.specs.Prelude.{◌≡◌, ◌↔◌, ℕ, List, Some, length, IfErr, IfOk, IsErrAnd, IsTrue, string_bytes};
 ghost use Rattle.std.specs.Io.Buffered.{writer_contents};
 ghost use Rattle.gob_stream.specs.Bounds.{within_trees};
 ghost use Rattle.gob_stream.specs.Calls.Ends.{failed_reads, failed_writes, reader_of, writer_of};
@@ -10,13 +10,16 @@ ghost use Rattle.gob_tool.specs.Showing.{CountsWriteFaults};
 ghost use Rattle.gob_tool.specs.Taking.{CountsTakeReads};
 ghost use Rattle.gob_words.specs.Escaped.{IsUnobeyed};
 ghost use Rattle.gob.specs.Converting.{ConvertsOrTakes, EndsConversion, HasPath, IsFaultShown, IsSettledAs, IsShown};
-ghost use Rattle.gob.specs.Converting.{IsShownLine, IsStopShown, IsStopped, IsTallyShown, TellsWord};
+ghost use Rattle.gob.specs.Converting.{IsClashLine, IsClashed, IsShownLine, IsStopShown, IsStopped, IsTallyShown};
+ghost use Rattle.gob.specs.Converting.{TellsClash, TellsWord};
 ghost use Rattle.gob.specs.Exit.{IsQuietIfClosed, seen_after, seen_of, unused};
 
 use crate::pipe::Pipe;
 use crate::types::{TypesFile, wanted_of};
 use crate::{AfterRun, Exit, buffered, opened, settled};
-use gob_convert::{ConvertFault, ConvertOptions, MisfitText, WordText, run_convert, run_take_go};
+use gob_convert::{
+    Clash, ConvertFault, ConvertOptions, MisfitText, WordText, run_convert, run_take_go,
+};
 use gob_left_out::Tally;
 use gob_rename::{Misfit, Rename, WordFault, WordsFault, renames_said_by};
 use gob_stream::{Input, Output};
@@ -234,8 +237,8 @@ fn run_asked<Q: Read, R: Read, W: Write>(
     }
 }
 
-// What comes of a conversion that answered this: where a rename doesn't fit the wanted types, its word is told, and
-// where no more goes into the stream why that is.
+// What comes of a conversion that answered this: where a rename doesn't fit the wanted types, its word is told, where a
+// value clashes where and why, and where no more goes into the stream why that is.
 fn settled_as<W: Write + Drop>(
     alloc: Global,
     words: &[&str],
@@ -252,11 +255,64 @@ fn settled_as<W: Write + Drop>(
     match answer {
         Ok(()) => settled(Ok(()), output),
         Err(ConvertFault::Run(fault)) => settled(Err(fault), output),
+        Err(ConvertFault::Clash(clash)) => clashed(alloc, &clash, output),
         Err(ConvertFault::Full(reason)) => stopped(told(full_line(alloc, reason)), output),
         Err(ConvertFault::Misfits { number, misfit }) => {
             stopped(told(misfit_line(alloc, words[number], misfit)), output)
         }
     }
+}
+
+// What comes of a run that a clash stopped: it is told, unless bytes that were written are lost.
+fn clashed<W: Write + Drop>(
+    alloc: Global,
+    clash: &Clash,
+    output: Output<BufWriter<Pipe<W>>>,
+) -> AfterRun<W>
+    ensures settled { IsClashed clash.now (writer_contents (λ pipe. W.contents pipe.writer) (writer_of output))
+        (W.contents result.pipe.writer) result.ending }
+    ensures counted { result.failures ≡ failed_writes output }
+    ensures quiet { IsQuietIfClosed result }
+{
+    let AfterRun {
+        ending,
+        pipe,
+        failures,
+    } = settled(Ok(()), output);
+    AfterRun {
+        ending: ended_at(alloc, clash, ending),
+        pipe,
+        failures,
+    }
+}
+
+// How the program ends at a clash, where it would have ended so without one.
+fn ended_at(alloc: Global, clash: &Clash, ending: Result<(), Exit>) -> Result<(), Exit>
+    ensures clash { ending ≡ Ok tt → IsErrAnd result (TellsClash clash.now) }
+    ensures other { IfErr ending (λ stop. result ≡ Err stop) }
+{
+    match ending {
+        Ok(()) => Err(clash_told(alloc, clash)),
+        Err(stop) => Err(stop),
+    }
+}
+
+// What stops the program at a clash.
+fn clash_told(alloc: Global, clash: &Clash) -> Exit
+    ensures { TellsClash clash.now result }
+{
+    match clash_line(alloc, clash) {
+        Ok(line) => Exit::Lines(line),
+        Err(_) => Exit::Run(ToolFault::Memory),
+    }
+}
+
+// The line of a clash: its path has names of the stream.
+fn clash_line(alloc: Global, clash: &Clash) -> Result<String, AllocError>
+    ensures { IfOk result (λ line. IsClashLine clash.now (string_bytes line)) }
+{
+    let line = format!(in alloc; "gob: {clash}")?;
+    escaped(alloc, line.as_str())
 }
 
 // What comes of a run that is stopped so, though nothing failed.

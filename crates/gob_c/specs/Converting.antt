@@ -105,6 +105,7 @@ told_of_run (Ok u) length left_out words = converted_told 0 0 length left_out wo
 told_of_run (Err (stop.Run f)) length left_out words = told_of_fault f length left_out words
 told_of_run (Err (stop.Full reason)) length left_out words =
     converted_told 1 (reason_number reason) length left_out words
+told_of_run (Err (stop.Clash c)) length left_out words = converted_told 1 0 length left_out words
 told_of_run (Err (stop.Misfits number why)) length left_out words = converted_told 1 0 length left_out words
 
 -- of why there is no wanted type

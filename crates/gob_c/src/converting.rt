@@ -132,7 +132,7 @@ impl StreamTold {
             Ok(()) => (0, 0),
             Err(ConvertFault::Run(fault)) => numbers_of(fault),
             Err(ConvertFault::Full(reason)) => (1, reason.number() as u32),
-            Err(ConvertFault::Misfits { .. }) => (1, 0),
+            Err(ConvertFault::Clash(_) | ConvertFault::Misfits { .. }) => (1, 0),
         };
         StreamTold {
             status,

@@ -15,6 +15,7 @@ impl fmt::Display for StopText<'_> {
     fn fmt<W: fmt::Write>(&self, f: &mut fmt::Formatter<W>) -> fmt::Result {
         match self.fault {
             ConvertFault::Run(fault) => write!(f, "{fault}"),
+            ConvertFault::Clash(clash) => write!(f, "gob: {clash}"),
             ConvertFault::Full(reason) => write!(f, "gob: no more goes into one stream: {reason}"),
             ConvertFault::Misfits { number, misfit } => {
                 let word = self.words.get(*number).copied().unwrap_or("");

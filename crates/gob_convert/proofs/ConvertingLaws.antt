@@ -15,7 +15,6 @@ use Rattle.gob_value.specs.View.{view}
 use Rattle.gob_value.proofs.PublicLaws.{top_on}
 use Rattle.gob_left_out.specs.LeftOut.{Row}
 use Rattle.gob_left_out.specs.Tally.{tally_of, TallyRow}
-use Rattle.gob_match.specs.Clashing.{IsLeastClash}
 use Rattle.gob_stream.specs.Bounds.{Bounds, within_trees}
 use Rattle.gob_stream.specs.Calls.ReaderOf.{StopsBy}
 use Rattle.gob_stream.specs.Devices.{counts_up, FlushCounted}
@@ -52,6 +51,7 @@ use Rattle.gob_tool.specs.Showing.{CountsReadFaults, CountsWriteFaults, MayCount
 use Rattle.gob_tool.specs.declared.fault.ToolFault.TheVariants as fault
 use Rattle.gob_tool.proofs.EndLaws.{reads_unread}
 use Rattle.gob_tool.proofs.TextLaws.{begun, no_memory, shown_none, shown_stops, shown_whole}
+use Rattle.gob_convert.specs.Clashing.{TellsClash}
 use Rattle.gob_convert.specs.Converting.{AreConverted, no_item, definition_then, value_then, HasConverted, IsConverted}
 use Rattle.gob_convert.specs.Faults.{IsBefore, OfRun}
 use Rattle.gob_convert.specs.Running.{converts, clashes, leaves_out, is_full, ConvertsBehind, LeavesField}
@@ -531,8 +531,9 @@ module _ {all : Bool} {W : Table} {u : TypeId} {front : List FilledItem} {out : 
           → ConvertsBehind all L bytes now front W u start sent told c.left_out (Err e)
       value id w (stop.Misfits number why) h between stops bytes known = absurd stops
       value id w (stop.Full why) h between stops bytes known = converts_full s why bytes known
-      value id w (stop.Run (fault.Clash path why)) h between stops bytes known =
-          clashes (at id w (λ T t w. IsLeastClash T W t u path.items why) h between stops bytes known)
+      value id w (stop.Clash c) h between stops bytes known =
+          clashes (at id w (λ T t w. TellsClash T W t u c) h between stops bytes known)
+      value id w (stop.Run (fault.Clash path why)) h between stops bytes known = absurd stops
       value id w (stop.Run (fault.LeftOut path number)) h between stops bytes known =
           leaves_out stops.0 (at id w (LeavesField W u path.items) h between stops.1 bytes known)
       value id w (stop.Run fault.Memory) h between stops bytes known = converts_memory s bytes known
@@ -610,10 +611,11 @@ writing_own writing.Failed b = b
 pub put_own : (e : ConvertFault) → IsPutStop e → IsBefore e → ⊥
 put_own (stop.Misfits number why) s b = s
 put_own (stop.Full why) s b = b
+put_own (stop.Clash c) s b = b
 put_own (stop.Run (fault.Refused R)) s b = b
 put_own (stop.Run (fault.Wanted R)) s b = s
 put_own (stop.Run fault.NoWantedType) s b = s
-put_own (stop.Run (fault.Clash path why)) s b = b
+put_own (stop.Run (fault.Clash path why)) s b = s
 put_own (stop.Run (fault.LeftOut path number)) s b = b
 put_own (stop.Run fault.Read) s b = b
 put_own (stop.Run fault.Write) s b = b
@@ -622,6 +624,7 @@ put_own (stop.Run fault.Memory) s b = b
 pub put_writes : (failures : ℕ) (e : ConvertFault) → IsPutStop e → OfRun (CountsOnlyWrites failures failures) (Err e)
 put_writes failures (stop.Misfits number why) s = refl
 put_writes failures (stop.Full why) s = refl
+put_writes failures (stop.Clash c) s = refl
 put_writes failures (stop.Run (fault.Refused R)) s = refl
 put_writes failures (stop.Run (fault.Wanted R)) s = refl
 put_writes failures (stop.Run fault.NoWantedType) s = refl
@@ -639,6 +642,7 @@ pub convert_unread : (old new : ℕ) (e : ConvertFault) → new ≡ old → e �
     → OfRun (CountsReadFaults old new) (Err e)
 convert_unread old new (stop.Misfits number why) same other = same
 convert_unread old new (stop.Full why) same other = same
+convert_unread old new (stop.Clash c) same other = same
 convert_unread old new (stop.Run f) same other = reads_unread old new (Err f) same (λ is. other (ap stop.Run is))
 
 -- the flush behind a fault may fail
@@ -658,6 +662,7 @@ ended_writes {E = E} failures old new res answer own other some counted = of ans
     of (Ok u) own other some h = absurd (some refl)
     of (Err (stop.Misfits number why)) own other some h = absurd (own tt)
     of (Err (stop.Full why)) own other some h = may res counted h
+    of (Err (stop.Clash c)) own other some h = may res counted h
     of (Err (stop.Run (fault.Refused R))) own other some h = may res counted h
     of (Err (stop.Run (fault.Wanted R))) own other some h = may res counted h
     of (Err (stop.Run fault.NoWantedType)) own other some h = may res counted h

@@ -169,6 +169,7 @@ target_unfound {rs = rs} {all = all} {L = L} {wanted = wanted} {bytes = bytes} {
         → ConvertAnswers rs all (within_trees L) wanted bytes wanted_now now old new told told (Err e)
     by (stop.Misfits number why) h = misfits h unread refl
     by (stop.Full why) h = takes_no_front unread refl
+    by (stop.Clash c) h = absurd h
     by (stop.Run x) h = stops_at_wanted h unread refl
 
 pub no_memory_at_all : {rs : List Rename} {all : Bool} {L : Bounds} {wanted bytes : List ℕ}
@@ -185,6 +186,7 @@ pub target_writes : (failures : ℕ) (e : ConvertFault) → IsTargetStop e
     → OfRun (CountsWriteFaults failures failures) (Err e)
 target_writes failures (stop.Misfits number why) s = refl
 target_writes failures (stop.Full why) s = inl refl
+target_writes failures (stop.Clash c) s = inl refl
 target_writes failures (stop.Run (fault.Refused R)) s = inl refl
 target_writes failures (stop.Run (fault.Wanted R)) s = inl refl
 target_writes failures (stop.Run fault.NoWantedType) s = inl refl
@@ -208,6 +210,7 @@ ended_reads wanted wanted' reads reads' answer result same (ends_so e) h =
     of (Ok x) h = (same, h)
     of (Err (stop.Misfits number why)) h = (same, h)
     of (Err (stop.Full why)) h = (same, h)
+    of (Err (stop.Clash c)) h = (same, h)
     of (Err (stop.Run (fault.Refused R))) h = (same, h)
     of (Err (stop.Run (fault.Wanted R))) h = (same, h)
     of (Err (stop.Run fault.NoWantedType)) h = (same, h)
@@ -232,4 +235,5 @@ ended_own P answer result (ends_so e) own tells = subst (λ r. IfErr r P) (sym e
 pub among_any : (renames : ℕ) (f : ConvertFault) → (IsBefore f → ⊥) → IsAmongRenames renames f
 among_any renames (stop.Misfits number why) own = absurd (own tt)
 among_any renames (stop.Full why) own = tt
+among_any renames (stop.Clash c) own = tt
 among_any renames (stop.Run f) own = tt

@@ -1,3 +1,4 @@
+pub mod ClashingLaws
 pub mod ConvertingLaws
 pub mod EndingLaws
 pub mod ValueLaws

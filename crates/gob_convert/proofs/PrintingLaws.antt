@@ -97,6 +97,7 @@ pub prints_all : {s : SessionState} {stream : List ℕ} {start now : Option (Lis
 prints_all (Ok u) h = shows_whole h
 prints_all (Err (stop.Misfits number why)) h = shows_whole h
 prints_all (Err (stop.Full why)) h = shows_whole h
+prints_all (Err (stop.Clash c)) h = shows_whole h
 prints_all (Err (stop.Run (fault.Refused R))) h = shows_whole h
 prints_all (Err (stop.Run (fault.Wanted R))) h = shows_whole h
 prints_all (Err (stop.Run fault.NoWantedType)) h = shows_whole h
@@ -192,6 +193,7 @@ pub prints_none : (L : Bounds) (start : Option (List ℕ)) (r : Result (Unit {0}
 prints_none L start (Ok u) = shows_none start
 prints_none L start (Err (stop.Misfits number why)) = shows_none start
 prints_none L start (Err (stop.Full why)) = shows_none start
+prints_none L start (Err (stop.Clash c)) = shows_none start
 prints_none L start (Err (stop.Run (fault.Refused R))) = shows_none start
 prints_none L start (Err (stop.Run (fault.Wanted R))) = shows_none start
 prints_none L start (Err (stop.Run fault.NoWantedType)) = shows_none start

@@ -162,6 +162,7 @@ put_finds : (L : Bounds) (bytes : List ℕ) (now : Option (List ℕ)) (e : Conve
     → FindsNone L bytes now e
 put_finds L bytes now (stop.Misfits number why) s = s
 put_finds L bytes now (stop.Full why) s = s
+put_finds L bytes now (stop.Clash c) s = s
 put_finds L bytes now (stop.Run (fault.Refused R)) s = s
 put_finds L bytes now (stop.Run (fault.Wanted R)) s = absurd s
 put_finds L bytes now (stop.Run fault.NoWantedType) s = absurd s
@@ -367,6 +368,7 @@ wanted_stops reading.Failed = tt
 pub put_stops : (e : ConvertFault) → StopsPutting e → IsWantedStop e
 put_stops (stop.Misfits number why) s = s
 put_stops (stop.Full why) s = s
+put_stops (stop.Clash c) s = s
 put_stops (stop.Run (fault.Refused R)) s = s
 put_stops (stop.Run (fault.Wanted R)) s = absurd s
 put_stops (stop.Run fault.NoWantedType) s = absurd s
@@ -379,4 +381,5 @@ put_stops (stop.Run fault.Memory) s = s
 pub target_stops : (e : ConvertFault) → IsWantedStop e → IsTargetStop e
 target_stops (stop.Misfits number why) s = tt
 target_stops (stop.Full why) s = s
+target_stops (stop.Clash c) s = s
 target_stops (stop.Run f) s = s

@@ -26,24 +26,27 @@ abbrev pub run_answer : Result (Unit {0}) ToolFault → Result (Unit {0}) Conver
 run_answer (Ok u) = Ok u
 run_answer (Err f) = Err (stop.Run f)
 
--- it holds of the answer as one of any run. Where a rename doesn't fit, nothing failed; where no more goes into the
--- stream, as where no memory was had, no read or write did, but for a flush behind it.
+-- it holds of the answer as one of any run. Where a rename doesn't fit, nothing failed; where a value clashes or no
+-- more goes into the stream, as where no memory was had, no read or write did, but for a flush behind it.
 abbrev pub OfRun : (Result (Unit {0}) ToolFault → Type 0) → Result (Unit {0}) ConvertFault → Type 0
 OfRun P (Ok u) = P (Ok u)
 OfRun P (Err (stop.Run f)) = P (Err f)
 OfRun P (Err (stop.Full r)) = P (Err fault.Memory)
+OfRun P (Err (stop.Clash c)) = P (Err fault.Memory)
 OfRun P (Err (stop.Misfits number why)) = P (Ok tt)
 
 -- the run stops before the input is read
 abbrev pub IsBefore : ConvertFault → Type 0
 IsBefore (stop.Misfits number why) = Unit {0}
 IsBefore (stop.Full r) = ⊥
+IsBefore (stop.Clash c) = ⊥
 IsBefore (stop.Run f) = IsOfWanted f
 
 -- a rename that doesn't fit is one of so many
 abbrev pub IsAmongRenames : (renames : ℕ) → ConvertFault → Type 0
 IsAmongRenames renames (stop.Misfits number why) = number < renames
 IsAmongRenames renames (stop.Full r) = Unit {0}
+IsAmongRenames renames (stop.Clash c) = Unit {0}
 IsAmongRenames renames (stop.Run f) = Unit {0}
 
 -- the answer stays, but where the flush behind it is the first that fails

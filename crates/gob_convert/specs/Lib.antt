@@ -1,5 +1,8 @@
+pub mod ClashText
+pub mod Clashing
 pub mod Converting
 pub mod Faults
+pub mod Kinds
 pub mod Machine
 pub mod Printing
 pub mod Running

@@ -1,3 +1,4 @@
+pub mod Clashing
 pub mod Converting
 pub mod Printing
 pub mod Wanted

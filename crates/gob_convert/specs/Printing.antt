@@ -17,6 +17,7 @@ abbrev pub shows_so : Result (Unit {0}) ConvertFault → Result (Unit {0}) ToolF
 shows_so (Ok u) = Ok u
 shows_so (Err (stop.Misfits number why)) = Ok tt
 shows_so (Err (stop.Full why)) = Ok tt
+shows_so (Err (stop.Clash c)) = Ok tt
 shows_so (Err (stop.Run (fault.Refused R))) = Ok tt
 shows_so (Err (stop.Run (fault.Wanted R))) = Ok tt
 shows_so (Err (stop.Run fault.NoWantedType)) = Ok tt

@@ -10,9 +10,7 @@ use Rattle.gob_types.specs.Table.{Table}
 use Rattle.gob_left_out.specs.LeftOut.{LeavesOut, Row}
 use Rattle.gob_left_out.specs.Tally.{tally_of, TallyRow}
 use Rattle.gob_left_out.specs.declared.field.UnwantedField.{UnwantedField}
-use Rattle.gob_match.specs.declared.reason.ClashReason.{ClashReason}
 use Rattle.gob_match.specs.declared.step.TypeStep.{TypeStep}
-use Rattle.gob_match.specs.Clashing.{IsLeastClash}
 use Rattle.gob_match.specs.Pairs.{of_types}
 use Rattle.gob_rename.specs.declared.fault.Misfit.{Misfit}
 use Rattle.gob_rename.specs.declared.rename.Rename.{Rename}
@@ -27,8 +25,10 @@ use Rattle.gob_tool.specs.Answering.{AppendsPrefix, BeginsOutcome, RunAnswersIn}
 use Rattle.gob_tool.specs.Taking.{Untouched}
 use Rattle.gob_tool.specs.declared.fault.ToolFault.{ToolFault}
 use Rattle.gob_tool.specs.declared.fault.ToolFault.TheVariants as fault
+use Rattle.gob_convert.specs.Clashing.{TellsClash}
 use Rattle.gob_convert.specs.Converting.{first_type, HasConverted, in_front, skeleton_of}
 use Rattle.gob_convert.specs.Faults.{run_answer}
+use Rattle.gob_convert.specs.declared.clash.Clash.{Clash}
 use Rattle.gob_convert.specs.declared.fault.ConvertFault.{ConvertFault}
 use Rattle.gob_convert.specs.declared.fault.ConvertFault.TheVariants as stop
 
@@ -88,9 +88,8 @@ pub data Converting (all : Bool) (L : Bounds) (bytes : List ℕ) (now : Option (
     (Whole Cut : Table → List FilledItem → Type 0) : Result (Unit {0}) ConvertFault → Type 0 where
   converts : (r : Result (Unit {0}) ToolFault) → RunAnswersIn profile L bytes now Whole Cut r
       → Converting all L bytes now W u Whole Cut (run_answer r)
-  clashes : {path : Vec TypeStep Global} {why : ClashReason}
-      → StopsAtValue L bytes Whole (λ T t w. IsLeastClash T W t u path.items why)
-      → Converting all L bytes now W u Whole Cut (Err (stop.Run (fault.Clash path why)))
+  clashes : {c : Clash} → StopsAtValue L bytes Whole (λ T t w. TellsClash T W t u c)
+      → Converting all L bytes now W u Whole Cut (Err (stop.Clash c))
   leaves_out : {path : Vec TypeStep Global} {number : ℕ} → IsTrue all
       → StopsAtValue L bytes Whole (LeavesField W u path.items)
       → Converting all L bytes now W u Whole Cut (Err (stop.Run (fault.LeftOut path number)))

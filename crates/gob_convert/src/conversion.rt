@@ -1,6 +1,6 @@
 //! Values converted, one behind another.
 
-ghost use Rattle.std.specs.Prelude.{◌≡◌, ℕ, List, IfErr, IfOk, OnErr, OnOk};
+ghost use Rattle.std.specs.Prelude.{◌≡◌, ◌+◌, ◌-◌, ◌^◌, ℕ, List, IfErr, IfOk, OnErr, OnOk, min};
 ghost use Rattle.gob_types.specs.Defined.{types};
 ghost use Rattle.gob_types.specs.Ready.{IsReady};
 ghost use Rattle.gob_types.specs.Table.{Table as Types};
@@ -11,9 +11,10 @@ ghost use Rattle.gob_filled_match.specs.Loss.{KnowsLoss};
 ghost use Rattle.gob_go.specs.Meaning.{IsFilled};
 ghost use Rattle.gob_go_writer.specs.Calls.Writer.{HasPut, limits_of, types_of};
 ghost use Rattle.gob_join.specs.Renaming.{IsRenaming};
-ghost use Rattle.gob_convert.specs.Machine.Converting.{AreValues, IsPutStop, Knows, LeavesRows, PutAnswers};
+ghost use Rattle.gob_convert.specs.Machine.Converting.{AreValues, IsNumbered, IsPutStop, Knows, LeavesRows, PutAnswers};
 ghost use Rattle.gob_convert.specs.Machine.Converting.{StopsAt, ids_of};
 
+use crate::clashing::unmatched;
 use crate::fault::ConvertFault;
 use crate::wanted::Target;
 use gob_filled_match::{LastLoss, LastMatch, left_out_of, receive_filled};
@@ -96,6 +97,8 @@ impl Conversion {
             → PutAnswers target.now.all self.old self.new items bytes text.old.items text.new.items (types table.now)
             (types target.now.table) given.id target.now.id w result }
         ensures fault { IfErr result IsPutStop }
+        ensures met { self.new.met ≡ min (self.old.met + 1) (2 ^ 64 - 1) }
+        ensures number { IfErr result (IsNumbered self.new.met) }
         ensures kept { OnErr result (self.new.left_out ≡ self.old.left_out) }
         ensures limits { limits_of self.new.writer ≡ limits_of self.old.writer }
     {
@@ -104,7 +107,10 @@ impl Conversion {
         let left = left_of_given(alloc, self.met, &given, table, target, last)?;
         let GivenValue { id, value } = given;
         let last = &mut self.last;
-        let received = receive_filled(alloc, table, id, value, target.wanted(), last)?;
+        let received = match receive_filled(alloc, table, id, value, target.wanted(), last) {
+            Ok(received) => received,
+            Err(fault) => return Err(unmatched(fault, self.met, table, id, target)),
+        };
         let known = &mut self.known;
         let writer = &mut self.writer;
         take_held(alloc, target.id, received, table, known, writer, text)?;
@@ -132,9 +138,13 @@ fn left_of_given(
         → IfErr result (StopsAt target.now.all (types table.now) (types target.now.table) given.now.id target.now.id
         w) }
     ensures stop { IfErr result IsPutStop }
+    ensures number { IfErr result (IsNumbered number) }
 {
     let GivenValue { id, value } = given;
-    let left = left_out_of(alloc, table, *id, value, target.wanted(), last)?;
+    let left = match left_out_of(alloc, table, *id, value, target.wanted(), last) {
+        Ok(left) => left,
+        Err(fault) => return Err(unmatched(fault, number, table, *id, target)),
+    };
     if !target.all {
         return Ok(left);
     }

@@ -1,8 +1,8 @@
 //! What stops a conversion.
 
+use crate::clash::Clash;
 use gob_go_writer::PutFault;
 use gob_join::TakeFault;
-use gob_match::MatchFault;
 use gob_num::Memory;
 use gob_rename::{Misfit, RenameFault};
 use gob_stream::{Fault, WriteFault};
@@ -23,6 +23,8 @@ pub enum ConvertFault {
     /// The stream that is written takes no more: with the next item it would be refused, for the reason, as where it
     /// has as many types as a stream may have.
     Full(Reason),
+    /// The type of a value doesn't match the wanted type.
+    Clash(Clash),
     /// What stops any run that receives values.
     Run(ToolFault),
 }
@@ -46,18 +48,6 @@ impl From<Fault> for ConvertFault {
     ghost from_gives = { λ fault given. given ≡ stop.Run (reading_fault fault) };
 
     fn from(fault: Fault) -> ConvertFault {
-        ConvertFault::Run(ToolFault::from(fault))
-    }
-}
-
-impl From<MatchFault> for ConvertFault {
-    ghost use Rattle.std.specs.Prelude.{◌≡◌};
-    ghost use Rattle.gob_tool.specs.Fault.{matching_fault};
-    ghost use Rattle.gob_convert.specs.declared.fault.ConvertFault.TheVariants as stop;
-
-    ghost from_gives = { λ fault given. given ≡ stop.Run (matching_fault fault) };
-
-    fn from(fault: MatchFault) -> ConvertFault {
         ConvertFault::Run(ToolFault::from(fault))
     }
 }

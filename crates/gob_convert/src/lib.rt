@@ -8,10 +8,12 @@
 //! ```
 //!
 //! [`run_convert`] is the run, and [`run_take_go`] prints what it writes. [`ConvertOptions`] say which fields of the
-//! wanted type have another name in the stream, and whether no field of a value may be left out. [`WordText`] and
-//! [`MisfitText`] say what is wrong with the words of renames.
+//! wanted type have another name in the stream, and whether no field of a value may be left out. A [`Clash`] says which
+//! value doesn't match, where and why. [`WordText`] and [`MisfitText`] say what is wrong with the words of renames.
 #![tactic(auto)]
 
+mod clash;
+mod clashing;
 mod conversion;
 mod fault;
 mod options;
@@ -21,6 +23,7 @@ mod shown;
 mod take;
 mod wanted;
 
+pub use clash::{Clash, ValueKind};
 pub use fault::ConvertFault;
 pub use options::ConvertOptions;
 pub use run::run_convert;

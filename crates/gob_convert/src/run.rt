@@ -49,14 +49,14 @@ use std::io::{Read, Write};
 /// `ToolFault::NoWantedType`. The renames are judged by the types that stand in front of its first value: where one
 /// doesn't fit, the answer is [`ConvertFault::Misfits`]. The input isn't read then, and nothing is written.
 ///
-/// Ok exactly at the end of a whole stream of values that match; where a value doesn't, `ToolFault::Clash` says where
-/// and why. Where no field may be left out, Ok says that none of any value was, and the run stops before the first
-/// value that has a field which isn't wanted: `ToolFault::LeftOut` tells it and the value's number. Before a fault the
-/// definitions and the values before it are written; at `ToolFault::Write` a prefix of them may be. What these values
-/// leave out is added to `left_out`, at any answer. The run ends with a flush. What is written keeps to the limits
-/// too: where it would not, the answer is [`ConvertFault::Full`]. Memory grows with the types, the largest item and the
-/// fields that are left out. No value may be deeper than `limits.depth()` or than 1000; what an interface holds is one
-/// deeper than the interface.
+/// Ok exactly at the end of a whole stream of values that match; where a value doesn't, [`ConvertFault::Clash`] says
+/// where, why and which value. Where no field may be left out, Ok says that none of any value was, and the run stops
+/// before the first value that has a field which isn't wanted: `ToolFault::LeftOut` tells it and the value's number.
+/// Before a fault the definitions and the values before it are written; at `ToolFault::Write` a prefix of them may be.
+/// What these values leave out is added to `left_out`, at any answer. The run ends with a flush. What is written keeps
+/// to the limits too: where it would not, the answer is [`ConvertFault::Full`]. Memory grows with the types, the largest
+/// item and the fields that are left out. No value may be deeper than `limits.depth()` or than 1000; what an interface
+/// holds is one deeper than the interface.
 pub fn run_convert<Q: Read, R: Read, W: Write>(
     alloc: Global,
     options: &ConvertOptions<'_>,

@@ -18,6 +18,8 @@ pub(crate) enum Command<'a> {
     Convert(&'a [u8]),
     /// The conversion of a stream of Go's encoder, with fields that have other names there. Each fits the wanted types.
     ConvertGo(&'a [u8], &'a [Rename<'a>]),
+    /// The lines of what such a conversion writes.
+    TakeGo(&'a [u8]),
 }
 
 impl<'a> Command<'a> {
@@ -61,7 +63,22 @@ impl<'a> Command<'a> {
                     limits,
                 };
                 let mut left_out = Tally::new(alloc);
-                fitting(convert_go(alloc, &options, wanted, input, output, &mut left_out))
+                fitting(
+                    alloc,
+                    convert_go(alloc, &options, wanted, input, output, &mut left_out),
+                )
+            }
+            Command::TakeGo(wanted) => {
+                let options = ConvertOptions {
+                    renames: &[],
+                    all: false,
+                    limits,
+                };
+                let mut left_out = Tally::new(alloc);
+                fitting(
+                    alloc,
+                    take_go(alloc, &options, wanted, input, output, &mut left_out),
+                )
             }
         }
     }
@@ -94,10 +111,17 @@ pub(crate) fn take_go<R: Read, W: Write>(
 }
 
 // How a conversion ended whose renames fit, and which isn't full.
-fn fitting(ended: Result<(), ConvertFault>) -> Result<(), ToolFault> {
+fn fitting(alloc: Global, ended: Result<(), ConvertFault>) -> Result<(), ToolFault> {
     match ended {
         Ok(()) => Ok(()),
         Err(ConvertFault::Run(fault)) => Err(fault),
+        Err(ConvertFault::Clash(mut clash)) => {
+            let none = Vec::new(alloc);
+            Err(ToolFault::Clash {
+                path: std::mem::replace(&mut clash.path, none),
+                reason: clash.reason,
+            })
+        }
         Err(ConvertFault::Misfits { .. } | ConvertFault::Full(_)) => Err(ToolFault::NoWantedType),
     }
 }

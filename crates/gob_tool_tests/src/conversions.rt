@@ -29,7 +29,7 @@ gob: left out .A of 1 value: it isn't wanted
 no input | A=C | B_AND_C |  | 1b ff 81 03 01 01 01 57 01 ff 82 00 01 02 01 01 42 01 04 00 01 01 43 01 04 00 00 00
 no name is in both | X=B | B_AND_C | A_AND_B | \
 1b ff 81 03 01 01 01 57 01 ff 82 00 01 02 01 01 42 01 04 00 01 01 43 01 04 00 00 00 | \
-gob: clash 32 NoCommonField at top
+gob: clash 32 NoCommonField at top: in value 1
 no field is D | A=D | B_AND_C | A_AND_B |  | 0 NoField
 no struct is S | A=C S.A=C | B_AND_C | A_AND_B |  | 1 NoField
 B is there | B=C | B_AND_C | A_AND_B |  | 0 OldNameTaken
@@ -43,6 +43,31 @@ a value of A and C, one of A, B and C, and an empty body, where A is wanted |  |
 07 ff 82 01 02 02 04 00 09 ff 82 01 04 01 06 01 08 00 00 | \
 15 ff 81 03 01 01 01 56 01 ff 82 00 01 01 01 01 41 01 04 00 00 00 05 ff 82 01 02 00 05 ff 82 01 04 00 | \
 gob: refused 5 Short at 53 seen 53 | gob: left out .C of 2 values, .B of 1: they aren't wanted
+";
+
+// Values of which one clashes, in such rows.
+const CLASHES: &str = "
+the second value has a string |  | B_AND_C | \
+1b ff 81 03 01 01 01 53 01 ff 82 00 01 02 01 01 41 01 04 00 01 01 42 01 04 00 00 00 07 ff 82 01 02 01 04 00 \
+15 ff 83 03 01 01 01 54 01 ff 84 00 01 01 01 01 42 01 0c 00 00 00 06 ff 84 01 01 78 00 | B_ALONE | \
+gob: clash 33 DifferentKind at .B: value 2 has a string there, and an int is wanted | \
+gob: left out .A of 1 value: it isn't wanted
+an array of 2, and one of 3 is wanted |  | 0e ff 81 01 01 02 ff 82 00 01 04 01 06 00 00 07 ff 82 00 03 02 04 06 | \
+ARRAY 06 ff 82 00 02 02 04 | 0e ff 81 01 01 02 ff 82 00 01 04 01 06 00 00 | \
+gob: clash 34 DifferentLength at top: value 1 has an array of 2 there, and an array of 3 is wanted
+a map from string, and one from int is wanted |  | 0e ff 81 04 01 02 ff 82 00 01 04 01 04 00 00 04 ff 82 00 00 | \
+MAP 0a ff 82 00 02 01 61 02 01 61 04 | 0e ff 81 04 01 02 ff 82 00 01 04 01 04 00 00 | \
+gob: clash 33 DifferentKind at {}: value 1 has a string there, and an int is wanted
+a node, and A of Next B, B of V uint, Next A are wanted |  | \
+19 ff 81 03 01 01 01 41 01 ff 82 00 01 01 01 04 4e 65 78 74 01 ff 84 00 00 00 \
+1f ff 83 03 01 01 01 42 01 ff 84 00 01 02 01 01 56 01 06 00 01 04 4e 65 78 74 01 ff 82 00 00 00 \
+03 ff 82 00 | NODE 09 ff 82 01 02 01 01 04 00 00 | \
+19 ff 81 03 01 01 01 41 01 ff 82 00 01 01 01 04 4e 65 78 74 01 ff 84 00 00 00 \
+1f ff 83 03 01 01 01 42 01 ff 84 00 01 02 01 01 56 01 06 00 01 04 4e 65 78 74 01 ff 82 00 00 00 | \
+gob: clash 33 DifferentKind at .Next.V: value 1 has an int there, and a uint is wanted
+a name twice in both |  | X_TWICE | X_TWICE | \
+1b ff 81 03 01 01 01 57 01 ff 82 00 01 02 01 01 58 01 04 00 01 01 58 01 04 00 00 00 | \
+gob: clash 31 RepeatedName at top: in value 1
 ";
 
 // Values of which no field may be left out, in such rows.
@@ -141,6 +166,7 @@ fn ends_so(alloc: Global, ended: Result<(), ConvertFault>, due: &str) -> Result<
     let ending = match ended {
         Ok(()) => return Ok(due.is_empty()),
         Err(ConvertFault::Run(fault)) => fault.to_string(alloc)?,
+        Err(ConvertFault::Clash(clash)) => format!(in alloc; "gob: {clash}")?,
         Err(ConvertFault::Misfits { number, misfit }) => format!(in alloc; "{number} {misfit:?}")?,
         Err(ConvertFault::Full(reason)) => format!(in alloc; "full {reason:?}")?,
     };
@@ -229,7 +255,7 @@ fn is_right(alloc: Global, row: &str) -> Result<bool, Memory> {
 
 #[test]
 fn values_are_converted_with_what_they_hold(rt: HostRuntime) {
-    for rows in [NAMED, WHOLE, HELD] {
+    for rows in [NAMED, CLASHES, WHOLE, HELD] {
         for row in rows.trim().lines() {
             assert!(rt; is_right(rt.alloc(), row) == Ok(true), "{row}");
         }

@@ -4,7 +4,7 @@ use crate::commands::{Command, ends_so, is_run};
 use crate::devices::{PieceReader, SlowWriter, Trouble};
 use crate::streams::THREE;
 use crate::takes::{A_AND_B, B_AND_C, X_TWICE};
-use crate::trials::{HELD, Trial, trials};
+use crate::trials::{HELD, TAKEN, Trial, trials};
 use gob_stream::{Input, Limits, Output};
 use gob_tool::{run_show, run_take};
 use std::alloc::Global;
@@ -103,14 +103,18 @@ fn writers_fail_once(rt: HostRuntime) {
 
 #[test]
 fn a_reader_of_held_values_fails_once(rt: HostRuntime) {
-    let wrong = wrong_read(rt.alloc(), &HELD, ErrorKind::Other);
-    assert!(rt; wrong.is_none(), "fails at {wrong:?}");
+    for trial in &[HELD, TAKEN] {
+        let wrong = wrong_read(rt.alloc(), trial, ErrorKind::Other);
+        assert!(rt; wrong.is_none(), "{}, fails at {wrong:?}", trial.what);
+    }
 }
 
 #[test]
 fn a_writer_of_held_values_fails_once(rt: HostRuntime) {
-    let wrong = wrong_write(rt.alloc(), &HELD, Trouble::TakesNothing);
-    assert!(rt; wrong.is_none(), "fails at {wrong:?}");
+    for trial in &[HELD, TAKEN] {
+        let wrong = wrong_write(rt.alloc(), trial, Trouble::TakesNothing);
+        assert!(rt; wrong.is_none(), "{}, fails at {wrong:?}", trial.what);
+    }
 }
 
 // Whether a reader of the wanted stream that fails in this call ends the run, and nothing is written.

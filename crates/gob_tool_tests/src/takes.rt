@@ -52,6 +52,15 @@ pub(crate) const I_AND_A_RECEIVED: &[u8] = b"\
     \x0e\xff\x82\x01\x01P\xff\x84\x03\x01\x06\x00\x01\x02\x00\
     \x0e\xff\x82\x01\x01P\xff\x84\x03\x01\x08\x00\x01\x04\x00";
 
+/// The lines of these items.
+pub(crate) const I_AND_A_LINES: &[u8] = b"\
+    {\"define\":65,\"fields\":[[\"I\",8],[\"A\",2]],\"kind\":\"struct\",\"name\":\"W\"}\n\
+    {\"define\":66,\"fields\":[[\"X\",2]],\"kind\":\"struct\",\"name\":\"P\"}\n\
+    {\"type\":65,\"value\":[[0,\"I\",\
+    {\"interface\":{\"name\":\"P\",\"type\":66,\"value\":[[0,\"X\",3]]}}],[1,\"A\",1]]}\n\
+    {\"type\":65,\"value\":[[0,\"I\",\
+    {\"interface\":{\"name\":\"P\",\"type\":66,\"value\":[[0,\"X\",4]]}}],[1,\"A\",2]]}\n";
+
 /// A struct of two ints, both X, and its empty value.
 pub(crate) const X_TWICE: &[u8] = b"\
     \x1b\xff\x81\x03\x01\x01\x01W\x01\xff\x82\x00\x01\x02\x01\x01X\x01\x04\x00\x01\x01X\x01\x04\x00\x00\x00\

@@ -3,7 +3,8 @@
 use crate::commands::Command;
 use crate::streams::{THREE, THREE_LINES};
 use crate::takes::{
-    A_AND_B, A_AND_I, B_ALONE, B_AND_A_AS_C, B_AND_C, B_LINE, I_AND_A, I_AND_A_RECEIVED,
+    A_AND_B, A_AND_I, B_ALONE, B_AND_A_AS_C, B_AND_C, B_LINE, I_AND_A, I_AND_A_LINES,
+    I_AND_A_RECEIVED,
 };
 use gob_rename::Rename;
 
@@ -104,6 +105,15 @@ pub(crate) const HELD: Trial = Trial {
     stream: A_AND_I,
     written: I_AND_A_RECEIVED,
     ends: &[(0, 28), (65, 65), (80, 80)],
+};
+
+/// The lines of what it writes.
+pub(crate) const TAKEN: Trial = Trial {
+    what: "structs in an interface: the lines of each item that is written go out whole",
+    command: Command::TakeGo(I_AND_A),
+    stream: A_AND_I,
+    written: I_AND_A_LINES,
+    ends: &[(0, 68), (65, 225), (80, 322)],
 };
 
 // The field C has the name A in the stream.

@@ -8,7 +8,6 @@ use Rattle.gob_value.specs.Top.{SpellsTop}
 use Rattle.gob_value.specs.Tree.{Tree}
 use Rattle.gob_left_out.specs.LeftOut.{AreLeftOut, Row}
 use Rattle.gob_left_out.specs.Tally.{TallyRow}
-use Rattle.gob_match.specs.Clashing.{IsLeastClash}
 use Rattle.gob_match.specs.Pairs.{of_types}
 use Rattle.gob_stream.specs.Bounds.{within_trees}
 use Rattle.gob_stream.specs.Stepping.{StandsBy}
@@ -27,6 +26,7 @@ use Rattle.gob_go_writer.specs.Calls.Writer as writer
 use Rattle.gob_join.specs.Renaming.{Extends, IsRenaming, NewId, among, values_of}
 use Rattle.gob_join.specs.Taking.{WritesOn}
 use Rattle.gob_tool.specs.declared.fault.ToolFault.TheVariants as fault
+use Rattle.gob_convert.specs.Clashing.{TellsClash}
 use Rattle.gob_convert.specs.Converting.{AreConverted, IsConverted, IsWholeIf, skeleton_of}
 use Rattle.gob_convert.specs.Running.{ConvertsBehind, LeavesField, Tallies}
 use Rattle.gob_convert.specs.declared.conversion.Conversion.{Conversion}
@@ -127,7 +127,7 @@ pub record PutsReceived (all : Bool) (c c' : Conversion) (items : List FilledIte
 abbrev pub StopsAt : (all : Bool) → (T W : Table) → (t u : TypeId) → spelled.Filled → ConvertFault → Type 0
 StopsAt all T W t u w (stop.Misfits number why) = ⊥
 StopsAt all T W t u w (stop.Full why) = Unit {0}
-StopsAt all T W t u w (stop.Run (fault.Clash path why)) = IsLeastClash T W t u path.items why
+StopsAt all T W t u w (stop.Clash c) = TellsClash T W t u c
 StopsAt all T W t u w (stop.Run (fault.LeftOut path number)) = (all ≡ true) × LeavesField W u path.items T t w
 StopsAt all T W t u w (stop.Run fault.Memory) = Unit {0}
 StopsAt all T W t u w (stop.Run f) = ⊥
@@ -146,10 +146,16 @@ pub record KnowsSome (r : GoReader) (c : Conversion) (W : Table) (u : TypeId) : 
 -- what stops a value from being put
 abbrev pub IsPutStop : ConvertFault → Type 0
 IsPutStop (stop.Full why) = Unit {0}
-IsPutStop (stop.Run (fault.Clash path why)) = Unit {0}
+IsPutStop (stop.Clash c) = Unit {0}
 IsPutStop (stop.Run (fault.LeftOut path number)) = Unit {0}
 IsPutStop (stop.Run fault.Memory) = Unit {0}
 IsPutStop _ = ⊥
+
+-- where it tells a value's number that is this one
+abbrev pub IsNumbered : (number : ℕ) → ConvertFault → Type 0
+IsNumbered number (stop.Clash c) = c.value ≡ number
+IsNumbered number (stop.Run (fault.LeftOut path value)) = value ≡ number
+IsNumbered number _ = Unit {0}
 
 -- what a step gave is converted, whichever items were put before
 abbrev pub ConvertsItem : (all : Bool) → Option GoItem → (c c' : Conversion) → (old new : List ℕ) → (T W : Table)

@@ -62,6 +62,7 @@ pub record FrontOn (r r' : GoReader) (read now : Option (List ℕ)) (first : Opt
 abbrev pub FindsNone : Bounds → (bytes : List ℕ) → (now : Option (List ℕ)) → ConvertFault → Type 0
 FindsNone L bytes now (stop.Run f) = LacksWanted L bytes now f
 FindsNone L bytes now (stop.Full why) = Unit {0}
+FindsNone L bytes now (stop.Clash c) = ⊥
 FindsNone L bytes now (stop.Misfits number why) = ⊥
 
 abbrev pub FrontNext : (r r' : GoReader) → (read now : Option (List ℕ)) → Front → Result (Option TypeId) ConvertFault
@@ -109,6 +110,7 @@ abbrev pub FindsTarget : List Rename → Bounds → (bytes : List ℕ) → (now 
 FindsTarget rs L bytes now f (Ok t) = HasWanted L bytes now (λ given F u. IsFound rs f t given F u)
 FindsTarget rs L bytes now f (Err (stop.Run e)) = LacksWanted L bytes now e
 FindsTarget rs L bytes now f (Err (stop.Full why)) = Unit {0}
+FindsTarget rs L bytes now f (Err (stop.Clash c)) = ⊥
 FindsTarget rs L bytes now f (Err (stop.Misfits number why)) =
     HasWanted L bytes now (λ given F u. Misfits rs F number why)
 

@@ -16,25 +16,28 @@ left_out_of-requires-clause-wanted_ready c =
 pub returns-in-None-clause-left : goal.returns-in-None-clause-left
 returns-in-None-clause-left c = λ w m. leaves_nothing w c.args.target.now.all
     (subst (λ t. AreLeftOut (types c.args.table.now) (types t) (of_types c.args.given.now.id c.args.target.now.id)
-    (skeleton_of w) c.in_ok-left.left) c.wanted.ensures.table
+    (skeleton_of w) c.in-Ok.left) c.wanted.ensures.table
     (subst (λ i. AreLeftOut (types c.args.table.now) (types c.wanted.result.table.now)
-    (of_types c.args.given.now.id i) (skeleton_of w) c.in_ok-left.left) c.wanted.ensures.id
-    (left_of c.in_ok-left.ensures.left w m))) (c.in-None.ensures.none refl) c.new.ensures
+    (of_types c.args.given.now.id i) (skeleton_of w) c.in-Ok.left) c.wanted.ensures.id
+    (left_of c.in-Ok.ensures.left w m))) (c.in-None.ensures.none refl) c.new.ensures
 
 pub returns-then-not-target-clause-left : goal.returns-then-not-target-clause-left
 returns-then-not-target-clause-left c = λ w m. leaves_some w c.args.target.now.all c.if-not-target.true
     (subst (λ t. AreLeftOut (types c.args.table.now) (types t) (of_types c.args.given.now.id c.args.target.now.id)
-    (skeleton_of w) c.in_ok-left.left) c.wanted.ensures.table
+    (skeleton_of w) c.in-Ok.left) c.wanted.ensures.table
     (subst (λ i. AreLeftOut (types c.args.table.now) (types c.wanted.result.table.now)
-    (of_types c.args.given.now.id i) (skeleton_of w) c.in_ok-left.left) c.wanted.ensures.id
-    (left_of c.in_ok-left.ensures.left w m)))
+    (of_types c.args.given.now.id i) (skeleton_of w) c.in-Ok.left) c.wanted.ensures.id
+    (left_of c.in-Ok.ensures.left w m)))
 
 pub returns-in-Some-clause-fault : goal.returns-in-Some-clause-fault
 returns-in-Some-clause-fault c = λ w m. (
   c.if-not-target.false,
   leaves_field (subst (λ t. AreLeftOut (types c.args.table.now) (types t)
-      (of_types c.args.given.now.id c.args.target.now.id) (skeleton_of w) c.in_ok-left.left) c.wanted.ensures.table
+      (of_types c.args.given.now.id c.args.target.now.id) (skeleton_of w) c.in-Ok.left) c.wanted.ensures.table
       (subst (λ i. AreLeftOut (types c.args.table.now) (types c.wanted.result.table.now)
-      (of_types c.args.given.now.id i) (skeleton_of w) c.in_ok-left.left) c.wanted.ensures.id
-      (left_of c.in_ok-left.ensures.left w m))) c.in-Some.ensures.first,
+      (of_types c.args.given.now.id i) (skeleton_of w) c.in-Ok.left) c.wanted.ensures.id
+      (left_of c.in-Ok.ensures.left w m))) c.in-Some.ensures.first,
 )
+
+pub returns-in-Err-clause-fault : goal.returns-in-Err-clause-fault
+returns-in-Err-clause-fault c = λ w m. c.unmatched.ensures.stops c.args.target.now.all w
